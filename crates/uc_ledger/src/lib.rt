@@ -1,0 +1,8 @@
+//! The ledger of pairs: for each pair, by its number, the one state that it is in.
+#![tactic(auto)]
+
+mod ledger;
+#[cfg(test)]
+mod tests;
+
+pub use ledger::{Ledger, NotThere, State};
