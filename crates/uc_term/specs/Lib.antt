@@ -1,0 +1,13 @@
+pub mod Tree
+pub mod Flat
+pub mod Code
+pub mod Path
+pub mod Subst
+pub mod Over
+pub mod Variables
+pub mod Within
+pub mod Equations
+pub mod Conversion
+pub mod Table
+pub mod Faults
+pub mod Keys

@@ -1,0 +1,16 @@
+-- Substitutions as lists of pairs of a variable and its term. The first pair of a variable counts.
+use Rattle.std.specs.Prelude.{ℕ, ◌==◌, List, [], ◌∷◌, Option, Some, None, unwrap_or, if◌then◌else◌}
+use Rattle.std.specs.Coded.{Coded, coded_list, coded_ℕ, coded×}
+use Rattle.uc_term.specs.Tree.{Tree, var}
+use Rattle.uc_term.specs.Code.{tree_code}
+
+abbrev pub pairs_code : Coded (List (ℕ × Tree))
+pairs_code = coded_list (coded× coded_ℕ tree_code)
+
+abbrev pub found : List (ℕ × Tree) → ℕ → Option Tree
+found [] x = None
+found (p ∷ ps) x = if p.0 == x then Some p.1 else found ps x
+
+-- the term of each variable; a variable without a pair stands for itself
+abbrev pub image : List (ℕ × Tree) → ℕ → Tree
+image ps x = unwrap_or (found ps x) (var x)

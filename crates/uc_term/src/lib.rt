@@ -1,0 +1,24 @@
+//! First-order terms as flat prefix lists that contracts see as trees, with substitutions, symbols and texts.
+//!
+//! `specs/` holds the definitions that all other crates cite: trees and instances, terms over a signature, a relation
+//! used at one place of a term, one replacement of equals, conversion, and what follows from equations (Baader and
+//! Nipkow, Term Rewriting and All That, chapters 3 and 4).
+#![tactic(auto)]
+
+mod equation;
+mod fault;
+mod node;
+mod seq;
+mod subst;
+mod symbols;
+mod term;
+mod text;
+
+pub use equation::{Equation, Side};
+pub use fault::TermFault;
+pub use node::{Node, Pos, Sym};
+pub use seq::Seq;
+pub use subst::{Subst, instance};
+pub use symbols::Symbols;
+pub use term::{MAX_INSTANCE, MAX_NODES, Term, end_of, same_nodes};
+pub use text::Text;
