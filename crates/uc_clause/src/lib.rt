@@ -1,0 +1,11 @@
+//! The CNF part of the TPTP language for unit equality: its tokens, its items, and printing (Sutcliffe, The TPTP Problem
+//! Library and Associated Infrastructure).
+#![tactic(auto)]
+
+mod clause;
+mod fault;
+mod token;
+
+pub use clause::{Clause, Include, Item, Name, Role, Sourced};
+pub use fault::{ClauseFault, TokenFault, What};
+pub use token::{Kind, Place, Token};
