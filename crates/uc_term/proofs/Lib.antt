@@ -6,3 +6,8 @@ pub mod Paths
 pub mod Put
 pub mod Instances
 pub mod Tables
+pub mod Agree
+pub mod Moves
+pub mod Places
+pub mod Positions
+pub mod Conversion
