@@ -11,3 +11,5 @@ pub mod Moves
 pub mod Places
 pub mod Positions
 pub mod Conversion
+pub mod Gets
+pub mod Encoding

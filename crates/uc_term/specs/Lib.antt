@@ -11,3 +11,4 @@ pub mod Conversion
 pub mod Table
 pub mod Faults
 pub mod Keys
+pub mod Encoding

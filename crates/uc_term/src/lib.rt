@@ -7,6 +7,8 @@
 
 mod equation;
 mod fault;
+mod fresh;
+mod laws;
 mod node;
 mod seq;
 mod subst;
@@ -16,6 +18,8 @@ mod text;
 
 pub use equation::{Equation, Side};
 pub use fault::TermFault;
+pub use fresh::Fresh;
+pub use laws::{encoding_adds_nothing, encoding_decides_goals};
 pub use node::{Node, Pos, Sym};
 pub use seq::Seq;
 pub use subst::{Subst, instance};
