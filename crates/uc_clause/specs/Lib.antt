@@ -1,1 +1,4 @@
+pub mod Bytes
+pub mod Tokens
+pub mod Names
 pub mod Faults
