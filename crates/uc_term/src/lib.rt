@@ -15,6 +15,7 @@ mod subst;
 mod symbols;
 mod term;
 mod text;
+mod var_order;
 
 pub use equation::{Equation, Side};
 pub use fault::TermFault;
@@ -26,3 +27,4 @@ pub use subst::{Subst, instance};
 pub use symbols::Symbols;
 pub use term::{MAX_INSTANCE, MAX_NODES, Term, end_of, same_nodes};
 pub use text::Text;
+pub use var_order::VarOrder;
