@@ -1,5 +1,5 @@
 -- What a token stands for, and how a name is spelled.
-use Rattle.std.specs.Prelude.{◌≡◌, ◌⊎◌, ℕ, ◌<◌, ◌==◌, ◌&&◌, ◌||◌, Bool, true, false, List, [], ◌∷◌, ◌++◌, length, if◌then◌else◌}
+use Rattle.std.specs.Prelude.{◌≡◌, ◌⊎◌, ℕ, ◌<◌, ◌==◌, ◌&&◌, ◌||◌, Bool, true, false, List, [], ◌∷◌, ◌++◌, length, if◌then◌else◌, MatchBool}
 use Rattle.std.specs.List.{list_all}
 use Rattle.uc_clause.specs.declared.token.Kind.{Kind}
 use Rattle.uc_clause.specs.declared.token.Kind.TheVariants.{Lower, Upper, Quoted, Distinct, Integer, Dollar, Unequal, Mark}
@@ -45,8 +45,7 @@ kind_of_word word = if is_name word then Lower else Quoted
 
 -- a name that a token can spell
 abbrev pub IsSpellableName : Name → Type 0
-IsSpellableName (record { text = text; integer = true }) = spells Integer text ≡ true
-IsSpellableName (record { text = text; integer = false }) = IsSpellable text
+IsSpellableName name = MatchBool name.integer (spells Integer name.text ≡ true) (IsSpellable name.text)
 
 -- a name as it is printed: an integer as it was written, any other as a word
 abbrev pub name_spelling : Name → List ℕ
