@@ -31,3 +31,19 @@ at t (i ∷ p) = option_and_then (λ u. at u p) (argument t i)
 abbrev pub put_at : Tree → List ℕ → Tree → Tree
 put_at t [] u = u
 put_at t (i ∷ p) u = change_argument (λ a. put_at a p u) t i
+
+-- Written positions: paths whose numbers count the arguments from 1.
+abbrev pub written_argument : Tree → ℕ → Option Tree
+written_argument t zero = None
+written_argument t (suc i) = argument t i
+
+-- the subterm at a written position
+abbrev pub at_position : Tree → List ℕ → Option Tree
+at_position t [] = Some t
+at_position t (i ∷ p) = option_and_then (λ u. at_position u p) (written_argument t i)
+
+-- the term with its subterm at a written position replaced
+abbrev pub put_position : Tree → List ℕ → Tree → Tree
+put_position t [] u = u
+put_position t (zero ∷ p) u = t
+put_position t (suc i ∷ p) u = change_argument (λ a. put_position a p u) t i

@@ -1,5 +1,5 @@
 -- The variables of a term.
-use Rattle.std.specs.Prelude.{ℕ, ◌+◌, Bool, false, ◌||◌, ◌==◌, List, [], ◌∷◌, ◌++◌, if◌then◌else◌}
+use Rattle.std.specs.Prelude.{ℕ, ◌+◌, Bool, true, false, ◌||◌, ◌==◌, List, [], ◌∷◌, ◌++◌, if◌then◌else◌}
 use Rattle.uc_term.specs.declared.node.Sym.{Sym}
 use Rattle.uc_term.specs.Tree.{Tree, var, app, Trees, none, more, apply}
 
@@ -54,3 +54,13 @@ renumbered_by xs t = apply (λ x. var (place_of xs x)) t
 -- the term with its variables numbered from 0 by first occurrence
 abbrev pub renumbered : Tree → Tree
 renumbered t = renumbered_by (firsts (variables t)) t
+
+-- some variable occurs in the term; a term is ground where none does
+abbrev mutual
+  pub has_variable : Tree → Bool
+  has_variable (var x) = true
+  has_variable (app f ts) = any_has_variable ts
+
+  pub any_has_variable : Trees → Bool
+  any_has_variable none = false
+  any_has_variable (more t ts) = has_variable t || any_has_variable ts

@@ -1,0 +1,5 @@
+pub mod Clauses
+pub mod Variants
+pub mod Replacements
+pub mod Lines
+pub mod Checks

@@ -1,0 +1,116 @@
+-- When a line of a proof is right, and else which of its tests is the first that fails.
+use Rattle.std.specs.Prelude.{ℕ, ◌≡◌, ◌<◌, ◌⊎◌, Bool, true, false, ◌||◌, List, [], ◌∷◌, map, slice_get, Option, Some, None, Ok, Err}
+use Rattle.uc_term.specs.declared.fresh.Fresh.{Fresh}
+use Rattle.uc_term.specs.Tree.{Tree, var}
+use Rattle.uc_term.specs.Variables.{firsts, has_variable}
+use Rattle.uc_term.specs.Encoding.{yes_term, no_term, pair_term}
+use Rattle.uc_clause.specs.declared.clause.Name.{Name}
+use Rattle.uc_clause.specs.declared.clause.Sourced.{Sourced}
+use Rattle.uc_check.specs.declared.proof.Line.{Line}
+use Rattle.uc_check.specs.declared.proof.LineStep.{LineStep}
+use Rattle.uc_check.specs.declared.proof.LineSource.{LineSource}
+use Rattle.uc_check.specs.declared.proof.LineSource.TheVariants.{File, Chain, Reflexive, EncodeGoal, Refute}
+use Rattle.uc_check.specs.declared.check.Cause.{Cause}
+use Rattle.uc_check.specs.declared.check.Cause.TheVariants.{NotAProblemClause, NotEarlier, EndsDiffer, WrongParents, NoGoal}
+use Rattle.uc_check.specs.Variants.{AreVariants}
+use Rattle.uc_check.specs.Replacements.{Leads}
+
+-- some clause of the problem has this name, this polarity and this equation, sides in order, up to a renaming
+pub record IsClause (clauses : List Sourced) (name : Name) (positive : Bool) (l r : Tree) : Type 0 where
+  pub number : ℕ
+  pub sourced : Sourced
+  pub sourced_is : slice_get clauses number ≡ Some sourced
+  pub name_is : sourced.clause.name ≡ name
+  pub polarity : sourced.clause.positive ≡ positive
+  pub variants : AreVariants sourced.clause.left sourced.clause.right l r
+
+abbrev pub IsFile : LineSource → Type 0
+IsFile (File name) = Unit {0}
+IsFile _ = ⊥
+
+abbrev pub IsChain : LineSource → Type 0
+IsChain (Chain start steps parents) = Unit {0}
+IsChain _ = ⊥
+
+-- each of the lines is earlier than line k
+abbrev pub AreEarlier : ℕ → List ℕ → Type 0
+AreEarlier k [] = Unit {0}
+AreEarlier k (p ∷ ps) = (p < k) × AreEarlier k ps
+
+-- the lines that the steps name, each once, by first use
+abbrev pub named_by : List LineStep → List ℕ
+named_by steps = firsts (map (λ step. step.by) steps)
+
+-- the line has no parent and reads eq(X,X) = true
+pub record ReadsReflexive (fresh : Option Fresh) (parents : List ℕ) (line : Line) : Type 0 where
+  pub marks : Fresh
+  pub marks_are : fresh ≡ Some marks
+  pub parents_are : parents ≡ []
+  pub positive : line.positive ≡ true
+  pub left_is : line.left ≡ pair_term marks (var 0) (var 0)
+  pub right_is : line.right ≡ yes_term marks
+
+-- the line has one parent, a file line that denies s = t and has a variable, and reads eq(s,t) = false up to a renaming
+pub record ReadsGoal (fresh : Option Fresh) (lines : List Line) (parents : List ℕ) (line : Line) : Type 0 where
+  pub marks : Fresh
+  pub marks_are : fresh ≡ Some marks
+  pub parent : ℕ
+  pub parents_are : parents ≡ parent ∷ []
+  pub goal : Line
+  pub goal_is : slice_get lines parent ≡ Some goal
+  pub from_file : IsFile goal.source
+  pub denied : goal.positive ≡ false
+  pub open_goal : (has_variable goal.left || has_variable goal.right) ≡ true
+  pub positive : line.positive ≡ true
+  pub variants : AreVariants (pair_term marks goal.left goal.right) (no_term marks) line.left line.right
+
+-- two parents, a file line that denies s = t and a chain line of s = t with the same sides, both ground
+pub record RefutesGround (lines : List Line) (parents : List ℕ) : Type 0 where
+  pub first : ℕ
+  pub second : ℕ
+  pub parents_are : parents ≡ first ∷ second ∷ []
+  pub goal : Line
+  pub goal_is : slice_get lines first ≡ Some goal
+  pub from_file : IsFile goal.source
+  pub denied : goal.positive ≡ false
+  pub chain : Line
+  pub chain_is : slice_get lines second ≡ Some chain
+  pub from_chain : IsChain chain.source
+  pub shown : chain.positive ≡ true
+  pub left_same : chain.left ≡ goal.left
+  pub right_same : chain.right ≡ goal.right
+  pub left_ground : has_variable goal.left ≡ false
+  pub right_ground : has_variable goal.right ≡ false
+
+-- one parent, a chain line of true = false
+pub record RefutesEncoded (fresh : Option Fresh) (lines : List Line) (parents : List ℕ) : Type 0 where
+  pub marks : Fresh
+  pub marks_are : fresh ≡ Some marks
+  pub parent : ℕ
+  pub parents_are : parents ≡ parent ∷ []
+  pub chain : Line
+  pub chain_is : slice_get lines parent ≡ Some chain
+  pub from_chain : IsChain chain.source
+  pub shown : chain.positive ≡ true
+  pub left_is : chain.left ≡ yes_term marks
+  pub right_is : chain.right ≡ no_term marks
+
+-- The outcome of the tests of line k, in their order: None where all are passed, and else the cause of the first that fails.
+module _ (clauses : List Sourced) (fresh : Option Fresh) (lines : List Line) (k : ℕ) (line : Line) where
+  pub data Tested : LineSource → Option Cause → Type 0 where
+    file_right : {name : Name} → IsClause clauses name line.positive line.left line.right → Tested (File name) None
+    file_wrong : {name : Name} → (IsClause clauses name line.positive line.left line.right → ⊥) → Tested (File name) (Some NotAProblemClause)
+    chain_right : {start end : Tree} {steps : List LineStep} {parents : List ℕ} → start ≡ line.left → Leads lines k start steps (Ok end) → end ≡ line.right → parents ≡ named_by steps → Tested (Chain start steps parents) None
+    chain_start : {start : Tree} {steps : List LineStep} {parents : List ℕ} → (start ≡ line.left → ⊥) → Tested (Chain start steps parents) (Some EndsDiffer)
+    chain_step : {start : Tree} {steps : List LineStep} {parents : List ℕ} {cause : Cause} → start ≡ line.left → Leads lines k start steps (Err cause) → Tested (Chain start steps parents) (Some cause)
+    chain_end : {start end : Tree} {steps : List LineStep} {parents : List ℕ} → start ≡ line.left → Leads lines k start steps (Ok end) → (end ≡ line.right → ⊥) → Tested (Chain start steps parents) (Some EndsDiffer)
+    chain_parents : {start end : Tree} {steps : List LineStep} {parents : List ℕ} → start ≡ line.left → Leads lines k start steps (Ok end) → end ≡ line.right → (parents ≡ named_by steps → ⊥) → Tested (Chain start steps parents) (Some WrongParents)
+    reflexive_right : {parents : List ℕ} → AreEarlier k parents → ReadsReflexive fresh parents line → Tested (Reflexive parents) None
+    reflexive_early : {parents : List ℕ} → (AreEarlier k parents → ⊥) → Tested (Reflexive parents) (Some NotEarlier)
+    reflexive_wrong : {parents : List ℕ} → AreEarlier k parents → (ReadsReflexive fresh parents line → ⊥) → Tested (Reflexive parents) (Some NotAProblemClause)
+    goal_right : {parents : List ℕ} → AreEarlier k parents → ReadsGoal fresh lines parents line → Tested (EncodeGoal parents) None
+    goal_early : {parents : List ℕ} → (AreEarlier k parents → ⊥) → Tested (EncodeGoal parents) (Some NotEarlier)
+    goal_wrong : {parents : List ℕ} → AreEarlier k parents → (ReadsGoal fresh lines parents line → ⊥) → Tested (EncodeGoal parents) (Some NotAProblemClause)
+    refute_right : {parents : List ℕ} → AreEarlier k parents → RefutesGround lines parents ⊎ RefutesEncoded fresh lines parents → Tested (Refute parents) None
+    refute_early : {parents : List ℕ} → (AreEarlier k parents → ⊥) → Tested (Refute parents) (Some NotEarlier)
+    refute_wrong : {parents : List ℕ} → AreEarlier k parents → (RefutesGround lines parents → ⊥) → (RefutesEncoded fresh lines parents → ⊥) → Tested (Refute parents) (Some NoGoal)

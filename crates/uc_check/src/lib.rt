@@ -1,0 +1,11 @@
+//! The proof checker: whether each line of a proof is right for the clauses of a problem, and the last one refutes it.
+//!
+//! A chain line replaces equals by equals, each step by an earlier line, the named way and at the named position (Birkhoff's
+//! replacement of equals; Baader and Nipkow, Term Rewriting and All That, chapter 3).
+#![tactic(auto)]
+
+mod check;
+mod proof;
+
+pub use check::{Cause, Checked};
+pub use proof::{Line, LineSource, LineStep, Proof};
