@@ -1,0 +1,4 @@
+pub mod Members
+pub mod VarOrders
+pub mod Laws
+pub mod Precedence

@@ -1,0 +1,12 @@
+//! Orders on terms with their laws, and total preorders of variables.
+//!
+//! The trait `Order` says what the Knuth-Bendix and the lexicographic path order have in common: `compare`, the same
+//! under an order of variables, and the least constant (Baader and Nipkow, Term Rewriting and All That, chapter 5).
+#![tactic(auto)]
+
+mod order;
+mod spec;
+
+pub use order::{Cmp, Order};
+pub use spec::{OrderFault, OrderSpec};
+pub use uc_term::VarOrder;
