@@ -2,3 +2,4 @@ pub mod Members
 pub mod VarOrders
 pub mod Laws
 pub mod Precedence
+pub mod Places
