@@ -22,15 +22,15 @@ abbrev pub join : Trees → Trees → Trees
 join none us = us
 join (more t ts) us = more t (join ts us)
 
-count-join : (ts us : Trees) → count (join ts us) ≡ count ts + count us
+pub count-join : (ts us : Trees) → count (join ts us) ≡ count ts + count us
 count-join none us = omega arith
 count-join (more t ts) us = omega (arith, count-join ts us)
 
-nodes_all-join : (ts us : Trees) → nodes_all (join ts us) ≡ nodes_all ts + nodes_all us
+pub nodes_all-join : (ts us : Trees) → nodes_all (join ts us) ≡ nodes_all ts + nodes_all us
 nodes_all-join none us = omega arith
 nodes_all-join (more t ts) us = omega (arith, nodes_all-join ts us)
 
-flat_all-join : (ts us : Trees) → flat_all (join ts us) ≡ flat_all ts ++ flat_all us
+pub flat_all-join : (ts us : Trees) → flat_all (join ts us) ≡ flat_all ts ++ flat_all us
 flat_all-join none us = refl
 flat_all-join (more t ts) us = rw (flat_all-join ts us) (sym (append_assoc (flat t) (flat_all ts) (flat_all us)))
 

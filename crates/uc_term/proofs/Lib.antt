@@ -13,3 +13,6 @@ pub mod Positions
 pub mod Conversion
 pub mod Gets
 pub mod Encoding
+pub mod Firsts
+pub mod Pairs
+pub mod Joins

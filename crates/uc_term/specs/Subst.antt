@@ -1,5 +1,5 @@
 -- Substitutions as lists of pairs of a variable and its term. The first pair of a variable counts.
-use Rattle.std.specs.Prelude.{ℕ, ◌==◌, List, [], ◌∷◌, Option, Some, None, unwrap_or, if◌then◌else◌}
+use Rattle.std.specs.Prelude.{ℕ, ◌==◌, ◌≡◌, List, [], ◌∷◌, map, Option, Some, None, unwrap_or, if◌then◌else◌}
 use Rattle.std.specs.Coded.{Coded, coded_list, coded_ℕ, coded×}
 use Rattle.uc_term.specs.Tree.{Tree, var}
 use Rattle.uc_term.specs.Code.{tree_code}
@@ -14,3 +14,11 @@ found (p ∷ ps) x = if p.0 == x then Some p.1 else found ps x
 -- the term of each variable; a variable without a pair stands for itself
 abbrev pub image : List (ℕ × Tree) → ℕ → Tree
 image ps x = unwrap_or (found ps x) (var x)
+
+-- the variables that have a pair, in the order of the pairs
+abbrev pub domain : List (ℕ × Tree) → List ℕ
+domain ps = map (λ p. p.0) ps
+
+-- the substitution gives each variable that has a pair the term of its pair
+abbrev pub Agrees : (ℕ → Tree) → List (ℕ × Tree) → Type 0
+Agrees σ ps = (x : ℕ) (t : Tree) → found ps x ≡ Some t → σ x ≡ t
