@@ -1,5 +1,5 @@
 -- Matches from walks, and that a match is determined by its pattern and its term.
-use Rattle.std.proofs.Common.{◌≡◌, ℕ, List, [], ◌∷◌, ◌++◌, refl, sym, ap, ◌∙◌}
+use Rattle.std.proofs.Common.{◌≡◌, ℕ, List, [], ◌++◌, sym, ap, ◌∙◌}
 use Rattle.uc_term.specs.Tree.{Tree}
 use Rattle.uc_term.specs.Flat.{tree_of}
 use Rattle.uc_term.specs.declared.node.Node.{Node}

@@ -1,10 +1,10 @@
 -- What a walk over a pattern and a term has found out when it stands before the pattern's terms ps and the term's ts.
-use Rattle.std.proofs.Common.{◌≡◌, ℕ, ◌+◌, ◌<◌, ◌≤◌, ◌-◌, List, [], ◌∷◌, ◌++◌, Some, None, Bool, true, false, get_or, take, drop, length, refl, sym, ap, ap₂, ◌∙◌, subst, arith, ◌⊎◌, inl, inr, append-nil}
+use Rattle.std.proofs.Common.{◌≡◌, ℕ, ◌+◌, ◌<◌, ◌≤◌, ◌-◌, List, [], ◌∷◌, ◌++◌, Some, None, true, false, get_or, take, drop, length, refl, sym, ap, ap₂, ◌∙◌, subst, arith, inl, inr, append-nil}
 use Rattle.uc_term.specs.declared.node.Sym.{Sym}
 use Rattle.uc_term.specs.declared.node.Node.{Node}
 use Rattle.uc_term.specs.declared.node.Node.TheVariants.{Var, App}
 use Rattle.uc_term.specs.Tree.{Tree, var, app, Trees, none, more, count, nodes, apply, apply_all}
-use Rattle.uc_term.specs.Flat.{trees_of, tree_of, IsWhole, AreWhole}
+use Rattle.uc_term.specs.Flat.{trees_of, tree_of, IsWhole}
 use Rattle.uc_term.specs.Subst.{found, domain, Agrees}
 use Rattle.uc_term.specs.Variables.{variables, variables_all, firsts_after}
 use Rattle.uc_term.proofs.Terms.{whole_one}
@@ -51,6 +51,7 @@ module _ (P T : Tree) (old : Pairs) where
       parts σ e =
           let r = join_cancel (apply_all σ us) (apply_all σ bs) cs ds (count-apply_all σ us ∙ c) (sym (apply_all-join σ us bs) ∙ e) in
           ap₂ (λ x y. more (app f x) y) r.0 r.1
+
       whole : (σ : ℕ → Tree) → apply_all σ (more (app f us) bs) ≡ more (app f cs) ds → apply_all σ (join us bs) ≡ join cs ds
       whole σ e =
           let front : apply_all σ us ≡ cs = cc in
@@ -85,6 +86,7 @@ module _ (P T : Tree) (old : Pairs) where
     where
       head : (σ : ℕ → Tree) → apply_all σ (more (var x) bs) ≡ more u ds → σ x ≡ u
       head σ e = cc
+
       tail : (σ : ℕ → Tree) → apply_all σ (more (var x) bs) ≡ more u ds → apply_all σ bs ≡ ds
       tail σ e = cc
 

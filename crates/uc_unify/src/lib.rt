@@ -5,3 +5,6 @@
 mod matching;
 
 pub use matching::{matches, matches_both};
+
+#[cfg(test)]
+mod tests;
