@@ -1,0 +1,5 @@
+pub mod Faults
+pub mod Files
+pub mod Pieces
+pub mod Holding
+pub mod Memory
