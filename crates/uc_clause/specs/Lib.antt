@@ -2,3 +2,11 @@ pub mod Bytes
 pub mod Tokens
 pub mod Names
 pub mod Faults
+pub mod Terminals
+pub mod Rules
+pub mod Parse
+pub mod Terms
+pub mod Items
+pub mod Meaning
+pub mod Refusals
+pub mod Reading

@@ -4,8 +4,12 @@
 
 mod clause;
 mod fault;
+mod grammar;
+mod terminal;
 mod token;
 
 pub use clause::{Clause, Include, Item, Name, Role, Sourced};
 pub use fault::{ClauseFault, TokenFault, What};
+pub use grammar::{Head, Stop, Why};
+pub use terminal::{Terminal, terminal_at};
 pub use token::{Kind, Place, Token};

@@ -1,0 +1,69 @@
+-- What the grammar makes of tokens: trees whose leaves are the numbers of tokens.
+use Rattle.std.specs.Prelude.{ℕ, ◌+◌, Bool, List, [], ◌∷◌, ◌++◌, Option}
+use Rattle.uc_clause.specs.declared.clause.Role.{Role}
+
+mutual
+  -- a term: a variable, or a functor with its arguments, by the numbers of their tokens
+  pub data Parse : Type 0 where
+    variable : ℕ → Parse
+    applied : ℕ → Parses → Parse
+
+  pub data Parses : Type 0 where
+    no_more : Parses
+    also : Parse → Parses → Parses
+
+-- the tokens that are the term's nodes, in prefix order
+abbrev mutual
+  pub leaves : Parse → List ℕ
+  leaves (variable k) = k ∷ []
+  leaves (applied k ps) = k ∷ leaves_all ps
+
+  pub leaves_all : Parses → List ℕ
+  leaves_all no_more = []
+  leaves_all (also p ps) = leaves p ++ leaves_all ps
+
+-- those of them that are variables
+abbrev mutual
+  pub variables : Parse → List ℕ
+  variables (variable k) = k ∷ []
+  variables (applied k ps) = variables_all ps
+
+  pub variables_all : Parses → List ℕ
+  variables_all no_more = []
+  variables_all (also p ps) = variables p ++ variables_all ps
+
+-- how many nodes
+abbrev mutual
+  pub size : Parse → ℕ
+  size (variable k) = 1
+  size (applied k ps) = size_all ps + 1
+
+  pub size_all : Parses → ℕ
+  size_all no_more = 0
+  size_all (also p ps) = size p + size_all ps
+
+pub record Sides : Type 0 where
+  pub left : Parse
+  pub right : Parse
+
+-- an equation, or its denial
+pub record Literal : Type 0 where
+  pub positive : Bool
+  pub sides : Sides
+
+-- a clause, with the token where its item begins and that of its name
+pub record Formula : Type 0 where
+  pub first : ℕ
+  pub name : ℕ
+  pub role : Role
+  pub literal : Literal
+
+-- an include, with the token where it begins, that of its file, and those of its names where there is a list
+pub record Inclusion : Type 0 where
+  pub first : ℕ
+  pub file : ℕ
+  pub names : Option (List ℕ)
+
+pub data Entry : Type 0 where
+  formula : Formula → Entry
+  inclusion : Inclusion → Entry

@@ -1,0 +1,63 @@
+-- What a text reads as, and how it is refused.
+use Rattle.std.specs.Prelude.{◌≡◌, ◌⊎◌, ℕ, ◌<◌, ◌≤◌, List, [], length, Result, Err}
+use Rattle.uc_term.specs.Tree.{Tree}
+use Rattle.uc_term.specs.Table.{Table}
+use Rattle.uc_clause.specs.declared.token.Token.{Token}
+use Rattle.uc_clause.specs.declared.token.Place.{Place}
+use Rattle.uc_clause.specs.declared.clause.Item.{Item}
+use Rattle.uc_clause.specs.declared.grammar.stop.Why.{Why}
+use Rattle.uc_clause.specs.declared.fault.What.TheVariants.{Bytes}
+use Rattle.uc_clause.specs.declared.fault.ClauseFault.{ClauseFault}
+use Rattle.uc_clause.specs.declared.fault.ClauseFault.TheVariants.{Syntax, Limit, NoMemory}
+use Rattle.uc_clause.specs.Tokens.{AreTokens, StopsAt}
+use Rattle.uc_clause.specs.Rules.{Rule, read, stop}
+use Rattle.uc_clause.specs.Parse.{Parse, Sides, Entry}
+use Rattle.uc_clause.specs.Items.{Items, term_alone, equals_alone}
+use Rattle.uc_clause.specs.Meaning.{Means, MeansSides, MeanItems, with_names, variables_in}
+use Rattle.uc_clause.specs.Refusals.{fault_of}
+
+-- the text is tokens, and from the first to the last of them the rule reads this
+pub record Parses {V : Type 0} (rule : List ℕ → List Token → Rule V) (bytes : List ℕ) (tokens : List Token) (v : V) : Type 0 where
+  pub are_tokens : AreTokens bytes tokens
+  pub end : ℕ
+  pub reads : rule bytes tokens 0 (read v end)
+
+-- the text isn't tokens, or it is, and the rule stops at one of them
+pub data Refuses {V : Type 0} (rule : List ℕ → List Token → Rule V) (bytes : List ℕ) : ClauseFault → Type 0 where
+  isnt_tokens : {place : Place} → StopsAt bytes place → Refuses rule bytes (Syntax place)
+  isnt_read : {tokens : List Token} {why : Why} {k : ℕ} → AreTokens bytes tokens → rule bytes tokens 0 (stop why k) → Refuses rule bytes (fault_of bytes tokens why k)
+
+-- the whole text is this term, with its symbols in this table and its variables numbered by first occurrence
+pub record ReadsTerm (bytes : List ℕ) (table : Table) (t : Tree) : Type 0 where
+  pub tokens : List Token
+  pub parse : Parse
+  pub parses : Parses term_alone bytes tokens parse
+  pub means : Means bytes tokens table (with_names [] (variables_in bytes tokens parse)) parse t
+
+-- the whole text is the equation of these two terms
+pub record ReadsEquation (bytes : List ℕ) (table : Table) (left right : Tree) : Type 0 where
+  pub tokens : List Token
+  pub sides : Sides
+  pub parses : Parses equals_alone bytes tokens sides
+  pub means : MeansSides bytes tokens table sides left right
+
+-- the file has no more than 16,777,216 bytes and is these items
+pub record ReadsFile (bytes : List ℕ) (table : Table) (items : List Item) : Type 0 where
+  pub small : length bytes ≤ 16777216
+  pub tokens : List Token
+  pub entries : List Entry
+  pub parses : Parses Items bytes tokens entries
+  pub means : MeanItems bytes tokens table entries items
+
+-- a file is refused where it is too long, or else where it isn't items
+pub data RefusesFile (bytes : List ℕ) : ClauseFault → Type 0 where
+  is_too_long : 16777216 < length bytes → RefusesFile bytes (Limit (record { line = 1; column = 1 }) Bytes)
+  isnt_items : {fault : ClauseFault} → length bytes ≤ 16777216 → Refuses Items bytes fault → RefusesFile bytes fault
+
+-- this is the answer, unless memory is wanted
+abbrev pub IsUnlessMemory : {V : Type 0} → Result V ClauseFault → Result V ClauseFault → Type 0
+IsUnlessMemory answer result = (result ≡ answer) ⊎ (result ≡ Err NoMemory)
+
+-- a refusal that this relation allows, or want of memory
+abbrev pub IsFault : (ClauseFault → Type 0) → ClauseFault → Type 0
+IsFault refuses e = refuses e ⊎ (e ≡ NoMemory)

@@ -1,0 +1,84 @@
+//! What a token is to the grammar.
+
+ghost use Rattle.std.specs.Prelude.{◌≡◌, ◌≤◌, ◌<◌, slice_index, length, slice_range, MatchOption, slice_get, unwrap_or};
+ghost use Rattle.uc_clause.specs.Terminals.{terminal_of_mark, terminal_of, terminal_at};
+
+use crate::{Kind, Token};
+
+/// What stands at a place among the tokens, as the grammar tells tokens apart: a kind, with the marks that it calls for,
+/// or the end of the text.
+#[derive(Clone, Copy, PartialEq, Eq, Debug)]
+pub enum Terminal {
+    Lower,
+    Upper,
+    Quoted,
+    Distinct,
+    Integer,
+    Dollar,
+    Unequal,
+    Open,
+    Close,
+    OpenSquare,
+    CloseSquare,
+    Comma,
+    Dot,
+    Equal,
+    Bar,
+    Tilde,
+    Star,
+    OtherMark,
+    End,
+}
+
+// The mark that a byte is.
+fn terminal_of_mark(byte: u8) -> Terminal
+    ensures { result ≡ terminal_of_mark byte }
+{
+    match byte {
+        b'(' => Terminal::Open,
+        b')' => Terminal::Close,
+        b'[' => Terminal::OpenSquare,
+        b']' => Terminal::CloseSquare,
+        b',' => Terminal::Comma,
+        b'.' => Terminal::Dot,
+        b'=' => Terminal::Equal,
+        b'|' => Terminal::Bar,
+        b'~' => Terminal::Tilde,
+        b'*' => Terminal::Star,
+        _ => Terminal::OtherMark,
+    }
+}
+
+// What a token is.
+fn terminal_of(bytes: &[u8], token: Token) -> Terminal
+    ensures { result ≡ terminal_of bytes.now token }
+{
+    match token.kind {
+        Kind::Lower => Terminal::Lower,
+        Kind::Upper => Terminal::Upper,
+        Kind::Quoted => Terminal::Quoted,
+        Kind::Distinct => Terminal::Distinct,
+        Kind::Integer => Terminal::Integer,
+        Kind::Dollar => Terminal::Dollar,
+        Kind::Unequal => Terminal::Unequal,
+        Kind::Mark => terminal_of_mark(first_byte(bytes, token.from as usize)),
+    }
+}
+
+// The byte at a number, 0 past the end.
+fn first_byte(bytes: &[u8], at: usize) -> u8
+    ensures { result ≡ slice_index bytes.now at }
+{
+    if at < bytes.len() { bytes[at] } else { 0 }
+}
+
+/// What stands at the token of this number, or the end of the text where there is none. It takes no memory.
+pub fn terminal_at(bytes: &[u8], tokens: &[Token], at: usize) -> Terminal
+    ensures { result ≡ terminal_at bytes.now tokens.now at }
+{
+    if at < tokens.len() {
+        terminal_of(bytes, tokens[at])
+    } else {
+        Terminal::End
+    }
+}
