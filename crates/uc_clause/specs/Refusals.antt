@@ -64,3 +64,6 @@ module _ (bytes : List ℕ) (tokens : List Token) where
   fault_of why.Nodes k = Limit (place_at bytes tokens k) what.Nodes
   fault_of why.Parentheses k = Limit (place_at bytes tokens k) what.Parentheses
   fault_of why.Arity k = Limit (place_at bytes tokens k) what.Arity
+  -- these two stand in proofs alone
+  fault_of why.NoRule k = Syntax (place_at bytes tokens k)
+  fault_of why.Repeated k = Syntax (place_at bytes tokens k)

@@ -28,6 +28,10 @@ pub enum Why {
     Parentheses,
     /// A functor whose 256th argument is announced by a comma.
     Arity,
+    /// An inference rule is called for, in a proof.
+    NoRule,
+    /// The name of a line is called for that no earlier line has, in a proof.
+    Repeated,
 }
 
 /// Reading stops, for this reason, at the token of this number; or memory is wanted.
