@@ -3,3 +3,4 @@ pub mod VarOrders
 pub mod Laws
 pub mod Precedence
 pub mod Places
+pub mod Renamed

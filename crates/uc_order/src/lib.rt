@@ -4,11 +4,13 @@
 //! under an order of variables, and the least constant (Baader and Nipkow, Term Rewriting and All That, chapter 5).
 #![tactic(auto)]
 
+mod classes;
 mod completeness;
 mod listing;
 mod order;
 mod spec;
 
+pub use classes::{class_of, represent, represent_node, representative};
 pub use completeness::{each_once, exactly_one};
 pub use listing::var_orders;
 pub use order::{Cmp, Order};
