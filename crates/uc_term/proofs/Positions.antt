@@ -18,10 +18,10 @@ abbrev mutual
   position_in (more t ts) zero p = position t p
   position_in (more t ts) (suc i) p = nodes t + position_in ts i p
 
-low : (t : Tree) (ts : Trees) (k : ℕ) (w : Tree) → k < nodes t → put_all (more t ts) k w ≡ more (put t k w) ts
+pub low : (t : Tree) (ts : Trees) (k : ℕ) (w : Tree) → k < nodes t → put_all (more t ts) k w ≡ more (put t k w) ts
 low t ts k w h = let e : nat_lt k (nodes t) ≡ true = grind (arith, nat_tests) in rw e refl
 
-high : (t : Tree) (ts : Trees) (k : ℕ) (w : Tree) → put_all (more t ts) (nodes t + k) w ≡ more t (put_all ts k w)
+pub high : (t : Tree) (ts : Trees) (k : ℕ) (w : Tree) → put_all (more t ts) (nodes t + k) w ≡ more t (put_all ts k w)
 high t ts k w = let e : nat_lt (nodes t + k) (nodes t) ≡ false = grind (arith, nat_tests) in let q : nodes t + k - nodes t ≡ k = omega arith in rw e (ap (λ n. more t (put_all ts n w)) q)
 
 pub record Placed (t : Tree) (p : List ℕ) (u : Tree) : Type 0 where

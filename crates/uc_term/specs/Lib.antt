@@ -2,6 +2,7 @@ pub mod Tree
 pub mod Flat
 pub mod Code
 pub mod Path
+pub mod Positions
 pub mod Subst
 pub mod Over
 pub mod Variables

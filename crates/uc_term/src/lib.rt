@@ -10,6 +10,7 @@ mod fault;
 mod fresh;
 mod laws;
 mod node;
+mod position;
 mod seq;
 mod signature;
 mod subst;
