@@ -1,0 +1,5 @@
+pub mod Framing
+pub mod Parse
+pub mod Lines
+pub mod Meaning
+pub mod Reading

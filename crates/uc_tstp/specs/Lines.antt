@@ -1,0 +1,280 @@
+-- Which tokens read as the lines of a proof, and where the others stop:
+--
+--   line    = cnf ( Lower , role , body , source ) .
+--   role    = Lower
+--   body    = term = term | term != term | $false
+--   source  = file ( functor , name )
+--           | inference ( chain , [ term { , step } ] , parents )
+--           | inference ( encode , [ reflexive ] , parents )
+--           | inference ( encode , [ goal ] , parents )
+--           | inference ( refute , [ ] , parents )
+--   step    = step ( Lower , lr , path , term ) | step ( Lower , rl , path , term )
+--   path    = [ ] | [ Integer { , Integer } ]
+--   parents = [ ] | [ Lower { , Lower } ]
+--
+-- A path's integers are 1 to 255 without a sign. A file line says an equation or its denial, a chain or encode line an
+-- equation, and a refute line `$false`; another body stops at its first token once the source's kind is read. A line's name
+-- is none that an earlier line has.
+use Rattle.std.specs.Prelude.{ℕ, ◌≡◌, ◌≢◌, ◌+◌, ◌*◌, ◌-◌, ◌&&◌, Bool, true, false, List, [], ◌∷◌, codes, bytes_eq, nat_le, Option, Some, None, if◌then◌else◌}
+use Rattle.std.specs.List.{list_any, list_all}
+use Rattle.uc_clause.specs.declared.token.Token.{Token}
+use Rattle.uc_clause.specs.declared.terminal.Terminal.{Terminal}
+use Rattle.uc_clause.specs.declared.terminal.Terminal.TheVariants.{Lower, Quoted, Integer, Dollar, Open, Close, OpenSquare, CloseSquare, Comma, Dot, End}
+use Rattle.uc_clause.specs.declared.grammar.stop.Why.{Why}
+use Rattle.uc_clause.specs.declared.grammar.stop.Why.TheVariants.{NoToken, NoRule, Repeated}
+use Rattle.uc_clause.specs.Bytes.{is_digit}
+use Rattle.uc_clause.specs.Terminals.{terminal_at, bytes_at}
+use Rattle.uc_clause.specs.Rules.{Outcome, read, stop, Rule, mapped, Then, ◌>>=◌, gives, here, pick, the, Choice}
+use Rattle.uc_clause.specs.Parse.{Parse, Literal}
+use Rattle.uc_clause.specs.Items as items
+use Rattle.uc_tstp.specs.Parse.{Body, says, falsum, Step, Source, from_file, by_chain, by_reflexive, by_goal, by_refute, Line}
+
+-- the number of a Lower
+abbrev pub lower_by : Terminal → ℕ → Option ℕ
+lower_by Lower at = Some at
+lower_by other at = None
+
+-- the number of a functor: a Lower or a Quoted
+abbrev pub functor_by : Terminal → ℕ → Option ℕ
+functor_by Lower at = Some at
+functor_by Quoted at = Some at
+functor_by other at = None
+
+-- this very word, as a Lower
+abbrev pub word_by : List ℕ → Terminal → List ℕ → Option (Unit {0})
+word_by word Lower bytes = if bytes_eq bytes word then Some tt else None
+word_by word other bytes = None
+
+-- the decimal number that digits are
+abbrev pub value_from : ℕ → List ℕ → ℕ
+value_from n [] = n
+value_from n (b ∷ bs) = value_from (n * 10 + (b - 48)) bs
+
+-- a number of a path: an Integer from 1 to 255 without a sign
+abbrev pub number_by : Terminal → List ℕ → Option ℕ
+number_by Integer bytes = if list_all is_digit bytes && (nat_le 1 (value_from 0 bytes) && nat_le (value_from 0 bytes) 255) then Some (value_from 0 bytes) else None
+number_by other bytes = None
+
+-- the way of a step: lr or rl
+abbrev pub way_by : Terminal → List ℕ → Option Bool
+way_by Lower bytes = if bytes_eq bytes (codes "lr") then Some true else (if bytes_eq bytes (codes "rl") then Some false else None)
+way_by other bytes = None
+
+-- the inference rules
+pub data RuleName : Type 0 where
+  chain : RuleName
+  encode : RuleName
+  refute : RuleName
+
+abbrev pub rule_of : List ℕ → Option RuleName
+rule_of bytes = if bytes_eq bytes (codes "chain") then Some chain else (if bytes_eq bytes (codes "encode") then Some encode else (if bytes_eq bytes (codes "refute") then Some refute else None))
+
+-- what an encode line is of: the reflexivity, or a goal
+abbrev pub of_goal_by : Terminal → List ℕ → Option Bool
+of_goal_by Lower bytes = if bytes_eq bytes (codes "reflexive") then Some false else (if bytes_eq bytes (codes "goal") then Some true else None)
+of_goal_by other bytes = None
+
+abbrev pub is_falsum : Terminal → List ℕ → Bool
+is_falsum Dollar bytes = bytes_eq bytes (codes "$false")
+is_falsum other bytes = false
+
+-- the bodies that a file line may have
+abbrev pub fits_file : Body → Bool
+fits_file (says l) = true
+fits_file falsum = false
+
+-- and those that a line of an inference rule may have
+abbrev pub fits_rule : RuleName → Body → Bool
+fits_rule chain (says l) = l.positive
+fits_rule encode (says l) = l.positive
+fits_rule refute (says l) = false
+fits_rule chain falsum = false
+fits_rule encode falsum = false
+fits_rule refute falsum = true
+
+-- the body is one that may stand here, or reading stops at its first token
+abbrev pub body_fits : Bool → ℕ → Rule (Unit {0})
+body_fits true first at outcome = outcome ≡ read tt at
+body_fits false first at outcome = outcome ≡ stop NoToken first
+
+module _ (bytes : List ℕ) (tokens : List Token) where
+  abbrev pub token : Terminal → Rule (Unit {0})
+  token terminal = the bytes tokens terminal NoToken
+
+  abbrev pub word : List ℕ → Rule (Unit {0})
+  word w at = pick NoToken (word_by w (terminal_at bytes tokens at) (bytes_at bytes tokens at)) at
+
+  abbrev pub lower : Rule ℕ
+  lower at = pick NoToken (lower_by (terminal_at bytes tokens at) at) at
+
+  abbrev pub functor : Rule ℕ
+  functor at = pick NoToken (functor_by (terminal_at bytes tokens at) at) at
+
+  abbrev pub number : Rule ℕ
+  number at = pick NoToken (number_by (terminal_at bytes tokens at) (bytes_at bytes tokens at)) at
+
+  abbrev pub way : Rule Bool
+  way at = pick NoToken (way_by (terminal_at bytes tokens at) (bytes_at bytes tokens at)) at
+
+  abbrev pub of_goal : Rule Bool
+  of_goal at = pick NoToken (of_goal_by (terminal_at bytes tokens at) (bytes_at bytes tokens at)) at
+
+  -- the name of an inference rule: another Lower is no rule, another token isn't called for
+  pub data RuleWord (at : ℕ) : Outcome RuleName → Type 0 where
+    is_rule : {r : RuleName} → terminal_at bytes tokens at ≡ Lower → rule_of (bytes_at bytes tokens at) ≡ Some r → RuleWord at (read r (at + 1))
+    is_no_rule : terminal_at bytes tokens at ≡ Lower → rule_of (bytes_at bytes tokens at) ≡ None → RuleWord at (stop NoRule at)
+    is_no_word : terminal_at bytes tokens at ≢ Lower → RuleWord at (stop NoToken at)
+
+  abbrev pub rule_word : Rule RuleName
+  rule_word at outcome = RuleWord at outcome
+
+  -- the name of a line, which none of the earlier lines has
+  pub data LineName (earlier : List (List ℕ)) (at : ℕ) : Outcome ℕ → Type 0 where
+    is_new : terminal_at bytes tokens at ≡ Lower → list_any (bytes_eq (bytes_at bytes tokens at)) earlier ≡ false → LineName earlier at (read at (at + 1))
+    is_repeated : terminal_at bytes tokens at ≡ Lower → list_any (bytes_eq (bytes_at bytes tokens at)) earlier ≡ true → LineName earlier at (stop Repeated at)
+    is_no_line_name : terminal_at bytes tokens at ≢ Lower → LineName earlier at (stop NoToken at)
+
+  abbrev pub line_name : List (List ℕ) → Rule ℕ
+  line_name earlier at outcome = LineName earlier at outcome
+
+  abbrev pub falsum_at : ℕ → Bool
+  falsum_at at = is_falsum (terminal_at bytes tokens at) (bytes_at bytes tokens at)
+
+  pub data BodyAt (at : ℕ) : Outcome Body → Type 0 where
+    is_false : falsum_at at ≡ true → BodyAt at (read falsum (at + 1))
+    is_equation : {outcome : Outcome Literal} → falsum_at at ≡ false → items.equation bytes tokens at outcome → BodyAt at (mapped says outcome)
+
+  abbrev pub body : Rule Body
+  body at outcome = BodyAt at outcome
+
+  -- members of one sort up to the closing square bracket, with commas between
+  module _ {V : Type 0} (member : Rule V) where
+    pub data Members : ℕ → Outcome (List V) → Type 0 where
+      stops_in_member : {at k : ℕ} {why : Why} → member at (stop why k) → Members at (stop why k)
+      is_last_member : {at end : ℕ} {v : V} → member at (read v end) → terminal_at bytes tokens end ≡ CloseSquare → Members at (read (v ∷ []) (end + 1))
+      is_member : {at end : ℕ} {v : V} {outcome : Outcome (List V)} → member at (read v end) → terminal_at bytes tokens end ≡ Comma → Members (end + 1) outcome → Members at (mapped (λ vs. v ∷ vs) outcome)
+      stops_behind_member : {at end : ℕ} {v : V} → member at (read v end) → terminal_at bytes tokens end ≢ CloseSquare → terminal_at bytes tokens end ≢ Comma → Members at (stop NoToken end)
+
+    abbrev pub members : Rule (List V)
+    members at outcome = Members at outcome
+
+    abbrev pub no_members : Rule (List V)
+    no_members = do
+      _ ← token CloseSquare
+      gives []
+
+    -- [ ], or [ member { , member } ]
+    abbrev pub list : Rule (List V)
+    list = do
+      _ ← token OpenSquare
+      Choice bytes tokens CloseSquare no_members members
+
+  abbrev pub path : Rule (List ℕ)
+  path = list number
+
+  abbrev pub parents : Rule (List ℕ)
+  parents = list lower
+
+  abbrev pub step : Rule Step
+  step = do
+    _ ← word (codes "step")
+    _ ← token Open
+    by ← lower
+    _ ← token Comma
+    left_to_right ← way
+    _ ← token Comma
+    path ← path
+    _ ← token Comma
+    to ← items.term bytes tokens
+    _ ← token Close
+    gives (record { by = by; left_to_right = left_to_right; path = path; to = to })
+
+  -- the steps behind the first term of a chain, up to the closing square bracket
+  abbrev pub more_steps : Rule (List Step)
+  more_steps = do
+    _ ← token Comma
+    members step
+
+  abbrev pub steps : Rule (List Step)
+  steps = Choice bytes tokens CloseSquare (no_members step) more_steps
+
+  abbrev pub rest_of_inference : (List ℕ → Source) → Rule Source
+  rest_of_inference source = do
+    _ ← token Comma
+    parents ← parents
+    _ ← token Close
+    gives (source parents)
+
+  -- what stands in the square brackets of a chain, and behind them
+  abbrev pub chain_source : Rule Source
+  chain_source = do
+    start ← items.term bytes tokens
+    steps ← steps
+    rest_of_inference (by_chain start steps)
+
+  abbrev pub encode_source : Rule Source
+  encode_source = do
+    goal ← of_goal
+    _ ← token CloseSquare
+    rest_of_inference (if goal then by_goal else by_reflexive)
+
+  abbrev pub refute_source : Rule Source
+  refute_source = do
+    _ ← token CloseSquare
+    rest_of_inference by_refute
+
+  abbrev pub source_of_rule : RuleName → Rule Source
+  source_of_rule chain = chain_source
+  source_of_rule encode = encode_source
+  source_of_rule refute = refute_source
+
+  abbrev pub file_source : Body → ℕ → Rule Source
+  file_source b first = do
+    _ ← word (codes "file")
+    _ ← body_fits (fits_file b) first
+    _ ← token Open
+    _ ← functor
+    _ ← token Comma
+    name ← items.name bytes tokens
+    _ ← token Close
+    gives (from_file name)
+
+  abbrev pub inference_source : Body → ℕ → Rule Source
+  inference_source b first = do
+    _ ← word (codes "inference")
+    _ ← token Open
+    rule ← rule_word
+    _ ← body_fits (fits_rule rule b) first
+    _ ← token Comma
+    _ ← token OpenSquare
+    source_of_rule rule
+
+  -- a source, by its first word
+  pub data SourceAt (b : Body) (first : ℕ) (at : ℕ) (outcome : Outcome Source) : Type 0 where
+    is_from_file : word_by (codes "file") (terminal_at bytes tokens at) (bytes_at bytes tokens at) ≡ Some tt → file_source b first at outcome → SourceAt b first at outcome
+    is_inferred : word_by (codes "file") (terminal_at bytes tokens at) (bytes_at bytes tokens at) ≡ None → inference_source b first at outcome → SourceAt b first at outcome
+
+  abbrev pub source : Body → ℕ → Rule Source
+  source b first at outcome = SourceAt b first at outcome
+
+  abbrev pub line : List (List ℕ) → Rule Line
+  line earlier = do
+    _ ← word (codes "cnf")
+    _ ← token Open
+    name ← line_name earlier
+    _ ← token Comma
+    _ ← lower
+    _ ← token Comma
+    first ← here
+    body ← body
+    _ ← token Comma
+    source ← source body first
+    _ ← token Close
+    _ ← token Dot
+    gives (record { name = name; body = body; source = source })
+
+  -- lines up to the end of the tokens, behind lines of these names
+  pub data LinesAt : List (List ℕ) → ℕ → Outcome (List Line) → Type 0 where
+    is_no_line : {earlier : List (List ℕ)} {at : ℕ} → terminal_at bytes tokens at ≡ End → LinesAt earlier at (read [] at)
+    has_line : {earlier : List (List ℕ)} {at middle : ℕ} {l : Line} {outcome : Outcome (List Line)} → terminal_at bytes tokens at ≢ End → line earlier at (read l middle) → LinesAt (bytes_at bytes tokens l.name ∷ earlier) middle outcome → LinesAt earlier at (mapped (λ ls. l ∷ ls) outcome)
+    stops_in_line : {earlier : List (List ℕ)} {at k : ℕ} {why : Why} → terminal_at bytes tokens at ≢ End → line earlier at (stop why k) → LinesAt earlier at (stop why k)

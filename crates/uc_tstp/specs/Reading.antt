@@ -1,0 +1,58 @@
+-- What a text reads as: a proof, or why not.
+use Rattle.std.specs.Prelude.{ℕ, ◌≡◌, ◌+◌, ◌-◌, List, [], ◌∷◌, length, take, drop, bytes_eq, slice_get, Option, Some, None, Result, Ok, Err, if◌then◌else◌}
+use Rattle.std.specs.List.{list_any}
+use Rattle.uc_term.specs.Table.{Table}
+use Rattle.uc_clause.specs.declared.token.Token.{Token}
+use Rattle.uc_clause.specs.declared.token.Place.{Place}
+use Rattle.uc_clause.specs.declared.fault.What.TheVariants as what
+use Rattle.uc_clause.specs.declared.grammar.stop.Why.{Why}
+use Rattle.uc_clause.specs.declared.grammar.stop.Why.TheVariants.{NoRule, Repeated, Nodes, Arity}
+use Rattle.uc_clause.specs.Tokens.{Cut, place_of}
+use Rattle.uc_clause.specs.Terminals.{bytes_at}
+use Rattle.uc_clause.specs.Rules.{read, stop}
+use Rattle.uc_check.specs.declared.proof.Proof.{Proof}
+use Rattle.uc_tstp.specs.declared.fault.ProofFault.{ProofFault}
+use Rattle.uc_tstp.specs.declared.fault.ProofFault.TheVariants.{Syntax, UnknownRule, UnknownName, RepeatedName, Limit, NoMemory}
+use Rattle.uc_tstp.specs.Framing.{Frame, Framed}
+use Rattle.uc_tstp.specs.Parse as parse
+use Rattle.uc_tstp.specs.Lines.{LinesAt}
+use Rattle.uc_tstp.specs.Meaning.{names_of, MeanLines}
+
+-- the fault of a stop at this place
+abbrev pub fault_of : Why → Place → ProofFault
+fault_of Nodes place = Limit what.Nodes place
+fault_of Arity place = Limit what.Arity place
+fault_of NoRule place = UnknownRule place
+fault_of Repeated place = RepeatedName place
+fault_of other place = Syntax place
+
+-- the bytes of the frame
+abbrev pub inside : List ℕ → Frame → List ℕ
+inside text frame = take (frame.to - frame.from) (drop frame.from text)
+
+abbrev pub first_byte : ℕ → Option Token → ℕ
+first_byte end (Some token) = token.from
+first_byte end None = end
+
+-- where a token of the frame begins in the whole text; behind the last token, the end line
+abbrev pub place_in : List ℕ → Frame → List Token → ℕ → Place
+place_in text frame tokens k = place_of text (frame.from + first_byte (length (inside text frame)) (slice_get tokens k))
+
+-- the first of these tokens that names no line
+abbrev pub first_unknown : List ℕ → List Token → List (List ℕ) → List ℕ → Option ℕ
+first_unknown bytes tokens names [] = None
+first_unknown bytes tokens names (k ∷ ks) = if list_any (bytes_eq (bytes_at bytes tokens k)) names then first_unknown bytes tokens names ks else Some k
+
+module _ (table : Table) (text : List ℕ) where
+  pub data ReadsProof : Result Proof ProofFault → Type 0 where
+    no_frame : {why : ProofFault} → Framed text (Err why) → ReadsProof (Err why)
+    no_token : {frame : Frame} {k : ℕ} → Framed text (Ok frame) → Cut (inside text frame) 0 (Err k) → ReadsProof (Err (Syntax (place_of text (frame.from + k))))
+    no_lines : {frame : Frame} {tokens : List Token} {why : Why} {k : ℕ} → Framed text (Ok frame) → Cut (inside text frame) 0 (Ok tokens) → LinesAt (inside text frame) tokens [] 0 (stop why k) → ReadsProof (Err (fault_of why (place_in text frame tokens k)))
+    no_name : {frame : Frame} {tokens : List Token} {lines : List parse.Line} {end k : ℕ} → Framed text (Ok frame) → Cut (inside text frame) 0 (Ok tokens) → LinesAt (inside text frame) tokens [] 0 (read lines end) → first_unknown (inside text frame) tokens (names_of (inside text frame) tokens lines) (parse.all_mentions lines) ≡ Some k → ReadsProof (Err (UnknownName (place_in text frame tokens k)))
+    reads : {frame : Frame} {tokens : List Token} {lines : List parse.Line} {end : ℕ} {proof : Proof} → Framed text (Ok frame) → Cut (inside text frame) 0 (Ok tokens) → LinesAt (inside text frame) tokens [] 0 (read lines end) → first_unknown (inside text frame) tokens (names_of (inside text frame) tokens lines) (parse.all_mentions lines) ≡ None → MeanLines (inside text frame) tokens table (names_of (inside text frame) tokens lines) lines proof.lines → ReadsProof (Ok proof)
+
+-- want of memory is the one free answer
+abbrev pub IsReading : Table → List ℕ → Result Proof ProofFault → Type 0
+IsReading table text (Ok proof) = ReadsProof table text (Ok proof)
+IsReading table text (Err NoMemory) = Unit {0}
+IsReading table text (Err why) = ReadsProof table text (Err why)

@@ -1,0 +1,8 @@
+//! Proofs as texts: reading and printing the part of the TSTP language in which proofs are written (Sutcliffe, Schulz, Claessen
+//! and Van Gelder, Using the TPTP Language for Writing Derivations and Finite Interpretations), with the inference rules
+//! `chain`, `encode` and `refute`.
+#![tactic(auto)]
+
+mod fault;
+
+pub use fault::ProofFault;
