@@ -1,0 +1,4 @@
+//! The lexicographic path order.
+#![tactic(auto)]
+
+pub fn nothing() {}
