@@ -1,0 +1,5 @@
+pub mod Decide
+pub mod Steps
+pub mod Shown
+pub mod Fronts
+pub mod Passes
