@@ -8,10 +8,13 @@ use Rattle.uc_term.proofs.Ahead.{join}
 use Rattle.uc_term.proofs.Terms.{trees_of-flat_all}
 use Rattle.uc_term.proofs.Parts.{Split}
 use Rattle.uc_lpo.specs.PathOrder.{PathOrder, SomeReaches, Exceeds}
+use Rattle.uc_order.specs.VarOrders.{Classes, IsHigher, representative}
+use Rattle.uc_lpo.specs.Ranks.{rank_of}
+use Rattle.uc_lpo.specs.Higher.{higher_transitive, higher_irreflexive}
 use Rattle.uc_lpo.specs.Shown.{shown, shown_all, shown_node}
 use Rattle.uc_lpo.specs.Heads.{SameHead}
 use Rattle.uc_lpo.proofs.Decide.{first_greater, first_not_greater, none_differ}
-use Rattle.uc_lpo.proofs.Steps.{tail_is, none_left}
+use Rattle.uc_lpo.proofs.Steps.{tail_is, nothing_left}
 use Rattle.uc_lpo.proofs.Shown.{shown_same, alike_length}
 
 pub record Common (ss ts rs rt : Trees) : Type 0 where
@@ -48,7 +51,22 @@ heads_at s t (app f ss) (app g ts) ws wt es et h = record { f = f; left = args_o
 pub heads : (s t : List Node) → IsWhole s → IsWhole t → SameHead (tree_of s) (tree_of t) → Heads s t
 heads s t ws wt same = heads_at s t (tree_of s) (tree_of t) ws wt refl refl same
 
-module _ (rank : Sym → ℕ) (above : ℕ → ℕ → Type 0) (above_transitive : (x y z : ℕ) → above x y → above y z → above x z) (above_irreflexive : (x : ℕ) → above x x → ⊥) (represent : ℕ → ℕ) where
+module _ (ranks : List ℕ) (classes : Classes) where
+  abbrev rank : Sym → ℕ
+  rank = rank_of ranks
+
+  abbrev above : ℕ → ℕ → Type 0
+  above = IsHigher classes
+
+  abbrev represent : ℕ → ℕ
+  represent = representative classes
+
+  abbrev above_transitive : (x y z : ℕ) → above x y → above y z → above x z
+  above_transitive = higher_transitive classes
+
+  abbrev above_irreflexive : (x : ℕ) → above x x → ⊥
+  above_irreflexive = higher_irreflexive classes
+
   abbrev rest : List Node → ℕ → Trees
   rest ns p = shown_all represent (trees_of (drop p ns))
 
@@ -89,7 +107,7 @@ module _ (rank : Sym → ℕ) (above : ℕ → ℕ → Type 0) (above_transitive
 
     pub answer_end : (length s ≤ from) ⊎ (length t ≤ from) → (P ↔ SomeReaches rank above (shown_all represent (trees_of (take (length s - from) (drop from s)))) (shown represent (tree_of t))) → P ↔ PathOrder rank above (shown represent (tree_of s)) (shown represent (tree_of t))
     answer_end over a =
-        let none_of = λ (ns : List Node) (k : length ns ≤ from). ap (λ l. shown_all represent (trees_of l)) (none_left ns from k) in
+        let none_of = λ (ns : List Node) (k : length ns ≤ from). ap (λ l. shown_all represent (trees_of l)) (nothing_left ns from k) in
         let d = none_differ rank above above_transitive above_irreflexive h.f c.front (rest s from) (rest t from) (elim over [ inl k ↦ inl (none_of s k) | inr k ↦ inr (none_of t k) ]) in
         let b : P ↔ SomeReaches rank above (rest s from) (shown represent (tree_of t)) = rw (tail_is s from) at a in
         let s_was : shown represent (tree_of s) ≡ app h.f (join c.front (rest s from)) = ap (shown represent) h.left ∙ ap (app h.f) c.left in

@@ -3,3 +3,4 @@ pub mod Steps
 pub mod Shown
 pub mod Fronts
 pub mod Passes
+pub mod Classes

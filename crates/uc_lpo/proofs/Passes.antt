@@ -1,14 +1,17 @@
 -- A scan passes a head and goes on with its arguments.
-use Rattle.std.proofs.Common.{◌≡◌, ◌≢◌, ◌↔◌, ℕ, ◌+◌, ◌<◌, ◌≤◌, List, [], ◌∷◌, ◌++◌, length, take, drop, get_or, refl, sym, ap, ◌∙◌, subst, arith, ◌⊎◌, inl, inr}
+use Rattle.std.proofs.Common.{◌≡◌, ◌≢◌, ◌↔◌, ℕ, ◌+◌, ◌<◌, List, [], ◌∷◌, ◌++◌, length, take, drop, get_or, refl, sym, ap, ◌∙◌, arith, ◌⊎◌, inl, inr}
 use Rattle.std.proofs.lemmas.List.{take-append-drop}
 use Rattle.uc_term.specs.declared.node.Sym.{Sym}
 use Rattle.uc_term.specs.declared.node.Node.{Node}
 use Rattle.uc_term.specs.declared.node.Node.TheVariants.{Var, App}
-use Rattle.uc_term.specs.Tree.{Tree, var, app, Trees, none, more, of_list}
+use Rattle.uc_term.specs.Tree.{Tree, app, Trees, none, more, of_list}
 use Rattle.uc_term.specs.Flat.{tree_of, trees_of, spelled, IsWhole}
 use Rattle.uc_term.proofs.Ahead.{join, drop-at}
 use Rattle.uc_term.proofs.Parts.{head_app, head_var}
 use Rattle.uc_lpo.specs.PathOrder.{PathOrder, SomeReaches, is_it, is_greater, a_later, Exceeds, no_more, one_more}
+use Rattle.uc_order.specs.VarOrders.{Classes, IsHigher, representative}
+use Rattle.uc_lpo.specs.Ranks.{rank_of}
+use Rattle.uc_lpo.specs.Higher.{higher_transitive, higher_irreflexive}
 use Rattle.uc_lpo.specs.Shown.{shown, shown_all}
 use Rattle.uc_lpo.specs.Heads.{IsLower, IsPassed}
 use Rattle.uc_lpo.proofs.Decide.{Exceeds-join, exceeds_end, front_reaches, head_greater, head_other, over_var, reach_cases}
@@ -39,7 +42,22 @@ pub shown_all-join : (represent : ℕ → ℕ) (ts us : Trees) → shown_all rep
 shown_all-join represent none us = refl
 shown_all-join represent (more t ts) us = ap (more (shown represent t)) (shown_all-join represent ts us)
 
-module _ (rank : Sym → ℕ) (above : ℕ → ℕ → Type 0) (above_transitive : (x y z : ℕ) → above x y → above y z → above x z) (above_irreflexive : (x : ℕ) → above x x → ⊥) where
+module _ (ranks : List ℕ) (classes : Classes) where
+  abbrev rank : Sym → ℕ
+  rank = rank_of ranks
+
+  abbrev above : ℕ → ℕ → Type 0
+  above = IsHigher classes
+
+  abbrev represent : ℕ → ℕ
+  represent = representative classes
+
+  abbrev above_transitive : (x y z : ℕ) → above x y → above y z → above x z
+  above_transitive = higher_transitive classes
+
+  abbrev above_irreflexive : (x : ℕ) → above x x → ⊥
+  above_irreflexive = higher_irreflexive classes
+
   exceeds_front : (s : Tree) (cs rs : Trees) → Exceeds rank above s (join cs rs) → Exceeds rank above s cs
   exceeds_front s none rs e = no_more
   exceeds_front s (more c cs) rs (one_more l e) = one_more l (exceeds_front s cs rs e)
@@ -76,31 +94,30 @@ module _ (rank : Sym → ℕ) (above : ℕ → ℕ → Type 0) (above_transitive
   lower_heads (App g k) (Var x) h = absurd h
   lower_heads (Var y) m h = absurd h
 
-  module _ (represent : ℕ → ℕ) where
-    pub pass_exceeds : (s ns : List Node) (p : ℕ) (d e : Node) → IsWhole s → 0 < length s → p < length ns → IsLower rank (get_or ns p d) (get_or s 0 e) → Exceeds rank above (shown represent (tree_of s)) (shown_all represent (trees_of (drop p ns))) ↔ Exceeds rank above (shown represent (tree_of s)) (shown_all represent (trees_of (drop (p + 1) ns)))
-    pass_exceeds s ns p d e w some h low = go (lower_heads (get_or ns p d) (get_or s 0 e) low)
-      where
-        go : ((g f : Sym) × (k : ℕ) × (j : ℕ) × (get_or ns p d ≡ App g k) × (get_or s 0 e ≡ App f j) × (rank g < rank f)) → Exceeds rank above (shown represent (tree_of s)) (shown_all represent (trees_of (drop p ns))) ↔ Exceeds rank above (shown represent (tree_of s)) (shown_all represent (trees_of (drop (p + 1) ns)))
-        go (g, f, k, j, n, m, r) =
-            let o = headed ns p d g k h n in
-            let t = head_app s f j e m some w in
-            rw (t, o.whole, o.opened, shown_all-join represent o.args o.rest) (exceeds_open f g (shown_all represent (trees_of (drop 1 s))) (shown_all represent o.args) (shown_all represent o.rest) r)
+  pub pass_exceeds : (s ns : List Node) (p : ℕ) (d e : Node) → IsWhole s → 0 < length s → p < length ns → IsLower rank (get_or ns p d) (get_or s 0 e) → Exceeds rank above (shown represent (tree_of s)) (shown_all represent (trees_of (drop p ns))) ↔ Exceeds rank above (shown represent (tree_of s)) (shown_all represent (trees_of (drop (p + 1) ns)))
+  pass_exceeds s ns p d e w some h low = go (lower_heads (get_or ns p d) (get_or s 0 e) low)
+    where
+      go : ((g f : Sym) × (k : ℕ) × (j : ℕ) × (get_or ns p d ≡ App g k) × (get_or s 0 e ≡ App f j) × (rank g < rank f)) → Exceeds rank above (shown represent (tree_of s)) (shown_all represent (trees_of (drop p ns))) ↔ Exceeds rank above (shown represent (tree_of s)) (shown_all represent (trees_of (drop (p + 1) ns)))
+      go (g, f, k, j, n, m, r) =
+          let o = headed ns p d g k h n in
+          let t = head_app s f j e m some w in
+          rw (t, o.whole, o.opened, shown_all-join represent o.args o.rest) (exceeds_open f g (shown_all represent (trees_of (drop 1 s))) (shown_all represent o.args) (shown_all represent o.rest) r)
 
-    passed_by : (t : List Node) (e : Node) (f : Sym) (us : Trees) (k : ℕ) → IsWhole t → 0 < length t → (m : Node) → get_or t 0 e ≡ m → IsPassed rank (App f k) m → (app f us ≢ shown represent (tree_of t)) × (PathOrder rank above (app f us) (shown represent (tree_of t)) ↔ SomeReaches rank above us (shown represent (tree_of t)))
-    passed_by t e f us k w some (Var x) is h =
-        let q = head_var t x e is some in
-        rw q (λ z. cc, over_var rank above above_transitive above_irreflexive f us (represent x))
-    passed_by t e f us k w some (App g j) is h =
-        let q = head_app t g j e is some w in
-        let ne : f ≢ g = λ z. omega (arith, h, ap rank z) in
-        rw q (λ z. ne cc, head_other rank above above_transitive above_irreflexive f g us (shown_all represent (trees_of (drop 1 t))) ne (λ r. omega (arith, r, h)))
+  passed_by : (t : List Node) (e : Node) (f : Sym) (us : Trees) (k : ℕ) → IsWhole t → 0 < length t → (m : Node) → get_or t 0 e ≡ m → IsPassed rank (App f k) m → (app f us ≢ shown represent (tree_of t)) × (PathOrder rank above (app f us) (shown represent (tree_of t)) ↔ SomeReaches rank above us (shown represent (tree_of t)))
+  passed_by t e f us k w some (Var x) is h =
+      let q = head_var t x e is some in
+      rw q (λ z. cc, over_var rank above above_transitive above_irreflexive f us (represent x))
+  passed_by t e f us k w some (App g j) is h =
+      let q = head_app t g j e is some w in
+      let ne : f ≢ g = λ z. omega (arith, h, ap rank z) in
+      rw q (λ z. ne cc, head_other rank above above_transitive above_irreflexive f g us (shown_all represent (trees_of (drop 1 t))) ne (λ r. omega (arith, r, h)))
 
-    pub pass_reaches : (t ns : List Node) (p : ℕ) (d e : Node) → IsWhole t → 0 < length t → p < length ns → IsPassed rank (get_or ns p d) (get_or t 0 e) → SomeReaches rank above (shown_all represent (trees_of (drop p ns))) (shown represent (tree_of t)) ↔ SomeReaches rank above (shown_all represent (trees_of (drop (p + 1) ns))) (shown represent (tree_of t))
-    pass_reaches t ns p d e w some h low = go (get_or ns p d) refl low
-      where
-        go : (n : Node) → get_or ns p d ≡ n → IsPassed rank n (get_or t 0 e) → SomeReaches rank above (shown_all represent (trees_of (drop p ns))) (shown represent (tree_of t)) ↔ SomeReaches rank above (shown_all represent (trees_of (drop (p + 1) ns))) (shown represent (tree_of t))
-        go (Var y) n q = absurd q
-        go (App f k) n q =
-            let o = headed ns p d f k h n in
-            let b = passed_by t e f (shown_all represent o.args) k w some (get_or t 0 e) refl q in
-            rw (o.whole, o.opened, shown_all-join represent o.args o.rest) (reach_open f (shown_all represent o.args) (shown_all represent o.rest) (shown represent (tree_of t)) b.0 b.1)
+  pub pass_reaches : (t ns : List Node) (p : ℕ) (d e : Node) → IsWhole t → 0 < length t → p < length ns → IsPassed rank (get_or ns p d) (get_or t 0 e) → SomeReaches rank above (shown_all represent (trees_of (drop p ns))) (shown represent (tree_of t)) ↔ SomeReaches rank above (shown_all represent (trees_of (drop (p + 1) ns))) (shown represent (tree_of t))
+  pass_reaches t ns p d e w some h low = go (get_or ns p d) refl low
+    where
+      go : (n : Node) → get_or ns p d ≡ n → IsPassed rank n (get_or t 0 e) → SomeReaches rank above (shown_all represent (trees_of (drop p ns))) (shown represent (tree_of t)) ↔ SomeReaches rank above (shown_all represent (trees_of (drop (p + 1) ns))) (shown represent (tree_of t))
+      go (Var y) n q = absurd q
+      go (App f k) n q =
+          let o = headed ns p d f k h n in
+          let b = passed_by t e f (shown_all represent o.args) k w some (get_or t 0 e) refl q in
+          rw (o.whole, o.opened, shown_all-join represent o.args o.rest) (reach_open f (shown_all represent o.args) (shown_all represent o.rest) (shown represent (tree_of t)) b.0 b.1)

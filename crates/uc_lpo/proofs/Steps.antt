@@ -3,12 +3,15 @@ use Rattle.std.proofs.Common.{◌≡◌, ◌≢◌, ◌↔◌, ℕ, zero, suc, �
 use Rattle.uc_term.specs.declared.node.Sym.{Sym}
 use Rattle.uc_term.specs.declared.node.Node.{Node}
 use Rattle.uc_term.specs.Tree.{Tree, var, app, Trees, none, more}
-use Rattle.uc_term.specs.Flat.{flat, tree_of, IsWhole, trees_of, AreWhole}
+use Rattle.uc_term.specs.Flat.{tree_of, trees_of, AreWhole}
 use Rattle.uc_term.proofs.Terms.{take_of_length-le, whole-drop}
 use Rattle.uc_term.proofs.Parts.{Split}
 use Rattle.uc_lpo.specs.PathOrder.{PathOrder, SomeReaches, is_it, is_greater, a_later, Exceeds, no_more, one_more}
+use Rattle.uc_order.specs.VarOrders.{Classes, IsHigher, representative}
+use Rattle.uc_lpo.specs.Ranks.{rank_of}
+use Rattle.uc_lpo.specs.Higher.{higher_transitive, higher_irreflexive}
 use Rattle.uc_lpo.specs.Shown.{shown, shown_all}
-use Rattle.uc_lpo.proofs.Decide.{reach_cases, head_greater, head_other, over_var}
+use Rattle.uc_lpo.proofs.Decide.{reach_cases, head_greater, head_other, over_var, two_variables, variable_below}
 
 -- `&ns[p..]`
 pub tail_is : (ns : List Node) (p : ℕ) → take (length ns - p) (drop p ns) ≡ drop p ns
@@ -20,13 +23,36 @@ tail_length ns p = ap length (tail_is ns p) ∙ length-drop p ns
 pub tail_whole_at : (ns : List Node) (p : ℕ) → AreWhole ns → AreWhole (take (length ns - p) (drop p ns))
 tail_whole_at ns p w = let P : List Node → Type 0 = AreWhole in subst P (sym (tail_is ns p)) (whole-drop p ns w)
 
-pub none_left : (ns : List Node) (p : ℕ) → length ns ≤ p → drop p ns ≡ []
-none_left [] zero h = refl
-none_left [] (suc p) h = refl
-none_left (n ∷ ns) zero h = absurd (omega arith)
-none_left (n ∷ ns) (suc p) h = none_left ns p (omega arith)
+pub nothing_left : {A : Type 0} (ns : List A) (p : ℕ) → length ns ≤ p → drop p ns ≡ []
+nothing_left [] zero h = refl
+nothing_left [] (suc p) h = refl
+nothing_left (n ∷ ns) zero h = absurd (omega arith)
+nothing_left (n ∷ ns) (suc p) h = nothing_left ns p (omega arith)
 
-module _ (rank : Sym → ℕ) (above : ℕ → ℕ → Type 0) (above_transitive : (x y z : ℕ) → above x y → above y z → above x z) (above_irreflexive : (x : ℕ) → above x x → ⊥) (represent : ℕ → ℕ) where
+module _ (ranks : List ℕ) (classes : Classes) where
+  abbrev rank : Sym → ℕ
+  rank = rank_of ranks
+
+  abbrev above : ℕ → ℕ → Type 0
+  above = IsHigher classes
+
+  abbrev represent : ℕ → ℕ
+  represent = representative classes
+
+  abbrev above_transitive : (x y z : ℕ) → above x y → above y z → above x z
+  above_transitive = higher_transitive classes
+
+  abbrev above_irreflexive : (x : ℕ) → above x x → ⊥
+  above_irreflexive = higher_irreflexive classes
+
+  pub answer_variables : (s t : List Node) (x y : ℕ) (P : Type 0) → tree_of s ≡ var x → tree_of t ≡ var y → (P ↔ above (represent x) (represent y)) → P ↔ PathOrder rank above (shown represent (tree_of s)) (shown represent (tree_of t))
+  answer_variables s t x y P e k a =
+      let d = two_variables rank above above_transitive above_irreflexive (represent x) (represent y) in
+      rw (e, k) (λ p. d.1 (a.0 p), λ l. a.1 (d.0 l))
+
+  pub never_below : (s t : List Node) (x : ℕ) (g : Sym) (ts : Trees) → tree_of s ≡ var x → tree_of t ≡ app g ts → PathOrder rank above (shown represent (tree_of s)) (shown represent (tree_of t)) → ⊥
+  never_below s t x g ts e k = rw (e, k) (variable_below rank above above_transitive above_irreflexive (represent x) g (shown_all represent ts))
+
   -- what `greater` answers
   module _ (f : Sym) (s t : List Node) (head : tree_of s ≡ app f (trees_of (drop 1 s))) (P : Type 0) where
     abbrev parts : Trees
@@ -71,7 +97,7 @@ module _ (rank : Sym → ℕ) (above : ℕ → ℕ → Type 0) (above_transitive
     exceeds_stop w h = (at_split w h).0
 
     pub exceeds_end : length ns ≤ p → Exceeds rank above s (shown_all represent (trees_of ns))
-    exceeds_end h = left.1 (let P : List Node → Type 0 = λ l. Exceeds rank above s (shown_all represent (trees_of l)) in subst P (sym (none_left ns p h)) no_more)
+    exceeds_end h = left.1 (let P : List Node → Type 0 = λ l. Exceeds rank above s (shown_all represent (trees_of l)) in subst P (sym (nothing_left ns p h)) no_more)
 
   module _ (t : Tree) (ns : List Node) (p e : ℕ) (left : SomeReaches rank above (shown_all represent (trees_of ns)) t ↔ SomeReaches rank above (shown_all represent (trees_of (drop p ns))) t) where
     abbrev Head : Tree
@@ -97,4 +123,4 @@ module _ (rank : Sym → ℕ) (above : ℕ → ℕ → Type 0) (above_transitive
     nothing (more u ts) q h = cc
 
     pub reaches_end : length ns ≤ p → SomeReaches rank above (shown_all represent (trees_of ns)) t → ⊥
-    reaches_end h q = nothing (shown_all represent (trees_of (drop p ns))) (ap (λ l. shown_all represent (trees_of l)) (none_left ns p h)) (left.0 q)
+    reaches_end h q = nothing (shown_all represent (trees_of (drop p ns))) (ap (λ l. shown_all represent (trees_of l)) (nothing_left ns p h)) (left.0 q)

@@ -5,3 +5,5 @@ pub mod Laws
 pub mod Binary
 pub mod Total
 pub mod WellFounded
+pub mod Ranks
+pub mod Higher

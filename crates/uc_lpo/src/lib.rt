@@ -1,4 +1,7 @@
 //! The lexicographic path order.
 #![tactic(auto)]
 
-pub fn nothing() {}
+mod compare;
+mod variables;
+
+pub use compare::greater;
