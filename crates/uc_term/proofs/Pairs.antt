@@ -100,7 +100,7 @@ domain_old ps x u xs e = rw (found_among ps x u e) refl
 pub domain_new : (ps : Pairs) (x : ℕ) (u : Tree) (xs : List ℕ) → found ps x ≡ None → domain (ps ++ (x, u) ∷ []) ++ firsts_after (domain (ps ++ (x, u) ∷ [])) xs ≡ domain ps ++ firsts_after (domain ps) (x ∷ xs)
 domain_new ps x u xs e =
     rw (map-append (λ (p : ℕ × Tree). p.0) ps ((x, u) ∷ []), found_not_among ps x e)
-      (append_assoc (domain ps) (x ∷ []) (firsts_after (domain ps ++ x ∷ []) xs) ∙ ap (λ l. domain ps ++ (x ∷ l)) (firsts_after-like (domain ps ++ x ∷ []) (x ∷ domain ps) like xs))
+    (append_assoc (domain ps) (x ∷ []) (firsts_after (domain ps ++ x ∷ []) xs) ∙ ap (λ l. domain ps ++ (x ∷ l)) (firsts_after-like (domain ps ++ x ∷ []) (x ∷ domain ps) like xs))
   where
     like : (y : ℕ) → is_among y (domain ps ++ x ∷ []) ≡ is_among y (x ∷ domain ps)
     like y = is_among-append y (domain ps) (x ∷ []) ∙ turn (is_among y (domain ps)) (y == x)
