@@ -1,5 +1,5 @@
 -- Tests on bytes and on texts: what the kinds of tokens, white space and comments are made of.
-use Rattle.std.specs.Prelude.{ℕ, ◌==◌, ◌&&◌, ◌||◌, ◌+◌, not, Bool, true, false, List, [], ◌∷◌, length, nat_le, if◌then◌else◌}
+use Rattle.std.specs.Prelude.{ℕ, ◌==◌, ◌&&◌, ◌||◌, ◌+◌, not, Bool, false, List, [], ◌∷◌, length, nat_le, if◌then◌else◌}
 use Rattle.std.specs.List.{list_all, prefix_len}
 
 abbrev pub between : ℕ → ℕ → ℕ → Bool

@@ -10,3 +10,5 @@ pub mod Items
 pub mod Meaning
 pub mod Refusals
 pub mod Reading
+pub mod First
+pub mod Pieces

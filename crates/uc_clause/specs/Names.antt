@@ -1,11 +1,11 @@
 -- What a token stands for, and how a name is spelled.
-use Rattle.std.specs.Prelude.{◌≡◌, ◌⊎◌, ℕ, ◌<◌, ◌==◌, ◌&&◌, ◌||◌, Bool, true, false, List, [], ◌∷◌, ◌++◌, length, if◌then◌else◌, MatchBool}
+use Rattle.std.specs.Prelude.{◌≡◌, ℕ, ◌<◌, ◌==◌, ◌||◌, true, List, [], ◌∷◌, ◌++◌, length, if◌then◌else◌, MatchBool}
 use Rattle.std.specs.List.{list_all}
 use Rattle.uc_clause.specs.declared.token.Kind.{Kind}
-use Rattle.uc_clause.specs.declared.token.Kind.TheVariants.{Lower, Upper, Quoted, Distinct, Integer, Dollar, Unequal, Mark}
+use Rattle.uc_clause.specs.declared.token.Kind.TheVariants.{Lower, Quoted, Integer}
 use Rattle.uc_clause.specs.declared.token.Token.{Token}
 use Rattle.uc_clause.specs.declared.clause.Name.{Name}
-use Rattle.uc_clause.specs.Bytes.{between, is_name, is_plain}
+use Rattle.uc_clause.specs.Bytes.{between, is_name}
 use Rattle.uc_clause.specs.Tokens.{spells, bytes_of}
 
 -- the bytes that pieces stand for, which the closing quote ends: behind a `\` the next byte stands for itself

@@ -7,7 +7,7 @@ use Rattle.uc_clause.specs.declared.token.Place.{Place}
 use Rattle.uc_clause.specs.declared.token.Token.{Token}
 use Rattle.uc_clause.specs.declared.fault.TokenFault.{TokenFault}
 use Rattle.uc_clause.specs.declared.fault.TokenFault.TheVariants.{Syntax, NoMemory}
-use Rattle.uc_clause.specs.Bytes.{is_upper, is_digit, is_sign, is_word, is_name, is_digits, is_mark, closes, is_gap, opens_block, in_line}
+use Rattle.uc_clause.specs.Bytes.{is_upper, is_sign, is_word, is_name, is_digits, is_mark, closes, is_gap, opens_block, in_line}
 
 -- how a token of each kind is spelled
 abbrev pub spells : Kind → List ℕ → Bool

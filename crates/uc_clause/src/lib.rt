@@ -2,14 +2,18 @@
 //! Library and Associated Infrastructure).
 #![tactic(auto)]
 
+mod bytes;
 mod clause;
 mod fault;
 mod grammar;
+mod lexer;
+mod quotes;
 mod terminal;
 mod token;
 
 pub use clause::{Clause, Include, Item, Name, Role, Sourced};
 pub use fault::{ClauseFault, TokenFault, What};
 pub use grammar::{Head, Stop, Why};
+pub use lexer::tokens;
 pub use terminal::{Terminal, terminal_at};
 pub use token::{Kind, Place, Token};
