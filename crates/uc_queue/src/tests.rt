@@ -1,0 +1,28 @@
+use crate::Passive;
+use std::test::Fail;
+
+// Six entries, two of one weight: the fifth draw goes by number, and what is put back is drawn again.
+#[test]
+fn each_fifth_by_number(rt: HostRuntime) -> Result<(), Fail> {
+    let mut queue = Passive::new(rt.alloc())?;
+    assert_eq!(rt; queue.peek(), None);
+    queue.reserve(rt.alloc(), 3)?;
+    queue.add(rt.alloc(), 9, 0)?;
+    queue.add(rt.alloc(), 5, 7)?;
+    queue.add(rt.alloc(), 5, 4)?;
+    queue.add(rt.alloc(), 8, 1)?;
+    queue.add(rt.alloc(), 3, 9)?;
+    queue.add(rt.alloc(), 7, 2)?;
+    assert_eq!(rt; queue.draw(), Some(9));
+    assert_eq!(rt; queue.draw(), Some(4));
+    assert_eq!(rt; queue.draw(), Some(7));
+    assert_eq!(rt; queue.draw(), Some(2));
+    assert_eq!(rt; queue.peek(), Some(0));
+    if let Some(number) = queue.draw() {
+        queue.back(9, number);
+    }
+    assert_eq!(rt; queue.draw(), Some(1));
+    assert_eq!(rt; queue.draw(), Some(0));
+    assert_eq!(rt; queue.draw(), None);
+    Ok(())
+}
