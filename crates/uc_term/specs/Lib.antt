@@ -13,3 +13,4 @@ pub mod Table
 pub mod Faults
 pub mod Keys
 pub mod Encoding
+pub mod Signatures
