@@ -10,6 +10,7 @@ pub mod Agree
 pub mod Moves
 pub mod Places
 pub mod Positions
+pub mod Ground
 pub mod Written
 pub mod Conversion
 pub mod Gets

@@ -1,7 +1,8 @@
 //! A term is a flat prefix list of at most 4,096 nodes, seen as a tree.
 
-ghost use Rattle.std.specs.Prelude.{◌≡◌, ℕ, ◌+◌, ◌<◌, ◌≤◌, ◌∷◌, [], length, drop, IfOk, IfErr, OnOk, IsTrue, ◌↔◌};
+ghost use Rattle.std.specs.Prelude.{◌≡◌, ℕ, ◌+◌, ◌<◌, ◌≤◌, ◌∷◌, [], length, drop, IfOk, IfErr, OnOk, IsTrue, ◌↔◌, false};
 ghost use Rattle.uc_term.specs.Tree.{var, app, of_list, nodes, subterm, put};
+ghost use Rattle.uc_term.specs.Variables.{has_variable};
 ghost use Rattle.uc_term.specs.Faults.{IsSizeFault, IsPutFault};
 ghost use Rattle.uc_term.specs.Flat.{flat, tree_of, IsWhole, AreWhole};
 
@@ -134,6 +135,25 @@ impl Term {
         all.extend_from_slice(middle)?;
         all.extend_from_slice(&list[to..])?;
         Ok(Term { list: all })
+    }
+
+    /// Whether the two terms are equal.
+    pub fn same(&self, other: &Term) -> bool
+        ensures { IsTrue result ↔ (self.now ≡ other.now) }
+    {
+        same_nodes(self.as_nodes(), other.as_nodes())
+    }
+
+    /// Whether no variable occurs in the term.
+    pub fn is_ground(&self) -> bool
+        ensures { IsTrue result ↔ (has_variable self.now ≡ false) }
+    {
+        for node in self.as_nodes() {
+            if let Node::Var(_) = node {
+                return false;
+            }
+        }
+        true
     }
 
     /// An equal term.
