@@ -1,0 +1,78 @@
+-- The problem that a library holds, and why it holds none.
+use Rattle.std.specs.Prelude.{ℕ, zero, suc, ◌≡◌, ◌+◌, Bool, true, false, List, [], ◌∷◌, slice_get, option_map, Option, Some, None, Result, Ok, Err, if◌then◌else◌}
+use Rattle.uc_term.specs.Tree.{Tree, nodes}
+use Rattle.uc_term.specs.Flat.{flat}
+use Rattle.uc_term.specs.declared.node.Node.TheVariants.{App}
+use Rattle.uc_term.specs.Table.{Table, name_of}
+use Rattle.uc_term.specs.Signatures.{IsSignatureOf, Gathers, occurrences_of}
+use Rattle.uc_term.specs.declared.node.Sym.{Sym}
+use Rattle.uc_term.specs.declared.node.Pos.{Pos}
+use Rattle.uc_term.specs.declared.fault.TermFault.TheVariants as of_terms
+use Rattle.uc_edge.specs.Files.{Files}
+use Rattle.uc_edge.specs.Faults.{Rose}
+use Rattle.uc_clause.specs.declared.token.Place.{Place}
+use Rattle.uc_clause.specs.declared.clause.Item.{Item}
+use Rattle.uc_clause.specs.declared.clause.Sourced.{Sourced}
+use Rattle.uc_clause.specs.declared.fault.ClauseFault.{ClauseFault}
+use Rattle.uc_clause.specs.declared.fault.What.TheVariants.{Symbols}
+use Rattle.uc_clause.specs.Reading.{ReadsFile, RefusesFile}
+use Rattle.uc_problem.specs.declared.fault.LoadFault.{LoadFault}
+use Rattle.uc_problem.specs.declared.fault.LoadFault.TheVariants as fault
+use Rattle.uc_problem.specs.declared.problem.Problem.{Problem}
+use Rattle.uc_problem.specs.Candidates.{folder_of}
+use Rattle.uc_problem.specs.Loading.{Counts, Loaded, LoadsProblem}
+
+-- what a file's text comes to with symbols in this table
+abbrev pub ReadsAs : Table → List ℕ → Result (List Item) ClauseFault → Type 0
+ReadsAs table bytes (Ok items) = ReadsFile bytes table items
+ReadsAs table bytes (Err why) = RefusesFile bytes why
+
+-- the flat list of a problem's clauses, or the refusal
+abbrev pub Flattens : Table → Files → Option (List ℕ) → List ℕ → Loaded → Type 0
+Flattens table files root name loaded = LoadsProblem (ReadsAs table) files (folder_of name) root name loaded
+
+-- the terms of clauses, in order, the left side first
+abbrev pub terms_of : List Sourced → List Tree
+terms_of [] = []
+terms_of (s ∷ ss) = s.clause.left ∷ s.clause.right ∷ terms_of ss
+
+-- the numbers of the clauses of this polarity, where the first has this number
+abbrev pub numbers_of : Bool → ℕ → List Sourced → List ℕ
+numbers_of positive n [] = []
+numbers_of true n (s ∷ ss) = if s.clause.positive then n ∷ numbers_of true (n + 1) ss else numbers_of true (n + 1) ss
+numbers_of false n (s ∷ ss) = if s.clause.positive then numbers_of false (n + 1) ss else n ∷ numbers_of false (n + 1) ss
+
+-- the library holds this problem under this name: its clauses in flat order, which are its axioms and which its goals, and its
+-- signature
+pub record Holds (table : Table) (files : Files) (root : Option (List ℕ)) (name : List ℕ) (problem : Problem) : Type 0 where
+  pub counts : Counts
+  pub flat : Flattens table files root name (Ok (problem.clauses, counts))
+  pub axioms : problem.axioms ≡ numbers_of true 0 problem.clauses
+  pub goals : problem.goals ≡ numbers_of false 0 problem.clauses
+  pub signature : IsSignatureOf table (terms_of problem.clauses) problem.signature
+  pub conjecture : problem.conjecture ≡ None
+
+-- the file and the place of a node of one of the terms, by the term's number and the node's
+abbrev pub located : List Sourced → ℕ → ℕ → Option (List ℕ × Place)
+located [] n node = None
+located (s ∷ ss) zero node = option_map (λ place. (s.file, place)) (slice_get s.clause.places node)
+located (s ∷ ss) (suc zero) node = option_map (λ place. (s.file, place)) (slice_get s.clause.places (nodes s.clause.left + node))
+located (s ∷ ss) (suc (suc n)) node = located ss n node
+
+-- the library holds no problem under this name, for this reason: the first in the order of loading, and at last the signature's
+pub data Refuses (table : Table) (files : Files) (root : Option (List ℕ)) (name : List ℕ) : LoadFault → Type 0 where
+  is_not_flat : {why : LoadFault} → Flattens table files root name (Err why) → Refuses table files root name why
+  has_clash : {clauses : List Sourced} {counts : Counts} {term first second n : ℕ} {pos : Pos} {t : Tree} {f : Sym} {file : List ℕ} {place : Place} → Flattens table files root name (Ok (clauses, counts)) → Gathers table [] (occurrences_of (terms_of clauses)) (Err (of_terms.ArityClash term pos first second)) → slice_get (terms_of clauses) term ≡ Some t → slice_get (flat t) pos.0 ≡ Some (App f n) → located clauses term pos.0 ≡ Some (file, place) → Refuses table files root name (fault.ArityClash file place (name_of table f) first second)
+  has_too_many : {clauses : List Sourced} {counts : Counts} {term : ℕ} {pos : Pos} {file : List ℕ} {place : Place} → Flattens table files root name (Ok (clauses, counts)) → Gathers table [] (occurrences_of (terms_of clauses)) (Err (of_terms.TooMany term pos)) → located clauses term pos.0 ≡ Some (file, place) → Refuses table files root name (fault.Limit file place Symbols)
+
+-- What a library may answer that tells its files or doesn't: the problem that it holds.
+abbrev pub IsProblem : Table → Option Files → Option (List ℕ) → List ℕ → Problem → Type 0
+IsProblem table None root name problem = Unit {0}
+IsProblem table (Some files) root name problem = Holds table files root name problem
+
+-- And why there is none: a fault of the library only where its count rose; want of memory is free.
+abbrev pub IsLoadFault : Table → Option Files → ℕ → ℕ → Option (List ℕ) → List ℕ → LoadFault → Type 0
+IsLoadFault table holds before now root name (fault.ReadFault file) = Rose before now
+IsLoadFault table holds before now root name fault.NoMemory = Unit {0}
+IsLoadFault table None before now root name why = Unit {0}
+IsLoadFault table (Some files) before now root name why = Refuses table files root name why
