@@ -1,5 +1,5 @@
 -- Substitutions that agree on the variables of a term.
-use Rattle.std.proofs.Common.{◌≡◌, ℕ, refl, sym, ap, ap₂, ◌∙◌}
+use Rattle.std.proofs.Common.{◌≡◌, ℕ, refl, ap, ap₂}
 use Rattle.uc_term.specs.Tree.{Tree, var, app, Trees, none, more, apply, apply_all}
 use Rattle.uc_term.specs.declared.node.Sym.{Sym}
 use Rattle.uc_term.specs.Variables.{Occurs, is_itself, in_args, OccursIn, in_first, in_later}

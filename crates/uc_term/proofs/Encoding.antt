@@ -1,6 +1,6 @@
 -- Terms without the encoding's symbols: true becomes p, false becomes q, eq(v, w) becomes p or q. All is shown on the way to
 -- one aim, which may be that some goal follows.
-use Rattle.std.proofs.Common.{◌≡◌, ◌≢◌, ℕ, zero, suc, ◌+◌, ◌<◌, ◌≤◌, ◌==◌, List, [], ◌∷◌, map, slice_get, Some, refl, sym, ap, subst, arith, ◌⊎◌, inl, inr, if◌then◌else◌, true, false}
+use Rattle.std.proofs.Common.{◌≡◌, ◌≢◌, ℕ, zero, suc, ◌+◌, ◌<◌, ◌≤◌, ◌==◌, List, ◌∷◌, map, slice_get, Some, refl, sym, subst, arith, ◌⊎◌, inl, inr, if◌then◌else◌, true, false}
 use Rattle.std.proofs.lemmas.Bool.Decides.{nat_tests}
 use Rattle.uc_term.specs.declared.node.Sym.{Sym}
 use Rattle.uc_term.specs.declared.fresh.Fresh.{Fresh}
@@ -8,9 +8,9 @@ use Rattle.uc_term.specs.declared.equation.Equation.{Equation}
 use Rattle.uc_term.specs.declared.equation.Side.{Side}
 use Rattle.uc_term.specs.declared.equation.Side.TheVariants.{Left, Right}
 use Rattle.uc_term.specs.Tree.{Tree, var, app, Trees, none, more, apply, apply_all}
-use Rattle.uc_term.specs.Within.{Within, at_root, under, WithinOne, at_first, at_later, Steps, stay, go_by}
+use Rattle.uc_term.specs.Within.{at_root, under, WithinOne, at_first, at_later, stay, go_by}
 use Rattle.uc_term.specs.Equations.{Sides}
-use Rattle.uc_term.specs.Conversion.{Turn, Step, Conv, Follows, SomeFollows}
+use Rattle.uc_term.specs.Conversion.{Turn, Step, Conv, SomeFollows}
 use Rattle.uc_term.specs.Encoding.{Part, ordinary, is_yes, is_no, is_eq, part, AreDistinct, Lacks, AllLack, LackAll, yes_term, no_term, pair_term, reflexive, refuted, encoded, HasGoal}
 use Rattle.uc_term.proofs.Terms.{apply-var}
 use Rattle.uc_term.proofs.Conversion.{Conv-refl, Conv-trans, Conv-turn, Conv-sym, AllConv, no_conv, one_conv, Conv-app, Conv-follows, equation_turn}

@@ -1,13 +1,13 @@
 -- Lists of terms one behind the other, and what stands at a place of whole terms.
-use Rattle.std.proofs.Common.{◌≡◌, ℕ, zero, suc, ◌+◌, ◌-◌, ◌<◌, ◌≤◌, List, [], ◌∷◌, ◌++◌, length, take, drop, get_or, refl, sym, ap, ap₂, ◌∙◌, subst, arith, append_assoc, append-nil, ◌⊎◌, inl, inr}
+use Rattle.std.proofs.Common.{◌≡◌, ℕ, zero, suc, ◌+◌, ◌<◌, ◌≤◌, List, [], ◌∷◌, ◌++◌, length, take, drop, get_or, refl, sym, ap, ap₂, ◌∙◌, subst, arith, append_assoc, append-nil, ◌⊎◌, inl, inr}
 use Rattle.std.proofs.Math.ListN.{drop_of_length-le}
 use Rattle.uc_term.specs.declared.node.Sym.{Sym}
 use Rattle.uc_term.specs.declared.node.Node.{Node}
 use Rattle.uc_term.specs.declared.node.Node.TheVariants.{Var, App}
 use Rattle.uc_term.specs.Tree.{Tree, var, app, Trees, none, more, of_list, count, apply, apply_all}
-use Rattle.uc_term.specs.Flat.{flat, flat_all, spelled, trees_of, AreWhole, tree_of, IsWhole}
+use Rattle.uc_term.specs.Flat.{flat, spelled, trees_of, AreWhole, tree_of, IsWhole}
 use Rattle.uc_term.specs.Variables.{variables, variables_all}
-use Rattle.uc_term.proofs.Terms.{whole-drop, whole_one, trees_of-flat_all}
+use Rattle.uc_term.proofs.Terms.{whole-drop, trees_of-flat_all}
 use Rattle.uc_term.proofs.Ahead.{join, drop-at}
 
 pub apply_all-join : (σ : ℕ → Tree) (ts us : Trees) → apply_all σ (join ts us) ≡ join (apply_all σ ts) (apply_all σ us)

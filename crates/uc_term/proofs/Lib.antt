@@ -18,3 +18,4 @@ pub mod Encoding
 pub mod Firsts
 pub mod Pairs
 pub mod Joins
+pub mod NodeVars

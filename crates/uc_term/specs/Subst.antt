@@ -1,7 +1,9 @@
 -- Substitutions as lists of pairs of a variable and its term. The first pair of a variable counts.
 use Rattle.std.specs.Prelude.{ℕ, ◌==◌, ◌≡◌, List, [], ◌∷◌, map, Option, Some, None, unwrap_or, if◌then◌else◌}
 use Rattle.std.specs.Coded.{Coded, coded_list, coded_ℕ, coded×}
-use Rattle.uc_term.specs.Tree.{Tree, var}
+use Rattle.uc_term.specs.declared.node.Node.{Node}
+use Rattle.uc_term.specs.declared.node.Node.TheVariants.{Var, App}
+use Rattle.uc_term.specs.Tree.{Tree, var, nodes}
 use Rattle.uc_term.specs.Code.{tree_code}
 
 abbrev pub pairs_code : Coded (List (ℕ × Tree))
@@ -22,3 +24,8 @@ domain ps = map (λ p. p.0) ps
 -- the substitution gives each variable that has a pair the term of its pair
 abbrev pub Agrees : (ℕ → Tree) → List (ℕ × Tree) → Type 0
 Agrees σ ps = (x : ℕ) (t : Tree) → found ps x ≡ Some t → σ x ≡ t
+
+-- how many nodes a node of a term's flat list becomes in the term's instance
+abbrev pub image_nodes : (ℕ → Tree) → Node → ℕ
+image_nodes σ (Var x) = nodes (σ x)
+image_nodes σ (App f n) = 1

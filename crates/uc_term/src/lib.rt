@@ -18,6 +18,7 @@ mod symbols;
 mod term;
 mod text;
 mod var_order;
+mod variables;
 
 pub use equation::{Equation, Side};
 pub use fault::TermFault;
@@ -26,7 +27,7 @@ pub use laws::{encoding_adds_nothing, encoding_decides_goals};
 pub use node::{Node, Pos, Sym};
 pub use seq::Seq;
 pub use signature::Signature;
-pub use subst::{Subst, instance};
+pub use subst::{Subst, instance, instance_size};
 pub use symbols::Symbols;
 pub use term::{MAX_INSTANCE, MAX_NODES, Term, end_of, same_nodes};
 pub use text::Text;

@@ -1,11 +1,12 @@
 //! Substitutions and instances.
 
-ghost use Rattle.std.specs.Prelude.{◌≡◌, ℕ, ◌+◌, ◌*◌, ◌<◌, ◌≤◌, ◌∷◌, ◌++◌, [], length, IfOk, OnErr, MatchOption};
+ghost use Rattle.std.specs.Prelude.{◌≡◌, ℕ, ◌+◌, ◌*◌, ◌<◌, ◌≤◌, ◌∷◌, ◌++◌, [], length, IfOk, IfErr, OnOk, OnErr, MatchOption};
 ghost use Rattle.uc_term.specs.Tree.{apply, nodes};
-ghost use Rattle.uc_term.specs.Subst.{found, image};
+ghost use Rattle.uc_term.specs.Subst.{found, image, image_nodes};
 ghost use Rattle.uc_term.specs.Flat.{flat, tree_of, IsWhole};
+ghost use Rattle.uc_term.specs.Faults.{IsSizeFault};
 
-use crate::{MAX_NODES, Node, Term};
+use crate::{MAX_NODES, Node, Term, TermFault};
 use std::alloc::{AllocError, Global};
 use std::marker::Model;
 
@@ -77,4 +78,47 @@ pub fn instance(alloc: Global, pattern: &[Node], subst: &Subst) -> Result<Vec<No
         }
     }
     Ok(all)
+}
+
+/// How many nodes the pattern's instance has. It takes no memory.
+pub fn instance_size(pattern: &[Node], subst: &Subst) -> usize
+    requires whole { IsWhole pattern.now }
+    requires small { length pattern.now ≤ MAX_NODES }
+    ensures { result ≡ nodes (apply (image subst.now) (tree_of pattern.now)) }
+{
+    let mut size = 0;
+    for n in pattern {
+        size += image_size(*n, subst);
+    }
+    size
+}
+
+/// How many nodes a node becomes.
+#[inline]
+fn image_size(node: Node, subst: &Subst) -> usize
+    ensures size { result ≡ image_nodes (image subst.now) node }
+    ensures small { result ≤ MAX_NODES }
+{
+    match node {
+        Node::Var(x) => match subst.get(x) {
+            Some(t) => t.nodes() as usize,
+            None => 1,
+        },
+        Node::App(_, _) => 1,
+    }
+}
+
+impl Term {
+    /// The term's instance. `TooLarge` comes exactly where it would have more than 4,096 nodes; nothing is built then.
+    pub fn apply(&self, alloc: Global, subst: &Subst) -> Result<Term, TermFault>
+        ensures ok { IfOk result (λ t. t ≡ apply (image subst.now) self.now) }
+        ensures small { OnOk result (nodes (apply (image subst.now) self.now) ≤ MAX_NODES) }
+        ensures err { IfErr result (IsSizeFault (apply (image subst.now) self.now)) }
+    {
+        let pattern = self.as_nodes();
+        if instance_size(pattern, subst) > MAX_NODES {
+            return Err(TermFault::TooLarge);
+        }
+        Ok(Term::from_nodes(instance(alloc, pattern, subst)?))
+    }
 }

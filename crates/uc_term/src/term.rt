@@ -94,6 +94,10 @@ impl Term {
     pub fn as_nodes(&self) -> &[Node]
         ensures value { result.now ≡ flat self.now }
         ensures small { nodes self.now ≤ MAX_NODES }
+        // what follows for the list itself
+        ensures whole { IsWhole result.now }
+        ensures short { length result.now ≤ MAX_NODES }
+        ensures tree { tree_of result.now ≡ self.now }
     {
         self.list.as_slice()
     }
