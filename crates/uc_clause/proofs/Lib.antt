@@ -5,3 +5,4 @@ pub mod Longest
 pub mod QuotedAt
 pub mod Dollars
 pub mod BlockLemmas
+pub mod Unescaping

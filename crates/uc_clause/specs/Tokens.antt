@@ -81,6 +81,10 @@ IsRefused text NoMemory = Unit {0}
 abbrev pub bytes_of : List ℕ → Token → List ℕ
 bytes_of text t = slice_range text t.from t.to
 
+-- the token is one or more bytes of the text
+abbrev pub IsWithin : List ℕ → Token → Type 0
+IsWithin text t = (t.from < t.to) × (t.to ≤ length text)
+
 -- From this byte on the tokens stand one behind the other in the text, each with its kind's spelling, in its place.
 abbrev pub Spans : List ℕ → ℕ → List Token → Type 0
 Spans text at [] = Unit {0}

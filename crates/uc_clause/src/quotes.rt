@@ -1,8 +1,12 @@
 // Where a quoted text and a block comment close.
 
-ghost use Rattle.std.specs.Prelude.{◌≡◌, ◌⊎◌, ◌+◌, ◌<◌, ◌≤◌, ℕ, IfSome, IfNone, length, take, true, false, IsTrue, ◌↔◌, slice_index};
+ghost use Rattle.std.specs.Prelude.{◌≡◌, ◌⊎◌, ◌+◌, ◌<◌, ◌≤◌, ℕ, IfSome, IfNone, length, take, true, false, IsTrue, ◌↔◌, slice_index, IfOk, ◌==◌, if◌then◌else◌};
 ghost use Rattle.uc_clause.specs.Bytes.{closes, ends_block};
+ghost use Rattle.uc_clause.specs.Names.{unescaped};
 ghost use Rattle.uc_clause.specs.Pieces.{IsPiece};
+
+use std::alloc::{AllocError, Global};
+use uc_term::Text;
 
 // How many bytes there are up to and with the closing quote.
 pub(crate) fn closing(text: &[u8], quote: u8) -> Option<usize>
@@ -83,4 +87,28 @@ fn closes_at(text: &[u8], at: usize) -> bool
     ensures { IsTrue result ↔ ((slice_index text.now at ≡ 42) × (slice_index text.now (at + 1) ≡ 47)) }
 {
     text[at] == b'*' && text[at + 1] == b'/'
+}
+
+// The bytes that pieces with a quote behind them stand for.
+pub(crate) fn unescaped(alloc: Global, pieces: &[u8]) -> Result<Text, AllocError>
+    ensures { IfOk result (λ text. text ≡ unescaped pieces.now) }
+{
+    let mut out = Text::new(alloc);
+    let mut at = 0;
+    while at + 1 < pieces.len() {
+        let from = plain_at(pieces, at);
+        out.push(pieces[from])?;
+        at = from + 1;
+    }
+    Ok(out)
+}
+
+// Where the byte is that the piece here stands for.
+#[inline]
+fn plain_at(pieces: &[u8], at: usize) -> usize
+    requires { at + 1 < length pieces.now }
+    ensures value { result ≡ (if slice_index pieces.now at == 92 then at + 1 else at) }
+    ensures within { result ≤ at + 1 }
+{
+    if pieces[at] == b'\\' { at + 1 } else { at }
 }
