@@ -1,5 +1,6 @@
 -- Members of lists.
-use Rattle.std.specs.Prelude.{List, [], ◌∷◌}
+use Rattle.std.specs.Prelude.{ℕ, ◌==◌, List, [], ◌∷◌, count_by}
+use Rattle.uc_term.specs.declared.node.Sym.{Sym}
 
 -- x is one of them
 pub data In {A : Type 0} : List A → A → Type 0 where
@@ -30,3 +31,7 @@ pub data IsFirst {A : Type 0} (P : A → Type 0) : List A → A → Type 0 where
 abbrev pub AreDistinct : {A : Type 0} → List A → Type 0
 AreDistinct [] = Unit {0}
 AreDistinct (x ∷ xs) = (In xs x → ⊥) × AreDistinct xs
+
+-- how often the symbol stands in the list
+abbrev pub times : Sym → List Sym → ℕ
+times f fs = count_by (λ g. g.0 == f.0) fs

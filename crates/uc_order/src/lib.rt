@@ -8,11 +8,13 @@ mod classes;
 mod completeness;
 mod listing;
 mod order;
+mod precedence;
 mod spec;
 
 pub use classes::{class_of, represent, represent_node, representative};
 pub use completeness::{each_once, exactly_one};
 pub use listing::var_orders;
 pub use order::{Cmp, Order};
+pub use precedence::check_precedence;
 pub use spec::{OrderFault, OrderSpec};
 pub use uc_term::VarOrder;
