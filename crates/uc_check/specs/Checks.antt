@@ -1,5 +1,5 @@
 -- What the checker answers.
-use Rattle.std.specs.Prelude.{ℕ, ◌≡◌, ◌<◌, ◌+◌, ◌⊎◌, List, [], length, slice_get, Option, Some, None}
+use Rattle.std.specs.Prelude.{ℕ, ◌≡◌, ◌<◌, ◌+◌, List, [], length, slice_get, Option, Some, None}
 use Rattle.uc_term.specs.declared.fresh.Fresh.{Fresh}
 use Rattle.uc_clause.specs.declared.clause.Sourced.{Sourced}
 use Rattle.uc_check.specs.declared.proof.Line.{Line}
@@ -9,6 +9,14 @@ use Rattle.uc_check.specs.declared.check.Checked.{Checked}
 use Rattle.uc_check.specs.declared.check.Checked.TheVariants.{Accepted, Rejected}
 use Rattle.uc_check.specs.Replacements.{IsRefutation}
 use Rattle.uc_check.specs.Lines.{Tested}
+
+-- the last line is a refute line
+pub record EndsInRefutation (lines : List Line) : Type 0 where
+  pub last : ℕ
+  pub last_is : last + 1 ≡ length lines
+  pub line : Line
+  pub line_is : slice_get lines last ≡ Some line
+  pub refutes : IsRefutation line.source
 
 module _ (clauses : List Sourced) (fresh : Option Fresh) (lines : List Line) where
   -- line k passes each of its tests
@@ -31,17 +39,9 @@ module _ (clauses : List Sourced) (fresh : Option Fresh) (lines : List Line) whe
   FirstFailure None = AreRightBefore (length lines)
   FirstFailure (Some failure) = FailsFirst failure.0 failure.1
 
-  -- the last line is a refute line
-  pub record EndsInRefutation : Type 0 where
-    pub last : ℕ
-    pub last_is : last + 1 ≡ length lines
-    pub line : Line
-    pub line_is : slice_get lines last ≡ Some line
-    pub refutes : IsRefutation line.source
-
   -- all lines are right, and the last one refutes a goal; or the first line that fails, and else the last line
   pub data IsChecked : Checked → Type 0 where
-    accepted : AreRightBefore (length lines) → EndsInRefutation → IsChecked Accepted
+    accepted : AreRightBefore (length lines) → EndsInRefutation lines → IsChecked Accepted
     rejected : {k : ℕ} {cause : Cause} → FailsFirst k cause → IsChecked (Rejected (Some k) cause)
     no_line : lines ≡ [] → IsChecked (Rejected None NoGoal)
-    no_refutation : {last : ℕ} → AreRightBefore (length lines) → last + 1 ≡ length lines → (EndsInRefutation → ⊥) → IsChecked (Rejected (Some last) NoGoal)
+    no_refutation : {last : ℕ} → AreRightBefore (length lines) → last + 1 ≡ length lines → (EndsInRefutation lines → ⊥) → IsChecked (Rejected (Some last) NoGoal)

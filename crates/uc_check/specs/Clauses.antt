@@ -1,9 +1,8 @@
 -- The equations that clauses say and deny.
-use Rattle.std.specs.Prelude.{ℕ, List, [], ◌∷◌, Bool, ◌||◌, if◌then◌else◌, ◌≡◌, slice_get, Option, Some, None}
+use Rattle.std.specs.Prelude.{ℕ, List, [], ◌∷◌, if◌then◌else◌, ◌≡◌, slice_get, Option, Some, None}
 use Rattle.uc_term.specs.declared.equation.Equation.{Equation}
 use Rattle.uc_term.specs.declared.fresh.Fresh.{Fresh}
-use Rattle.uc_term.specs.Variables.{has_variable}
-use Rattle.uc_term.specs.Encoding.{AreDistinct, Lacks, encoded}
+use Rattle.uc_term.specs.Encoding.{AreDistinct, Lacks, encoded, HasGoal}
 use Rattle.uc_clause.specs.declared.clause.Clause.{Clause}
 use Rattle.uc_clause.specs.declared.clause.Sourced.{Sourced}
 
@@ -21,26 +20,22 @@ abbrev pub goals_of : List Sourced → List Equation
 goals_of [] = []
 goals_of (s ∷ ss) = if s.clause.positive then goals_of ss else equation_of s.clause ∷ goals_of ss
 
--- some variable occurs in a side
-abbrev pub is_open : Equation → Bool
-is_open e = has_variable e.left || has_variable e.right
-
--- the goals that have a variable, in order
-abbrev pub open_of : List Equation → List Equation
-open_of [] = []
-open_of (e ∷ es) = if is_open e then e ∷ open_of es else open_of es
-
 -- the encoding's symbols occur in no clause
 abbrev pub LackInClauses : Fresh → List Sourced → Type 0
 LackInClauses fresh clauses = (i : ℕ) (s : Sourced) → slice_get clauses i ≡ Some s → Lacks fresh s.clause.left × Lacks fresh s.clause.right
 
--- the equations by which a proof may argue: the axioms, and where the problem is encoded, its goals with variables as
+-- the equations by which a proof may argue: the axioms, and where the problem is encoded, eq(X,X) = true and its goals as
 -- equations
 abbrev pub premises_of : Option Fresh → List Sourced → List Equation
 premises_of None clauses = axioms_of clauses
-premises_of (Some fresh) clauses = encoded fresh (axioms_of clauses) (open_of (goals_of clauses))
+premises_of (Some fresh) clauses = encoded fresh (axioms_of clauses) (goals_of clauses)
 
 -- the encoding's symbols, where there are some, are three and occur in no clause
 abbrev pub AreFresh : Option Fresh → List Sourced → Type 0
 AreFresh None clauses = Unit {0}
 AreFresh (Some fresh) clauses = AreDistinct fresh × LackInClauses fresh clauses
+
+-- where the problem is encoded, it has a goal
+abbrev pub HasGoalIfEncoded : Option Fresh → List Sourced → Type 0
+HasGoalIfEncoded None clauses = Unit {0}
+HasGoalIfEncoded (Some fresh) clauses = HasGoal (goals_of clauses)

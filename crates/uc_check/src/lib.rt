@@ -5,7 +5,9 @@
 #![tactic(auto)]
 
 mod check;
+mod laws;
 mod proof;
 
 pub use check::{Cause, Checked};
+pub use laws::{lines_follow, one_answer, refutation_follows};
 pub use proof::{Line, LineSource, LineStep, Proof};
