@@ -4,3 +4,4 @@ pub mod Shown
 pub mod Fronts
 pub mod Passes
 pub mod Classes
+pub mod Same

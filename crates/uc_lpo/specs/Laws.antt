@@ -3,31 +3,32 @@
 use Rattle.std.proofs.Common.{◌≡◌, ℕ, zero, suc, ◌+◌, ◌<◌, ◌≤◌, refl, sym, ap, subst, arith}
 use Rattle.uc_term.specs.declared.node.Sym.{Sym}
 use Rattle.uc_term.specs.Tree.{Tree, app, Trees, none, more, apply, apply_all, nodes, nodes_all}
+use Rattle.uc_term.specs.Variables.{Occurs, is_itself, in_args, OccursIn, in_first, in_later}
 use Rattle.uc_term.specs.Within.{Within, at_root, under, WithinOne, at_first, at_later}
 use Rattle.uc_term.proofs.Terms.{nodes_pos}
 use Rattle.uc_lpo.specs.PathOrder.{PathOrder, by_variables, by_argument, by_head, by_arguments, SomeReaches, is_it, is_greater, a_later, Exceeds, no_more, one_more, FirstGreater, differ, agree}
 
--- what is greater is greater in every instance in which the terms of variables are as the variables were
-module _ (rank : Sym → ℕ) (above below : ℕ → ℕ → Type 0) (σ : ℕ → Tree) (respects : (x y : ℕ) → above x y → PathOrder rank below (σ x) (σ y)) where
+-- what is greater is greater in every instance in which the terms of the variables are as these were
+module _ (rank : Sym → ℕ) (above below : ℕ → ℕ → Type 0) (Known : ℕ → Type 0) (σ : ℕ → Tree) (respects : (x y : ℕ) → Known x → Known y → above x y → PathOrder rank below (σ x) (σ y)) where
   mutual
-    pub PathOrder-apply : {s t : Tree} → PathOrder rank above s t → PathOrder rank below (apply σ s) (apply σ t)
-    PathOrder-apply (by_variables {x = x} {y = y} a) = respects x y a
-    PathOrder-apply (by_argument h) = by_argument (SomeReaches-apply h)
-    PathOrder-apply (by_head r h) = by_head r (Exceeds-apply h)
-    PathOrder-apply (by_arguments h d) = by_arguments (Exceeds-apply h) (FirstGreater-apply d)
+    pub PathOrder-apply : {s t : Tree} → ((x : ℕ) → Occurs x s → Known x) → ((x : ℕ) → Occurs x t → Known x) → PathOrder rank above s t → PathOrder rank below (apply σ s) (apply σ t)
+    PathOrder-apply ks kt (by_variables {x = x} {y = y} a) = respects x y (ks x is_itself) (kt y is_itself) a
+    PathOrder-apply ks kt (by_argument h) = by_argument (SomeReaches-apply (λ x i. ks x (in_args i)) kt h)
+    PathOrder-apply ks kt (by_head r h) = by_head r (Exceeds-apply ks (λ x i. kt x (in_args i)) h)
+    PathOrder-apply ks kt (by_arguments h d) = by_arguments (Exceeds-apply ks (λ x i. kt x (in_args i)) h) (FirstGreater-apply (λ x i. ks x (in_args i)) (λ x i. kt x (in_args i)) d)
 
-    SomeReaches-apply : {ss : Trees} {t : Tree} → SomeReaches rank above ss t → SomeReaches rank below (apply_all σ ss) (apply σ t)
-    SomeReaches-apply is_it = is_it
-    SomeReaches-apply (is_greater h) = is_greater (PathOrder-apply h)
-    SomeReaches-apply (a_later h) = a_later (SomeReaches-apply h)
+    SomeReaches-apply : {ss : Trees} {t : Tree} → ((x : ℕ) → OccursIn x ss → Known x) → ((x : ℕ) → Occurs x t → Known x) → SomeReaches rank above ss t → SomeReaches rank below (apply_all σ ss) (apply σ t)
+    SomeReaches-apply ks kt is_it = is_it
+    SomeReaches-apply ks kt (is_greater h) = is_greater (PathOrder-apply (λ x i. ks x (in_first i)) kt h)
+    SomeReaches-apply ks kt (a_later h) = a_later (SomeReaches-apply (λ x i. ks x (in_later i)) kt h)
 
-    Exceeds-apply : {s : Tree} {ts : Trees} → Exceeds rank above s ts → Exceeds rank below (apply σ s) (apply_all σ ts)
-    Exceeds-apply no_more = no_more
-    Exceeds-apply (one_more h hs) = one_more (PathOrder-apply h) (Exceeds-apply hs)
+    Exceeds-apply : {s : Tree} {ts : Trees} → ((x : ℕ) → Occurs x s → Known x) → ((x : ℕ) → OccursIn x ts → Known x) → Exceeds rank above s ts → Exceeds rank below (apply σ s) (apply_all σ ts)
+    Exceeds-apply ks kt no_more = no_more
+    Exceeds-apply ks kt (one_more h hs) = one_more (PathOrder-apply ks (λ x i. kt x (in_first i)) h) (Exceeds-apply ks (λ x i. kt x (in_later i)) hs)
 
-    FirstGreater-apply : {ss ts : Trees} → FirstGreater rank above ss ts → FirstGreater rank below (apply_all σ ss) (apply_all σ ts)
-    FirstGreater-apply (differ h) = differ (PathOrder-apply h)
-    FirstGreater-apply (agree d) = agree (FirstGreater-apply d)
+    FirstGreater-apply : {ss ts : Trees} → ((x : ℕ) → OccursIn x ss → Known x) → ((x : ℕ) → OccursIn x ts → Known x) → FirstGreater rank above ss ts → FirstGreater rank below (apply_all σ ss) (apply_all σ ts)
+    FirstGreater-apply ks kt (differ h) = differ (PathOrder-apply (λ x i. ks x (in_first i)) (λ x i. kt x (in_first i)) h)
+    FirstGreater-apply ks kt (agree d) = agree (FirstGreater-apply (λ x i. ks x (in_later i)) (λ x i. kt x (in_later i)) d)
 
 module _ (rank : Sym → ℕ) (above : ℕ → ℕ → Type 0) where
   -- a term is greater than each of its arguments

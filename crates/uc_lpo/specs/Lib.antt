@@ -7,3 +7,5 @@ pub mod Total
 pub mod WellFounded
 pub mod Ranks
 pub mod Higher
+pub mod Places
+pub mod Meaning

@@ -13,6 +13,7 @@ ghost use Rattle.uc_lpo.specs.Heads.{SameHead, IsLower, IsPassed};
 ghost use Rattle.uc_lpo.specs.Ranks.{rank_of};
 
 use crate::variables::{are_alike, is_above};
+use uc_order::Cmp;
 use uc_term::{MAX_INSTANCE, Node, Seq, Sym, end_of};
 
 // The rank of a symbol, by its number: 0 past the table's end.
@@ -52,9 +53,30 @@ fn is_passed(ranks: &[u32], n: Node, m: Node) -> bool
     }
 }
 
-/// Whether s is greater than t, where variables stand in these classes, the least first.
+/// How two terms compare, where variables stand in these classes, the least first.
+pub fn compare(ranks: &[u32], classes: &[Seq<u32>], s: &[Node], t: &[Node]) -> Cmp
+    requires s_whole { IsWhole s.now }
+    requires t_whole { IsWhole t.now }
+    requires s_small { length s.now ≤ MAX_INSTANCE }
+    requires t_small { length t.now ≤ MAX_INSTANCE }
+    ensures greater { (result ≡ Cmp.Greater) ↔ PathOrder (rank_of ranks.now) (IsHigher classes.now) (shown (representative classes.now) (tree_of s.now)) (shown (representative classes.now) (tree_of t.now)) }
+    ensures less { (result ≡ Cmp.Less) ↔ PathOrder (rank_of ranks.now) (IsHigher classes.now) (shown (representative classes.now) (tree_of t.now)) (shown (representative classes.now) (tree_of s.now)) }
+    ensures equal { (result ≡ Cmp.Equal) ↔ (shown (representative classes.now) (tree_of s.now) ≡ shown (representative classes.now) (tree_of t.now)) }
+{
+    if are_alike(classes, s, t) {
+        Cmp::Equal
+    } else if greater(ranks, classes, s, t) {
+        Cmp::Greater
+    } else if greater(ranks, classes, t, s) {
+        Cmp::Less
+    } else {
+        Cmp::Unknown
+    }
+}
+
+// Whether s is greater than t, where variables stand in these classes, the least first.
 #[cycle(path)]
-pub fn greater(ranks: &[u32], classes: &[Seq<u32>], s: &[Node], t: &[Node]) -> bool
+fn greater(ranks: &[u32], classes: &[Seq<u32>], s: &[Node], t: &[Node]) -> bool
     requires s_whole { IsWhole s.now }
     requires t_whole { IsWhole t.now }
     requires s_small { length s.now ≤ MAX_INSTANCE }

@@ -2,6 +2,7 @@
 #![tactic(auto)]
 
 mod compare;
+mod path_order;
 mod variables;
 
-pub use compare::greater;
+pub use path_order::Lpo;
