@@ -1,0 +1,56 @@
+//! Writing an answer.
+
+ghost use Rattle.std.specs.Prelude.{◌≡◌, ◌≤◌, ℕ, List};
+ghost use Rattle.std.specs.List.{flat_map};
+ghost use Rattle.uc_edge.specs.Pieces.{IsPut};
+ghost use Rattle.uc_top.specs.Lines.{joined, memory_line};
+ghost use Rattle.uc_top.specs.Told.{IsTold};
+
+use uc_edge::{Sink, WriteFault, put};
+use uc_term::{Seq, Text};
+
+/// An answer: its status, and its lines, each with its line feed.
+#[derive(Drop)]
+pub(crate) struct Answer {
+    pub status: u8,
+    pub lines: Seq<Text>,
+}
+
+const MEMORY_OUT: &[u8] = b"% SZS status MemoryOut\n";
+
+const WRITE_FAULT: u8 = 6;
+
+const WANT_OF_MEMORY: u8 = 7;
+
+// Writes lines one by one.
+fn put_lines<S: Sink>(sink: &mut S, lines: &[Text]) -> Result<(), WriteFault>
+    ensures put { IsPut (S.written sink.old) (S.written sink.new) (S.faults sink.old) (S.faults sink.new) (joined lines.now) result }
+    ensures later { S.faults sink.old ≤ S.faults sink.new }
+{
+    for line in lines {
+        put(sink, line.as_bytes())?;
+    }
+    Ok(())
+}
+
+// Tells an answer.
+pub(crate) fn tell<S: Sink>(sink: &mut S, answer: &Answer) -> u8
+    ensures told { IsTold (S.written sink.old) (S.written sink.new) (S.faults sink.old) (S.faults sink.new) (joined answer.now.lines) answer.now.status result }
+    ensures later { S.faults sink.old ≤ S.faults sink.new }
+{
+    match put_lines(sink, answer.lines.as_slice()) {
+        Ok(()) => answer.status,
+        Err(WriteFault) => WRITE_FAULT,
+    }
+}
+
+// Tells that memory is wanted. It takes none.
+pub(crate) fn tell_memory_out<S: Sink>(sink: &mut S) -> u8
+    ensures told { IsTold (S.written sink.old) (S.written sink.new) (S.faults sink.old) (S.faults sink.new) memory_line 7 result }
+    ensures later { S.faults sink.old ≤ S.faults sink.new }
+{
+    match put(sink, MEMORY_OUT) {
+        Ok(()) => WANT_OF_MEMORY,
+        Err(WriteFault) => WRITE_FAULT,
+    }
+}
