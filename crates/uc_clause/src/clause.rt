@@ -1,5 +1,7 @@
 //! What a file gives: clauses and includes.
 
+ghost use Rattle.std.specs.Prelude.{◌≡◌, ◌↔◌, IsTrue};
+
 use crate::Place;
 use uc_term::{Seq, Term, Text};
 
@@ -8,6 +10,15 @@ use uc_term::{Seq, Term, Text};
 pub struct Name {
     pub text: Text,
     pub integer: bool,
+}
+
+impl Name {
+    /// Whether the two names are equal: both words or both integers, of the same bytes.
+    pub fn same(&self, other: &Name) -> bool
+        ensures { IsTrue result ↔ (self.now ≡ other.now) }
+    {
+        self.integer == other.integer && self.text.same(&other.text)
+    }
 }
 
 /// What a clause is for.
