@@ -6,3 +6,5 @@ pub mod QuotedAt
 pub mod Dollars
 pub mod BlockLemmas
 pub mod Unescaping
+pub mod Printing
+pub mod Spelling

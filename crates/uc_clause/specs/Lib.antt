@@ -1,6 +1,8 @@
 pub mod Bytes
 pub mod Tokens
 pub mod Names
+pub mod Printing
+pub mod Marks
 pub mod Faults
 pub mod Terminals
 pub mod Rules

@@ -1,0 +1,8 @@
+use Rattle.std.proofs.Common.{◌++◌, drop, reverse}
+use Rattle.uc_term.specs.Flat.{spelled}
+use Rattle.uc_clause.specs.Printing.{term_text}
+use Rattle.uc_clause.proofs.Printing.{Ahead}
+use Rattle.uc_clause.proofs.printer.write_term.Given as goal
+
+abbrev pub invariant-loop-node : goal.invariant-loop-node
+invariant-loop-node l = Ahead l.symbols (reverse l.pending.items) (spelled (drop l.node-index l.nodes)) l.out (l.fn.out ++ term_text l.symbols l.term)
