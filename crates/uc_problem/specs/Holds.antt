@@ -20,7 +20,8 @@ use Rattle.uc_problem.specs.declared.fault.LoadFault.{LoadFault}
 use Rattle.uc_problem.specs.declared.fault.LoadFault.TheVariants as fault
 use Rattle.uc_problem.specs.declared.problem.Problem.{Problem}
 use Rattle.uc_problem.specs.Candidates.{folder_of}
-use Rattle.uc_problem.specs.Loading.{Counts, Loaded, LoadsProblem}
+use Rattle.uc_problem.specs.declared.counts.Counts.{Counts}
+use Rattle.uc_problem.specs.Loading.{Loaded, LoadsProblem}
 
 -- what a file's text comes to with symbols in this table
 abbrev pub ReadsAs : Table → List ℕ → Result (List Item) ClauseFault → Type 0

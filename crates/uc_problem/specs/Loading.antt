@@ -1,7 +1,7 @@
 -- What loading a problem comes to, file by file and item by item, by the files that the library holds.
 use Rattle.std.specs.Prelude.{ℕ, ◌≡◌, ◌<◌, ◌≤◌, ◌+◌, ◌==◌, ◌&&◌, Bool, true, false, List, [], ◌∷◌, ◌++◌, filter, Option, Some, None, Result, Ok, Err, if◌then◌else◌}
 use Rattle.std.specs.List.{list_any}
-use Rattle.std.specs.Str.{bytes_eq}
+use Rattle.std.specs.Str.{bytes_eq, is_utf8}
 use Rattle.uc_edge.specs.Files.{Files, content}
 use Rattle.uc_clause.specs.declared.token.Place.{Place}
 use Rattle.uc_clause.specs.declared.clause.Name.{Name}
@@ -14,7 +14,12 @@ use Rattle.uc_clause.specs.declared.fault.ClauseFault.{ClauseFault}
 use Rattle.uc_clause.specs.declared.fault.What.TheVariants.{Clauses, Files as FileCount}
 use Rattle.uc_problem.specs.declared.fault.LoadFault.{LoadFault}
 use Rattle.uc_problem.specs.declared.fault.LoadFault.TheVariants as fault
+use Rattle.uc_problem.specs.declared.counts.Counts.{Counts}
 use Rattle.uc_problem.specs.Candidates.{candidates}
+
+-- The content of a name, where the library holds it. A library is asked by texts, so a name that isn't UTF-8 names nothing.
+abbrev pub held : Files → List ℕ → Option (List ℕ)
+held files name = if is_utf8 name then content files name else None
 
 -- the first of these names that the library holds, with its content
 abbrev pub held_or : List ℕ → Option (List ℕ) → Option (List ℕ × List ℕ) → Option (List ℕ × List ℕ)
@@ -23,12 +28,7 @@ held_or name None later = later
 
 abbrev pub first_held : Files → List (List ℕ) → Option (List ℕ × List ℕ)
 first_held files [] = None
-first_held files (name ∷ names) = held_or name (content files name) (first_held files names)
-
--- how many clauses and how many included files there were so far
-pub record Counts : Type 0 where
-  pub clauses : ℕ
-  pub files : ℕ
+first_held files (name ∷ names) = held_or name (held files name) (first_held files names)
 
 abbrev pub same_bool : Bool → Bool → Bool
 same_bool true b = b

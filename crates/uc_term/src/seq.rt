@@ -47,6 +47,13 @@ impl<T> Seq<T> {
         self.items.as_slice()
     }
 
+    /// The items as a vector.
+    pub fn into_vec(self) -> Vec<T>
+        ensures { result.items ≡ self }
+    {
+        self.items
+    }
+
     /// How many items there are.
     pub fn len(&self) -> usize
         ensures { result ≡ length self.now }
@@ -70,5 +77,14 @@ impl<T: Drop> Seq<T> {
     {
         self.items.push(item)?;
         Ok(())
+    }
+
+    /// Puts the items of another sequence at the end. For want of memory they are dropped and this sequence stays.
+    pub fn append(&mut self, more: Seq<T>) -> Result<(), AllocError>
+        ensures ok { IfOk result (λ _. self.new ≡ self.old ++ more) }
+        ensures err { OnErr result (self.new ≡ self.old) }
+    {
+        let mut items = more.into_vec();
+        self.items.append(&mut items)
     }
 }
