@@ -14,11 +14,14 @@ use Rattle.uc_queue.proofs.Members.{IsDistinct, resorted, new_any_order, pushed_
 next_by_key : (q : Queue) → next q ≡ least (before (key_of q.draws)) q.waiting
 next_by_key q = elim (cases_Bool (q.draws == 4)) [ inl b ↦ rw b refl | inr b ↦ rw b refl ]
 
-pub read_at : (es : List Entry) (i : ℕ) (e : Entry) → i < length es → e ≡ get_or es i e → slice_get es i ≡ Some e
-read_at es i e h v = slice_get_read es (length es) i e refl h v
+-- the entry at a place of a list that was lent
+pub lent_at : (es rs : List Entry) (i : ℕ) (e : Entry) → rs ≡ es → i < length rs → e ≡ get_or es i e → slice_get es i ≡ Some e
+lent_at es rs i e same h v = slice_get_read es (length es) i e refl (subst (λ xs. i < length xs) same h) v
 
-pub named : (q : Queue) (es : List Entry) (slot : ℕ) (e : Entry) → q.waiting ≡ by_number es → slice_get es slot ≡ least (before (key_of q.draws)) (by_number es) → slice_get es slot ≡ Some e → Some e.number ≡ option_map (λ e. e.number) (next q)
-named q es slot e w l got =
+-- the least entry's number is what the next draw names
+pub named : (q : Queue) (es rs : List Entry) (slot : ℕ) (e : Entry) → q.waiting ≡ by_number es → rs ≡ es → slice_get rs slot ≡ least (before (key_of q.draws)) (by_number rs) → slice_get es slot ≡ Some e → Some e.number ≡ option_map (λ e. e.number) (next q)
+named q es rs slot e w same f got =
+    let l : slice_get es slot ≡ least (before (key_of q.draws)) (by_number es) = subst (λ xs. slice_get xs slot ≡ least (before (key_of q.draws)) (by_number xs)) same f in
     let h : next q ≡ Some e = next_by_key q ∙ (ap (λ xs. least (before (key_of q.draws)) xs) w ∙ (sym l ∙ got)) in
     rw h refl
 

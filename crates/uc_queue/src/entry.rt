@@ -3,12 +3,17 @@
 ghost use Rattle.std.specs.Prelude.{◌≡◌};
 ghost use Rattle.uc_queue.specs.Trees.{before, key_of, loses};
 
+use std::mem::size_of;
+
 /// What waits: a number, with its weight.
 #[derive(Clone, Copy, Debug, PartialEq, Eq)]
 pub struct Entry {
     pub weight: u32,
     pub number: u64,
 }
+
+// with its two places in the trees, of four bytes each, an entry takes 24
+const _: () = prove!(size_of::<Entry>() <= 16);
 
 #[derive(Clone, Copy)]
 pub(crate) enum Key {

@@ -122,7 +122,7 @@ impl Passive {
         })
     }
 
-    /// Makes room for at least this many more entries.
+    /// Makes room for at least this many more entries. It answers want of memory only where there is less room, and the queue is then as before.
     pub fn reserve(&mut self, alloc: Global, more: u32) -> Result<(), AllocError>
         ensures waiting { self.new.waiting ≡ self.old.waiting }
         ensures draws { self.new.draws ≡ self.old.draws }
@@ -145,7 +145,7 @@ impl Passive {
         Ok(())
     }
 
-    /// Lets a number wait, with its weight.
+    /// Lets a number wait, with its weight. It answers want of memory only where there is no room, and the queue is then as before.
     pub fn add(&mut self, alloc: Global, weight: u32, number: u64) -> Result<(), AllocError>
         requires { IsNew number self.old.waiting }
         ensures added { OnOk result (self.new.waiting ≡ with_entry (record { weight = weight; number = number }) self.old.waiting) }
@@ -176,7 +176,9 @@ impl Passive {
     /// The number that the next draw takes; none where nothing waits.
     pub fn peek(&self) -> Option<u64>
         ensures next { result ≡ option_map (λ e. e.number) (next self.now) }
+        // of every queue
         ensures rising { RisesFrom 0 self.now.waiting }
+        ensures modulo { self.now.draws < 5 }
     {
         match next_slot(self.draws, &self.entries, &self.lightest, &self.earliest) {
             Some(slot) => Some(self.entries[slot].number),

@@ -8,7 +8,7 @@ use Rattle.uc_queue.specs.Trees.{before, key_of}
 use Rattle.uc_queue.specs.View.{queue_of}
 use Rattle.uc_queue.specs.Queue.{Queue, next, least, without, by_number}
 use Rattle.uc_queue.proofs.Members.{IsDistinct, taken_out, taken_away, rest_distinct}
-use Rattle.uc_queue.proofs.Queues.{named, read_at, right_again}
+use Rattle.uc_queue.proofs.Queues.{named, lent_at, right_again}
 use Rattle.uc_queue.proofs.passive.Passive.draw.Goals as goal
 
 pub next_slot-requires-clause-distinct : goal.next_slot-requires-clause-distinct
@@ -16,9 +16,8 @@ next_slot-requires-clause-distinct c = subst IsDistinct (sym c.deref.ensures.val
 
 pub invariant_of-self : goal.invariant_of-self
 invariant_of-self c =
-    let at : (c.in_ok-slot.slot < length c.deref.result.now) × (slice_get c.deref.result.now c.in_ok-slot.slot ≡ least (before (key_of c.self.inside.draws)) (by_number c.deref.result.now)) = c.in_ok-slot.ensures in
-    let h : c.in_ok-slot.slot < length c.self.inside.entries.items = subst (λ es. c.in_ok-slot.slot < length es) c.deref.ensures.value at.0 in
-    let got : slice_get c.self.inside.entries.items c.in_ok-slot.slot ≡ Some c.index.result.now = read_at c.self.inside.entries.items c.in_ok-slot.slot c.index.result.now h c.index.ensures in
+    let found : (c.in_ok-slot.slot < length c.deref.result.now) × (slice_get c.deref.result.now c.in_ok-slot.slot ≡ least (before (key_of c.self.inside.draws)) (by_number c.deref.result.now)) = c.in_ok-slot.ensures in
+    let got : slice_get c.self.inside.entries.items c.in_ok-slot.slot ≡ Some c.index.result.now = lent_at c.self.inside.entries.items c.deref.result.now c.in_ok-slot.slot c.index.result.now c.deref.ensures.value found.0 c.index.ensures in
     let same : length c.remove.new.earliest ≡ length c.remove.new.lightest = c.remove.ensures.right.same in
     let before : length c.self.inside.earliest.items ≡ length c.self.inside.lightest.items = c.self.invariant.right.same in
     let l : (with_items c.self.inside.lightest c.remove.new.lightest).items ≡ c.remove.new.lightest = with_items_is c.self.inside.lightest c.remove.new.lightest (omega arith) in
@@ -32,25 +31,21 @@ invariant_of-self c =
 
 pub returns-clause-next : goal.returns-clause-next
 returns-clause-next c =
-    let at : (c.in_ok-slot.slot < length c.deref.result.now) × (slice_get c.deref.result.now c.in_ok-slot.slot ≡ least (before (key_of c.self.inside.draws)) (by_number c.deref.result.now)) = c.in_ok-slot.ensures in
-    let l : slice_get c.self.inside.entries.items c.in_ok-slot.slot ≡ least (before (key_of c.self.inside.draws)) (by_number c.self.inside.entries.items) = subst (λ es. slice_get es c.in_ok-slot.slot ≡ least (before (key_of c.self.inside.draws)) (by_number es)) c.deref.ensures.value at.1 in
-    let h : c.in_ok-slot.slot < length c.self.inside.entries.items = subst (λ es. c.in_ok-slot.slot < length es) c.deref.ensures.value at.0 in
-    let got : slice_get c.self.inside.entries.items c.in_ok-slot.slot ≡ Some c.index.result.now = read_at c.self.inside.entries.items c.in_ok-slot.slot c.index.result.now h c.index.ensures in
-    subst (λ (q : Queue). Some c.index.result.now.number ≡ option_map (λ (e : Entry). e.number) (next q)) c.self.view_is (named (queue_of c.self.inside) c.self.inside.entries.items c.in_ok-slot.slot c.index.result.now refl l got)
+    let found : (c.in_ok-slot.slot < length c.deref.result.now) × (slice_get c.deref.result.now c.in_ok-slot.slot ≡ least (before (key_of c.self.inside.draws)) (by_number c.deref.result.now)) = c.in_ok-slot.ensures in
+    let got : slice_get c.self.inside.entries.items c.in_ok-slot.slot ≡ Some c.index.result.now = lent_at c.self.inside.entries.items c.deref.result.now c.in_ok-slot.slot c.index.result.now c.deref.ensures.value found.0 c.index.ensures in
+    subst (λ (q : Queue). Some c.index.result.now.number ≡ option_map (λ (e : Entry). e.number) (next q)) c.self.view_is (named (queue_of c.self.inside) c.self.inside.entries.items c.deref.result.now c.in_ok-slot.slot c.index.result.now refl c.deref.ensures.value found.1 got)
 
 pub returns-clause-taken : goal.returns-clause-taken
 returns-clause-taken c =
-    let at : (c.in_ok-slot.slot < length c.deref.result.now) × (slice_get c.deref.result.now c.in_ok-slot.slot ≡ least (before (key_of c.self.inside.draws)) (by_number c.deref.result.now)) = c.in_ok-slot.ensures in
-    let h : c.in_ok-slot.slot < length c.self.inside.entries.items = subst (λ es. c.in_ok-slot.slot < length es) c.deref.ensures.value at.0 in
-    let got : slice_get c.self.inside.entries.items c.in_ok-slot.slot ≡ Some c.index.result.now = read_at c.self.inside.entries.items c.in_ok-slot.slot c.index.result.now h c.index.ensures in
+    let found : (c.in_ok-slot.slot < length c.deref.result.now) × (slice_get c.deref.result.now c.in_ok-slot.slot ≡ least (before (key_of c.self.inside.draws)) (by_number c.deref.result.now)) = c.in_ok-slot.ensures in
+    let got : slice_get c.self.inside.entries.items c.in_ok-slot.slot ≡ Some c.index.result.now = lent_at c.self.inside.entries.items c.deref.result.now c.in_ok-slot.slot c.index.result.now c.deref.ensures.value found.0 c.index.ensures in
     subst (λ (q : Queue). by_number c.remove.new.entries.items ≡ without c.index.result.now.number q.waiting) c.self.view_is
     (taken_out c.index.result.now c.self.inside.entries.items c.remove.new.entries.items (c.remove.ensures.taken c.index.result.now got) c.self.invariant.distinct)
 
 pub returns-clause-gone : goal.returns-clause-gone
 returns-clause-gone c =
-    let at : (c.in_ok-slot.slot < length c.deref.result.now) × (slice_get c.deref.result.now c.in_ok-slot.slot ≡ least (before (key_of c.self.inside.draws)) (by_number c.deref.result.now)) = c.in_ok-slot.ensures in
-    let h : c.in_ok-slot.slot < length c.self.inside.entries.items = subst (λ es. c.in_ok-slot.slot < length es) c.deref.ensures.value at.0 in
-    let got : slice_get c.self.inside.entries.items c.in_ok-slot.slot ≡ Some c.index.result.now = read_at c.self.inside.entries.items c.in_ok-slot.slot c.index.result.now h c.index.ensures in
+    let found : (c.in_ok-slot.slot < length c.deref.result.now) × (slice_get c.deref.result.now c.in_ok-slot.slot ≡ least (before (key_of c.self.inside.draws)) (by_number c.deref.result.now)) = c.in_ok-slot.ensures in
+    let got : slice_get c.self.inside.entries.items c.in_ok-slot.slot ≡ Some c.index.result.now = lent_at c.self.inside.entries.items c.deref.result.now c.in_ok-slot.slot c.index.result.now c.deref.ensures.value found.0 c.index.ensures in
     taken_away c.index.result.now c.self.inside.entries.items c.remove.new.entries.items (c.remove.ensures.taken c.index.result.now got) c.self.invariant.distinct
 
 pub returns-clause-room : goal.returns-clause-room
