@@ -1,6 +1,6 @@
 // One state a pair, in a list by the pairs' numbers.
 
-ghost use Rattle.std.specs.Prelude.{◌≡◌, ◌+◌, ◌-◌, ◌<◌, ◌≤◌, [], ◌++◌, length, IfOk, MatchResult, OnOk, OnErr};
+ghost use Rattle.std.specs.Prelude.{◌≡◌, ◌+◌, ◌-◌, ◌<◌, ◌≤◌, [], ◌++◌, length, IfOk, IsTrue, ◌↔◌, MatchResult, OnOk, OnErr};
 ghost use Rattle.std.specs.List.{slice_get};
 ghost use Rattle.uc_ledger.specs.declared.ledger.State.TheVariants.{Waiting, Out, Done, Orphan};
 ghost use Rattle.uc_ledger.specs.Entries.{Turns, StaysAs};
@@ -112,6 +112,20 @@ impl Ledger {
         ensures { result ≡ slice_get self.now.states number }
     {
         self.states.get(number as usize).copied()
+    }
+
+    /// How many pairs were met, which is the next pair's number.
+    pub fn len(&self) -> usize
+        ensures { result ≡ length self.now.states }
+    {
+        self.states.len()
+    }
+
+    /// Whether no pair was met.
+    pub fn is_empty(&self) -> bool
+        ensures { IsTrue result ↔ (self.now.states ≡ []) }
+    {
+        self.states.is_empty()
     }
 
     // the one way in which a pair's state changes

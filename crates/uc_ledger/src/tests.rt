@@ -5,6 +5,7 @@ use std::test::Fail;
 #[test]
 fn one_state_a_pair(rt: HostRuntime) -> Result<(), Fail> {
     let mut ledger = Ledger::new(rt.alloc())?;
+    assert!(rt; ledger.is_empty());
     ledger.reserve(rt.alloc(), 2)?;
     ledger.meet(rt.alloc(), &[State::Waiting, State::Large, State::Waiting])?;
     assert!(rt; ledger.take(0, 7).is_ok());
@@ -23,5 +24,6 @@ fn one_state_a_pair(rt: HostRuntime) -> Result<(), Fail> {
     assert!(rt; matches!(ledger.take(1, 0), Err(NotThere(Some(State::Large)))));
     assert!(rt; matches!(ledger.take(3, 0), Err(NotThere(None))));
     assert_eq!(rt; ledger.state(3), None);
+    assert_eq!(rt; ledger.len(), 3);
     Ok(())
 }

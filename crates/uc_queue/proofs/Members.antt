@@ -213,3 +213,14 @@ one_entry (p ∷ ps) a b d here (there j) e = absurd (d.0 b j e)
 one_entry (p ∷ ps) a b d (there i) here e = absurd (d.0 a i (sym e))
 one_entry (p ∷ ps) a b d (there i) (there j) e = one_entry ps a b d.1 i j e
 one_entry [] a b d i j e = elim i [ ]
+
+length_with : (e : Entry) (es : List Entry) → length (with_entry e es) ≡ length es + 1
+length_with e [] = omega arith
+length_with e (p ∷ ps) = elim (cases_Bool (nat_lt e.number p.number)) as (λ _. length (cond (nat_lt e.number p.number) (e ∷ p ∷ ps) (p ∷ with_entry e ps)) ≡ length (p ∷ ps) + 1) [
+  | inl b ↦ rw b (omega arith)
+  | inr b ↦ rw b (let h : length (with_entry e ps) ≡ length ps + 1 = length_with e ps in omega arith)
+]
+
+pub length_by_number : (es : List Entry) → length (by_number es) ≡ length es
+length_by_number [] = refl
+length_by_number (e ∷ es) = let h : length (by_number es) ≡ length es = length_by_number es in let k : length (with_entry e (by_number es)) ≡ length (by_number es) + 1 = length_with e (by_number es) in omega arith

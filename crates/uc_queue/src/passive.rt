@@ -1,6 +1,6 @@
 // The queue: what waits in a list in no order, with a winner tree for each of the two keys.
 
-ghost use Rattle.std.specs.Prelude.{◌≡◌, ℕ, ◌+◌, ◌-◌, ◌*◌, ◌%◌, ◌^◌, ◌<◌, ◌≤◌, [], ◌∷◌, ◌++◌, length, vec_len, vec_capacity, Some, IfOk, OnOk, OnErr, IfSome, IfNone, MatchOption, option_map};
+ghost use Rattle.std.specs.Prelude.{◌≡◌, ℕ, ◌+◌, ◌-◌, ◌*◌, ◌%◌, ◌^◌, ◌<◌, ◌≤◌, [], ◌∷◌, ◌++◌, length, vec_len, vec_capacity, IsTrue, ◌↔◌, Some, IfOk, OnOk, OnErr, IfSome, IfNone, MatchOption, option_map};
 ghost use Rattle.std.specs.List.{slice_get};
 ghost use Rattle.std.specs.List.Sorted.{IsPermutation};
 ghost use Rattle.uc_queue.specs.declared.entry.Entry.{Entry};
@@ -171,6 +171,20 @@ impl Passive {
         let slot = self.entries.len();
         push_within(&mut self.entries, Entry { weight, number });
         mend_both(&self.entries, &mut self.lightest, &mut self.earliest, slot);
+    }
+
+    /// How many numbers wait.
+    pub fn len(&self) -> usize
+        ensures { result ≡ length self.now.waiting }
+    {
+        self.entries.len()
+    }
+
+    /// Whether nothing waits.
+    pub fn is_empty(&self) -> bool
+        ensures { IsTrue result ↔ (self.now.waiting ≡ []) }
+    {
+        self.len() == 0
     }
 
     /// The number that the next draw takes; none where nothing waits.

@@ -6,6 +6,7 @@ use std::test::Fail;
 fn each_fifth_by_number(rt: HostRuntime) -> Result<(), Fail> {
     let mut queue = Passive::new(rt.alloc())?;
     assert_eq!(rt; queue.peek(), None);
+    assert!(rt; queue.is_empty());
     queue.reserve(rt.alloc(), 3)?;
     queue.add(rt.alloc(), 9, 0)?;
     queue.add(rt.alloc(), 5, 7)?;
@@ -13,6 +14,7 @@ fn each_fifth_by_number(rt: HostRuntime) -> Result<(), Fail> {
     queue.add(rt.alloc(), 8, 1)?;
     queue.add(rt.alloc(), 3, 9)?;
     queue.add(rt.alloc(), 7, 2)?;
+    assert_eq!(rt; queue.len(), 6);
     assert_eq!(rt; queue.draw(), Some(9));
     assert_eq!(rt; queue.draw(), Some(4));
     assert_eq!(rt; queue.draw(), Some(7));
