@@ -10,6 +10,8 @@ mod lexer;
 mod printer;
 mod quotes;
 mod terminal;
+#[cfg(test)]
+mod text_tests;
 mod token;
 
 pub use clause::{Clause, Include, Item, Name, Role, Sourced};
