@@ -8,3 +8,4 @@ pub mod BlockLemmas
 pub mod Unescaping
 pub mod Printing
 pub mod Spelling
+pub mod Joined

@@ -7,7 +7,7 @@ use Rattle.std.proofs.lemmas.List.{drop_all}
 use Rattle.uc_clause.specs.Bytes.{closes}
 use Rattle.uc_clause.specs.Pieces.{IsPlain}
 
-plain_step : (q b : ℕ) (ys : List ℕ) → (b ≡ q → ⊥) → (b ≡ 92 → ⊥) → 32 ≤ b → b ≤ 126 → closes q (b ∷ ys) ≡ closes q ys
+pub plain_step : (q b : ℕ) (ys : List ℕ) → (b ≡ q → ⊥) → (b ≡ 92 → ⊥) → 32 ≤ b → b ≤ 126 → closes q (b ∷ ys) ≡ closes q ys
 plain_step q b [] nq nb low high = grind (arith, nat_tests)
 plain_step q b (c ∷ ys) nq nb low high = grind (arith, nat_tests)
 
