@@ -1,0 +1,4 @@
+pub mod Number
+pub mod Table
+pub mod Forms
+pub mod Lines
