@@ -5,6 +5,8 @@ mod command;
 mod digits;
 mod form;
 mod line;
+mod names;
+mod read;
 
 mod table;
 

@@ -139,7 +139,7 @@ pub fn line_of(alloc: Global, verb: Verb, words: &[String]) -> Result<Line, Word
 }
 
 // Whether an option was given.
-fn stands(key: Key, given: &[(Key, Text)]) -> bool
+pub fn stands(key: Key, given: &[(Key, Text)]) -> bool
     ensures { result ≡ stands key given.now }
 {
     given.iter().any(|g| same(g.0, key))
