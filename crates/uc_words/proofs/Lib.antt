@@ -4,3 +4,4 @@ pub mod Quotes
 pub mod Lists
 pub mod Weights
 pub mod Refusals
+pub mod Only

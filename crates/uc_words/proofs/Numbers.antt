@@ -27,13 +27,13 @@ pub read_from-is : (n : ℕ) (digits : List ℕ) → n < 2 ^ 32 → read_from n 
 read_from-is n [] h = rw (lt-ltb _ _ h) refl
 read_from-is n (digit ∷ digits) h = by_digit n digit digits (is_ascii_digit digit) refl (nat_lt (append_digit n digit) (2 ^ 32)) refl (λ g. read_from-is (append_digit n digit) digits g)
   where
-  by_digit : (n digit : ℕ) (digits : List ℕ) (is : Bool) → is_ascii_digit digit ≡ is → (fits : Bool) → nat_lt (append_digit n digit) (2 ^ 32) ≡ fits
-    → (append_digit n digit < 2 ^ 32 → read_from (append_digit n digit) digits ≡ whole (list_all is_ascii_digit digits && nat_lt (value_from (append_digit n digit) digits) (2 ^ 32)) (value_from (append_digit n digit) digits))
-    → read_from n (digit ∷ digits) ≡ whole (list_all is_ascii_digit (digit ∷ digits) && nat_lt (value_from n (digit ∷ digits)) (2 ^ 32)) (value_from n (digit ∷ digits))
-  by_digit n digit digits false e fits f more = rw e refl
-  by_digit n digit digits true e true f more = rw (e, f) (more (ltb-true _ _ f))
-  by_digit n digit digits true e false f more = let past : 2 ^ 32 ≤ value_from (append_digit n digit) digits = omega (arith, ltb-false _ _ f, grows (append_digit n digit) digits) in
-    rw (e, f, and_false (list_all is_ascii_digit digits) _ (le-ltb (value_from (append_digit n digit) digits) (2 ^ 32) past)) refl
+    by_digit : (n digit : ℕ) (digits : List ℕ) (is : Bool) → is_ascii_digit digit ≡ is → (fits : Bool) → nat_lt (append_digit n digit) (2 ^ 32) ≡ fits
+        → (append_digit n digit < 2 ^ 32 → read_from (append_digit n digit) digits ≡ whole (list_all is_ascii_digit digits && nat_lt (value_from (append_digit n digit) digits) (2 ^ 32)) (value_from (append_digit n digit) digits))
+        → read_from n (digit ∷ digits) ≡ whole (list_all is_ascii_digit (digit ∷ digits) && nat_lt (value_from n (digit ∷ digits)) (2 ^ 32)) (value_from n (digit ∷ digits))
+    by_digit n digit digits false e fits f more = rw e refl
+    by_digit n digit digits true e true f more = rw (e, f) (more (ltb-true _ _ f))
+    by_digit n digit digits true e false f more = let past : 2 ^ 32 ≤ value_from (append_digit n digit) digits = omega (arith, ltb-false _ _ f, grows (append_digit n digit) digits) in
+        rw (e, f, and_false (list_all is_ascii_digit digits) _ (le-ltb (value_from (append_digit n digit) digits) (2 ^ 32) past)) refl
 
 -- what was read of a word of 1 to 10 bytes is its number
 pub number_of-is : (word : List ℕ) (read : Option ℕ) → 0 < length word → length word ≤ 10 → read_from 0 word ≡ read → read ≡ number_of word

@@ -32,7 +32,7 @@ said_of d (Some t) = t
 
 -- the words are clean, and their items stand for a command or for none
 pub stands_for : (words : List (String Global)) (v : Verb) (line : Line) (result : Result Command WordsFault) → list_all (λ word. is_clean (string_bytes word)) words ≡ true → says (map string_bytes words) ≡ Some (v, line)
-  → Told (IsCommand v line) result → Told (Reads (map string_bytes words)) result
+    → Told (IsCommand v line) result → Told (Reads (map string_bytes words)) result
 stands_for words v line (Ok command) clean said h = record { clean = all_map words ∙ clean; said = (v, line); says = said; is = h }
 stands_for words v line (Err NoMemory) clean said h = tt
 stands_for words v line (Err Usage) clean said h = λ command r.

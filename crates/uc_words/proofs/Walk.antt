@@ -28,32 +28,32 @@ follows verb words (Some t) old new next h = rw (h.0, h.1) (onto_onto old t.0 (l
 
 -- the word at place i is read
 at_place : (verb : Verb) (words : List (String Global)) (i : ℕ) (d : String Global) (old new : Line) (expects next : Expects)
-  → i < length words → Turns old new (turn verb expects (string_bytes (get_or words i d))) (Ok next)
-  → onto old (line_of verb expects (map string_bytes (drop i words))) ≡ onto new (line_of verb next (map string_bytes (drop (suc i) words)))
+    → i < length words → Turns old new (turn verb expects (string_bytes (get_or words i d))) (Ok next)
+    → onto old (line_of verb expects (map string_bytes (drop i words))) ≡ onto new (line_of verb next (map string_bytes (drop (suc i) words)))
 at_place verb [] i d old new expects next h e = absurd (omega arith)
 at_place verb (word ∷ words) zero d old new expects next h e = follows verb (map string_bytes words) (turn verb expects (string_bytes word)) old new next e
 at_place verb (word ∷ words) (suc i) d old new expects next h e = at_place verb words i d old new expects next (omega arith) e
 
 pub goes_on : (verb : Verb) (words : List (String Global)) (i : ℕ) (d : String Global) (old new : Line) (expects next : Expects)
-  → i < length words → Turns old new (turn verb expects (string_bytes (get_or words i d))) (Ok next)
-  → onto old (line_of verb expects (map string_bytes (drop i words))) ≡ onto new (line_of verb next (map string_bytes (drop (i + 1) words)))
+    → i < length words → Turns old new (turn verb expects (string_bytes (get_or words i d))) (Ok next)
+    → onto old (line_of verb expects (map string_bytes (drop i words))) ≡ onto new (line_of verb next (map string_bytes (drop (i + 1) words)))
 goes_on verb words i d old new expects next h e = let s : i + 1 ≡ suc i = omega arith in rw s (at_place verb words i d old new expects next h e)
 
 -- the word at place i has no reading
 refused : (verb : Verb) (words : List (String Global)) (i : ℕ) (d : String Global) (expects : Expects) (old : Line)
-  → i < length words → turn verb expects (string_bytes (get_or words i d)) ≡ None
-  → onto old (line_of verb expects (map string_bytes (drop i words))) ≡ None
+    → i < length words → turn verb expects (string_bytes (get_or words i d)) ≡ None
+    → onto old (line_of verb expects (map string_bytes (drop i words))) ≡ None
 refused verb [] i d expects old h e = absurd (omega arith)
 refused verb (word ∷ words) zero d expects old h e = ap (λ o. onto old (followed verb (map string_bytes words) o)) e
 refused verb (word ∷ words) (suc i) d expects old h e = refused verb words i d expects old (omega arith) e
 
 pub stops : (verb : Verb) (words : List (String Global)) (i : ℕ) (d : String Global) (old new : Line) (expects : Expects) (fault : WordsFault) (whole : Option Line)
-  → i < length words → Turns old new (turn verb expects (string_bytes (get_or words i d))) (Err fault)
-  → onto old (line_of verb expects (map string_bytes (drop i words))) ≡ whole
-  → Gives whole (Err fault)
+    → i < length words → Turns old new (turn verb expects (string_bytes (get_or words i d))) (Err fault)
+    → onto old (line_of verb expects (map string_bytes (drop i words))) ≡ whole
+    → Gives whole (Err fault)
 stops verb words i d old new expects NoMemory whole h e w = tt
 stops verb words i d old new expects Usage whole h e w = by_turn (turn verb expects (string_bytes (get_or words i d))) refl e
   where
-  by_turn : (o : Option (Line × Expects)) → turn verb expects (string_bytes (get_or words i d)) ≡ o → Turns old new o (Err Usage) → whole ≡ None
-  by_turn None is _ = sym w ∙ refused verb words i d expects old h is
-  by_turn (Some t) is g = cc
+    by_turn : (o : Option (Line × Expects)) → turn verb expects (string_bytes (get_or words i d)) ≡ o → Turns old new o (Err Usage) → whole ≡ None
+    by_turn None is _ = sym w ∙ refused verb words i d expects old h is
+    by_turn (Some t) is g = cc

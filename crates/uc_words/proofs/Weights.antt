@@ -17,15 +17,15 @@ front : (t : List ℕ × List ℕ) (name behind : List ℕ) → name ≡ t.0 →
 front t name behind e f = rw (e, f) refl
 
 pub weighs : (text : List ℕ) (o : Option (List ℕ × List ℕ)) (name : List ℕ) (middle : ℕ) (weight : List ℕ × ℕ) (end : ℕ) → Parsed text o (Ok (name, middle))
-  → Parsed (drop middle text) (weight_behind (Some (name, drop middle text))) (Ok (weight, end)) → Parsed text (weight_behind o) (Ok (weight, middle + end))
+    → Parsed (drop middle text) (weight_behind (Some (name, drop middle text))) (Ok (weight, end)) → Parsed text (weight_behind o) (Ok (weight, middle + end))
 weighs text None name middle weight end h g = absurd h
-weighs text (Some t) name middle weight end h g = 
+weighs text (Some t) name middle weight end h g =
     let P : Option ((List ℕ × ℕ) × List ℕ) → Type 0 = λ o. Parsed (drop middle text) o (Ok (weight, end)) in
     farther text middle weight end (weight_behind (Some t)) h.1 (subst P (ap weight_behind (front t name (drop middle text) h.0 h.2)) g)
 
 pub weighs_nothing : (text : List ℕ) (o : Option (List ℕ × List ℕ)) (name : List ℕ) (middle : ℕ) (fault : WordsFault) → Parsed text o (Ok (name, middle))
-  → Parsed {X = List ℕ × ℕ} (drop middle text) (weight_behind (Some (name, drop middle text))) (Err fault) → Parsed {X = List ℕ × ℕ} text (weight_behind o) (Err fault)
+    → Parsed {X = List ℕ × ℕ} (drop middle text) (weight_behind (Some (name, drop middle text))) (Err fault) → Parsed {X = List ℕ × ℕ} text (weight_behind o) (Err fault)
 weighs_nothing text None name middle fault h g = tt
-weighs_nothing text (Some t) name middle fault h g = 
+weighs_nothing text (Some t) name middle fault h g =
     let P : Option ((List ℕ × ℕ) × List ℕ) → Type 0 = λ o. Parsed {X = List ℕ × ℕ} (drop middle text) o (Err fault) in
     same_fault text (drop middle text) fault (weight_behind (Some t)) (subst P (ap weight_behind (front t name (drop middle text) h.0 h.2)) g)

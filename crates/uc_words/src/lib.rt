@@ -7,8 +7,10 @@ mod form;
 mod line;
 mod names;
 mod read;
-
 mod table;
+#[cfg(test)]
+mod tests;
 
 pub use command::{Command, OrderWords, Verb, WordsFault};
 pub use digits::number;
+pub use read::read_words;

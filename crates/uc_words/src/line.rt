@@ -79,12 +79,7 @@ fn take_word(
 }
 
 // Takes the word that begins an item.
-fn take_item(
-    alloc: Global,
-    form: Form,
-    word: &[u8],
-    line: &mut Line,
-) -> Result<Expects, WordsFault>
+fn take_item(alloc: Global, form: Form, word: &[u8], line: &mut Line) -> Result<Expects, WordsFault>
     ensures { Turns line.old line.new (item form word.now) result }
 {
     match form {
@@ -104,12 +99,7 @@ fn take_item(
 }
 
 // Takes the value that stands in the same word as its option.
-fn take_value(
-    alloc: Global,
-    key: Key,
-    value: &[u8],
-    line: &mut Line,
-) -> Result<Expects, WordsFault>
+fn take_value(alloc: Global, key: Key, value: &[u8], line: &mut Line) -> Result<Expects, WordsFault>
     ensures { Turns line.old line.new (given_value key value.now) result }
 {
     if value.is_empty() {

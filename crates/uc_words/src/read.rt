@@ -1,10 +1,11 @@
 // From the words to the command.
 
-ghost use Rattle.std.specs.Prelude.{◌≡◌, ◌&&◌, map, string_bytes, option_copied};
+ghost use Rattle.std.specs.Prelude.{◌≡◌, ◌&&◌, IfOk, map, string_bytes, option_copied};
 ghost use Rattle.std.specs.List.{list_all};
 ghost use Rattle.uc_words.specs.Lines.{Gives, value};
 ghost use Rattle.uc_words.specs.Names.{AreNames, AreWeights, Told};
 ghost use Rattle.uc_words.specs.Reads.{is_printable, is_clean, is_within, limited, order_named, is_alone, AreOptional, IsOrder, numbers_fit, is_fit, says, IsCommand, Reads};
+ghost use Rattle.uc_words.specs.declared.command.Command.{Command};
 ghost use Rattle.uc_words.specs.declared.table.Key.TheVariants.{Precedence, Weights};
 
 use crate::digits::number;
@@ -215,9 +216,16 @@ fn are_clean(words: &[String]) -> bool
     words.iter().all(|word| is_clean(word.as_bytes()))
 }
 
-/// Reads the words after the program's name. `Usage` comes exactly where they have no reading.
+/// Reads the words after the program's name.
+///
+/// The first word is the command. Items follow in any order: options as `--name value` or `--name=value`, the flag
+/// `--trace`, and positionals; behind a word `--` all words are positionals. `Usage` comes exactly where the words have
+/// no reading: an item that the command doesn't have, an option that stands twice, a value that is missing, empty or not
+/// allowed, a value that is a word of its own and begins with a dash, too few or too many positionals, an empty one, or
+/// a word with a byte outside 32 to 126 or with 2^31 bytes or more.
 pub fn read_words(alloc: Global, words: &[String]) -> Result<Command, WordsFault>
-    ensures { Told (Reads (map string_bytes words.now)) result }
+    ensures reads { Told (Reads (map string_bytes words.now)) result }
+    ensures only { IfOk result (λ command. (other : Command) → Reads (map string_bytes words.now) other → other ≡ command) }
 {
     if !are_clean(words) {
         return Err(WordsFault::Usage);
