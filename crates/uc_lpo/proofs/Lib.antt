@@ -5,3 +5,4 @@ pub mod Fronts
 pub mod Passes
 pub mod Classes
 pub mod Same
+pub mod Precedences

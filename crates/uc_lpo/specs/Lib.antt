@@ -9,3 +9,5 @@ pub mod Ranks
 pub mod Higher
 pub mod Places
 pub mod Meaning
+pub mod Constants
+pub mod Orders

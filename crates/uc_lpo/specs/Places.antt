@@ -5,7 +5,7 @@ use Rattle.uc_term.specs.declared.node.Sym.{Sym}
 use Rattle.uc_order.specs.Members.{In, in_front, in_rest, IsFirst, first_front, first_rest}
 use Rattle.uc_lpo.specs.Ranks.{moved, rank_in, arity_in}
 
-same_sym : (f g : Sym) → f.0 ≡ g.0 → f ≡ g
+pub same_sym : (f g : Sym) → f.0 ≡ g.0 → f ≡ g
 same_sym f g e = ap (λ n. record { 0 = n }) e
 
 test_yes : (f g : Sym) → (f.0 == g.0) ≡ true → f ≡ g

@@ -18,7 +18,7 @@ use uc_term::{MAX_INSTANCE, Node, Seq, Sym, end_of};
 
 // The rank of a symbol, by its number: 0 past the table's end.
 #[inline]
-fn rank(ranks: &[u32], f: Sym) -> u32
+fn rank(ranks: &[usize], f: Sym) -> usize
     ensures { result ≡ rank_of ranks.now f }
 {
     let at = f.0 as usize;
@@ -27,7 +27,7 @@ fn rank(ranks: &[u32], f: Sym) -> u32
 
 // Whether both have heads and the left one is lower: what exceeds all its arguments then exceeds it.
 #[inline]
-fn is_lower(ranks: &[u32], n: Node, m: Node) -> bool
+fn is_lower(ranks: &[usize], n: Node, m: Node) -> bool
     ensures { IsTrue result ↔ IsLower (rank_of ranks.now) n m }
 {
     match n {
@@ -41,7 +41,7 @@ fn is_lower(ranks: &[u32], n: Node, m: Node) -> bool
 
 // Whether the left one reaches the right one only by an argument.
 #[inline]
-fn is_passed(ranks: &[u32], n: Node, m: Node) -> bool
+fn is_passed(ranks: &[usize], n: Node, m: Node) -> bool
     ensures { IsTrue result ↔ IsPassed (rank_of ranks.now) n m }
 {
     match n {
@@ -54,7 +54,7 @@ fn is_passed(ranks: &[u32], n: Node, m: Node) -> bool
 }
 
 /// How two terms compare, where variables stand in these classes, the least first.
-pub fn compare(ranks: &[u32], classes: &[Seq<u32>], s: &[Node], t: &[Node]) -> Cmp
+pub fn compare(ranks: &[usize], classes: &[Seq<u32>], s: &[Node], t: &[Node]) -> Cmp
     requires s_whole { IsWhole s.now }
     requires t_whole { IsWhole t.now }
     requires s_small { length s.now ≤ MAX_INSTANCE }
@@ -76,7 +76,7 @@ pub fn compare(ranks: &[u32], classes: &[Seq<u32>], s: &[Node], t: &[Node]) -> C
 
 // Whether s is greater than t, where variables stand in these classes, the least first.
 #[cycle(path)]
-fn greater(ranks: &[u32], classes: &[Seq<u32>], s: &[Node], t: &[Node]) -> bool
+fn greater(ranks: &[usize], classes: &[Seq<u32>], s: &[Node], t: &[Node]) -> bool
     requires s_whole { IsWhole s.now }
     requires t_whole { IsWhole t.now }
     requires s_small { length s.now ≤ MAX_INSTANCE }
@@ -107,7 +107,7 @@ fn greater(ranks: &[u32], classes: &[Seq<u32>], s: &[Node], t: &[Node]) -> bool
 
 // Whether s is greater than each of the terms.
 #[cycle(path)]
-fn exceeds(ranks: &[u32], classes: &[Seq<u32>], s: &[Node], ts: &[Node]) -> bool
+fn exceeds(ranks: &[usize], classes: &[Seq<u32>], s: &[Node], ts: &[Node]) -> bool
     requires s_whole { IsWhole s.now }
     requires ts_whole { AreWhole ts.now }
     requires s_small { length s.now ≤ MAX_INSTANCE }
@@ -132,7 +132,7 @@ fn exceeds(ranks: &[u32], classes: &[Seq<u32>], s: &[Node], ts: &[Node]) -> bool
 
 // Whether some of the terms is t or greater.
 #[cycle(path)]
-fn reaches(ranks: &[u32], classes: &[Seq<u32>], ss: &[Node], t: &[Node]) -> bool
+fn reaches(ranks: &[usize], classes: &[Seq<u32>], ss: &[Node], t: &[Node]) -> bool
     requires ss_whole { AreWhole ss.now }
     requires t_whole { IsWhole t.now }
     requires ss_small { length ss.now ≤ MAX_INSTANCE }
@@ -158,7 +158,7 @@ fn reaches(ranks: &[u32], classes: &[Seq<u32>], ss: &[Node], t: &[Node]) -> bool
 
 // Whether s is greater than t, where both have one head: their first arguments that differ decide.
 #[cycle(path)]
-fn differs(ranks: &[u32], classes: &[Seq<u32>], s: &[Node], t: &[Node]) -> bool
+fn differs(ranks: &[usize], classes: &[Seq<u32>], s: &[Node], t: &[Node]) -> bool
     requires s_whole { IsWhole s.now }
     requires t_whole { IsWhole t.now }
     requires s_small { length s.now ≤ MAX_INSTANCE }

@@ -3,6 +3,7 @@
 
 mod compare;
 mod path_order;
+mod tables;
 mod variables;
 
 pub use path_order::Lpo;
