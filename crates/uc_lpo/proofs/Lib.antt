@@ -6,3 +6,5 @@ pub mod Passes
 pub mod Classes
 pub mod Same
 pub mod Precedences
+pub mod Known
+pub mod Occurrences

@@ -31,7 +31,7 @@ In_cases : {A : Type 0} {x y : A} {xs : List A} → In (y ∷ xs) x → (y ≡ x
 In_cases in_front = inl refl
 In_cases (in_rest i) = inr i
 
-get_in : {A : Type 0} (xs : List A) (i : ℕ) (d : A) → i < length xs → In xs (get_or xs i d)
+pub get_in : {A : Type 0} (xs : List A) (i : ℕ) (d : A) → i < length xs → In xs (get_or xs i d)
 get_in [] i d h = absurd (omega arith)
 get_in (x ∷ xs) zero d h = in_front
 get_in (x ∷ xs) (suc i) d h = in_rest (get_in xs i d (omega arith))

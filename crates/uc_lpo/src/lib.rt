@@ -4,6 +4,8 @@
 mod compare;
 mod path_order;
 mod tables;
+#[cfg(test)]
+mod tests;
 mod variables;
 
 pub use path_order::Lpo;
