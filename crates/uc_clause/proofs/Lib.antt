@@ -9,3 +9,12 @@ pub mod Unescaping
 pub mod Printing
 pub mod Spelling
 pub mod Joined
+pub mod Seen
+pub mod Spans
+pub mod Ends
+pub mod Tables
+pub mod Means
+pub mod Stack
+pub mod Loop
+pub mod Sizes
+pub mod Parts

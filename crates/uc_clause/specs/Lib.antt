@@ -14,3 +14,4 @@ pub mod Refusals
 pub mod Reading
 pub mod First
 pub mod Pieces
+pub mod Drafts

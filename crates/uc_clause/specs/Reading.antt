@@ -12,9 +12,18 @@ use Rattle.uc_clause.specs.declared.fault.ClauseFault.TheVariants.{Syntax, Limit
 use Rattle.uc_clause.specs.Tokens.{AreTokens, StopsAt}
 use Rattle.uc_clause.specs.Rules.{Rule, read, stop}
 use Rattle.uc_clause.specs.Parse.{Parse, Sides, Entry}
+use Rattle.uc_clause.specs.Terms.{Term}
 use Rattle.uc_clause.specs.Items.{Items, term_alone, equals_alone}
-use Rattle.uc_clause.specs.Meaning.{Means, MeansSides, MeanItems, with_names, variables_in}
+use Rattle.uc_clause.specs.Meaning.{Variables, Means, MeansSides, MeanItems, with_names, variables_in}
 use Rattle.uc_clause.specs.Refusals.{fault_of}
+
+-- from the token `from` on this term is read, up to the token `end`, with the names of its variables put behind those
+-- seen so far
+pub record ReadsTermAt (bytes : List ℕ) (tokens : List Token) (from end : ℕ) (seen more_seen : Variables) (table : Table) (t : Tree) : Type 0 where
+  pub parse : Parse
+  pub reads : Term bytes tokens 0 from (read parse end)
+  pub seen_is : more_seen ≡ with_names seen (variables_in bytes tokens parse)
+  pub means : Means bytes tokens table more_seen parse t
 
 -- the text is tokens, and from the first to the last of them the rule reads this
 pub record Parses {V : Type 0} (rule : List ℕ → List Token → Rule V) (bytes : List ℕ) (tokens : List Token) (v : V) : Type 0 where

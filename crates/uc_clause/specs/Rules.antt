@@ -4,6 +4,8 @@ use Rattle.uc_clause.specs.declared.token.Token.{Token}
 use Rattle.uc_clause.specs.declared.terminal.Terminal.{Terminal}
 use Rattle.uc_clause.specs.Terminals.{terminal_at}
 use Rattle.uc_clause.specs.declared.grammar.stop.Why.{Why}
+use Rattle.uc_clause.specs.declared.grammar.stop.Stop.{Stop}
+use Rattle.uc_clause.specs.declared.grammar.stop.Stop.TheVariants.{At, NoMemory}
 
 -- what reading comes to: a value and the number of the token behind it, or a stop at a token
 pub data Outcome (V : Type 0) : Type 0 where
@@ -53,3 +55,8 @@ the bytes tokens terminal why at (stop other k) = (terminal_at bytes tokens at �
 pub data Choice (bytes : List ℕ) (tokens : List Token) {V : Type 0} (terminal : Terminal) (first second : Rule V) (at : ℕ) (outcome : Outcome V) : Type 0 where
   is_first : terminal_at bytes tokens at ≡ terminal → first at outcome → Choice bytes tokens terminal first second at outcome
   is_second : terminal_at bytes tokens at ≢ terminal → second at outcome → Choice bytes tokens terminal first second at outcome
+
+-- what a reader stops for is what the rule stops for, or want of memory
+abbrev pub Stops : {V : Type 0} → (Outcome V → Type 0) → Stop → Type 0
+Stops outcome (At why k) = outcome (stop why k)
+Stops outcome NoMemory = Unit {0}

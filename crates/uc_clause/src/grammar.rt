@@ -1,7 +1,13 @@
 //! The grammar of terms, literals, clauses and items.
 
+mod draft;
 mod head;
 mod stop;
+mod term;
+mod variables;
 
+pub use draft::MAX_ARITY;
 pub use head::Head;
 pub use stop::{Stop, Why};
+pub use term::term_at;
+pub use variables::Variables;

@@ -17,7 +17,7 @@ pub enum Why {
     /// A term is called for, or a clause.
     NoTerm,
     /// The sign of an equation is called for, behind the term that begins at this token.
-    NoSign(u32),
+    NoSign(usize),
     /// The end of a clause is called for, behind a whole literal.
     NoEnd,
     /// Some other token is called for.

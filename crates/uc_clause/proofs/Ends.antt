@@ -1,0 +1,22 @@
+-- Where a token stands, and where the text ends.
+use Rattle.std.proofs.Common.{◌≡◌, ℕ, zero, suc, ◌+◌, ◌<◌, ◌≤◌, List, [], ◌∷◌, length, refl, sym, ap, ◌∙◌, subst, arith}
+use Rattle.std.specs.Prelude.{◌≢◌, slice_get, Some, None}
+use Rattle.uc_clause.specs.declared.token.Token.{Token}
+use Rattle.uc_clause.specs.declared.terminal.Terminal.{Terminal}
+use Rattle.uc_clause.specs.declared.terminal.Terminal.TheVariants.{End}
+use Rattle.uc_clause.specs.declared.grammar.head.Head.{Head}
+use Rattle.uc_clause.specs.declared.grammar.head.Head.TheVariants.{Neither}
+use Rattle.uc_clause.specs.Terminals.{terminal_at}
+use Rattle.uc_clause.specs.Terms.{head_at, head_of}
+
+-- a token stands where the text doesn't end
+pub some_token : (bytes : List ℕ) (tokens : List Token) (at : ℕ) → terminal_at bytes tokens at ≢ End → at < length tokens
+some_token bytes [] at h = absurd (h refl)
+some_token bytes (t ∷ tokens) zero h = omega arith
+some_token bytes (t ∷ tokens) (suc at) h = omega (arith, some_token bytes tokens at h)
+
+pub some_head : (bytes : List ℕ) (tokens : List Token) (at : ℕ) → head_at bytes tokens at ≢ Neither → at < length tokens
+some_head bytes tokens at h = some_token bytes tokens at (λ e. h (ap head_of e))
+
+pub some_other : (bytes : List ℕ) (tokens : List Token) (at : ℕ) (t : Terminal) → terminal_at bytes tokens at ≡ t → t ≢ End → at < length tokens
+some_other bytes tokens at t e h = some_token bytes tokens at (λ f. h (sym e ∙ f))

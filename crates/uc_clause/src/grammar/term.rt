@@ -1,0 +1,62 @@
+//! Terms among tokens, and a term that is a whole text.
+
+ghost use Rattle.std.specs.Prelude.{◌≡◌, IfOk, IfErr};
+ghost use Rattle.uc_term.specs.Table.{Grows};
+ghost use Rattle.uc_clause.specs.Tokens.{AreTokens};
+ghost use Rattle.uc_clause.specs.Rules.{Stops};
+ghost use Rattle.uc_clause.specs.Terms.{Term as Reads};
+ghost use Rattle.uc_clause.specs.Reading.{ReadsTermAt};
+ghost use Rattle.uc_clause.specs.Drafts.{IsPart};
+
+use super::draft::Draft;
+use crate::{Place, Stop, Token, Variables};
+use std::alloc::Global;
+use uc_term::{Symbols, Term};
+
+/// A term that is read, the places of its nodes, and the number of the token behind it.
+#[derive(Drop)]
+pub(crate) struct Part {
+    pub(crate) term: Term,
+    pub(crate) places: Vec<Place>,
+    pub(crate) end: usize,
+}
+
+// Reads the term that begins at a token.
+pub(crate) fn part_at(
+    alloc: Global,
+    bytes: &[u8],
+    tokens: &[Token],
+    from: usize,
+    variables: &mut Variables,
+    symbols: &mut Symbols,
+) -> Result<Part, Stop>
+    requires tokens { AreTokens bytes.now tokens.now }
+    ensures reads { IfOk result (IsPart bytes.now tokens.now from variables.old variables.new symbols.new) }
+    ensures stops { IfErr result (Stops (Reads bytes.now tokens.now 0 from)) }
+    ensures grows { Grows symbols.old symbols.new }
+{
+    let draft = Draft::read(alloc, bytes, tokens, from, variables, symbols)?;
+    Ok(draft.into_part())
+}
+
+/// Reads the term that begins at the token of a number: the term, and the number of the token behind it.
+///
+/// The names of its variables are put behind those seen so far, and a variable's number is its name's place among them.
+/// Symbols are interned when their arguments are closed, so those of the arguments come first; after a stop the table may
+/// have grown, and only grown, and the names seen are any.
+pub fn term_at(
+    alloc: Global,
+    bytes: &[u8],
+    tokens: &[Token],
+    from: usize,
+    variables: &mut Variables,
+    symbols: &mut Symbols,
+) -> Result<(Term, usize), Stop>
+    requires tokens { AreTokens bytes.now tokens.now }
+    ensures reads { IfOk result (λ r. ReadsTermAt bytes.now tokens.now from r.1 variables.old variables.new symbols.new r.0) }
+    ensures stops { IfErr result (Stops (Reads bytes.now tokens.now 0 from)) }
+    ensures grows { Grows symbols.old symbols.new }
+{
+    let part = part_at(alloc, bytes, tokens, from, variables, symbols)?;
+    Ok((part.term, part.end))
+}

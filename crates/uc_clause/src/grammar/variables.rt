@@ -1,0 +1,50 @@
+//! The names of variables.
+
+ghost use Rattle.std.specs.Prelude.{◌≡◌, [], Some, slice_get, IfOk, OnErr};
+ghost use Rattle.uc_clause.specs.Meaning.{with_name};
+
+use indexmap::IndexSet;
+use std::alloc::{AllocError, Global};
+use std::marker::Model;
+
+/// The names of the variables seen so far, each once, by first occurrence: a variable's number is its name's place.
+#[derive(Drop)]
+pub struct Variables {
+    names: IndexSet<Vec<u8>>,
+}
+
+impl Model for Variables {
+    ghost use Rattle.std.specs.Prelude.{List, ℕ, map};
+
+    ghost Value = { List (List ℕ) };
+
+    ghost view = { λ s. map (λ name. name.items) s.names.keys };
+}
+
+impl Variables {
+    /// No names. It takes no memory.
+    pub fn new(alloc: Global) -> Self
+        ensures { result ≡ [] }
+    {
+        Variables {
+            names: IndexSet::new(alloc),
+        }
+    }
+
+    /// The number of a name, which may be new. Room for 2^32 - 1 names is enough for every text that is read; past it the
+    /// answer is that of want of memory, which leaves the names as they were.
+    pub fn number(&mut self, alloc: Global, name: &[u8]) -> Result<u32, AllocError>
+        ensures seen { IfOk result (λ n. self.new ≡ with_name self.old name.now) }
+        ensures number { IfOk result (λ n. slice_get self.new n ≡ Some name.now) }
+        ensures err { OnErr result (self.new ≡ self.old) }
+    {
+        if self.names.len() >= MOST {
+            return Err(AllocError);
+        }
+        let name = Vec::from_slice(alloc, name)?;
+        let (index, _) = self.names.insert_full(name)?;
+        Ok(index as u32)
+    }
+}
+
+const MOST: usize = u32::MAX as usize;
