@@ -200,6 +200,14 @@ fn advance(place: Place, piece: &[u8]) -> Place
     behind
 }
 
+// The place behind these bytes.
+pub(crate) fn place_behind(bytes: &[u8]) -> Place
+    requires { length bytes.now < 2 ^ 31 }
+    ensures { result ≡ place_behind bytes.now }
+{
+    advance(Place { line: 1, column: 1 }, bytes)
+}
+
 /// The tokens of a text of fewer than 2^31 bytes, in order, with white space and comments left out. At each place the
 /// longest token is taken. `Syntax` comes exactly where some byte begins no token, at the first such byte: a quote or a
 /// block comment that isn't closed, and `''`, stop at their first byte.

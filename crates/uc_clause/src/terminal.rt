@@ -1,10 +1,10 @@
 //! What a token is to the grammar.
 
-ghost use Rattle.std.specs.Prelude.{◌≡◌, ◌+◌, ◌≤◌, ◌∷◌, Some, ◌<◌, slice_index, length, slice_range, MatchBool, ◌≢◌, slice_get, drop, IfOk};
-ghost use Rattle.uc_clause.specs.Tokens.{AreTokens, bytes_of};
+ghost use Rattle.std.specs.Prelude.{◌^◌, ◌≡◌, ◌+◌, ◌≤◌, ◌∷◌, Some, ◌<◌, slice_index, length, slice_range, MatchBool, ◌≢◌, slice_get, drop, IfOk};
+ghost use Rattle.uc_clause.specs.Tokens.{AreTokens, IsWithin};
 ghost use Rattle.uc_clause.specs.Terminals.{terminal_of_mark, terminal_of, terminal_at, bytes_at, word_at, place_at};
-ghost use Rattle.uc_clause.specs.Names.{unescaped};
 
+use crate::lexer::place_behind;
 use crate::{Kind, Place, Token};
 use std::alloc::{AllocError, Global};
 use uc_term::Text;
@@ -100,7 +100,7 @@ pub fn bytes_at<'a>(bytes: &'a [u8], tokens: &[Token], at: usize) -> &'a [u8]
     requires within { at < length tokens.now }
     ensures { result.now ≡ bytes_at bytes.now tokens.now at }
 {
-    bytes_of(bytes, token_at(tokens, at))
+    token_at(bytes, tokens, at).bytes(bytes)
 }
 
 /// The word that the token of this number stands for.
@@ -109,65 +109,29 @@ pub fn word_at(alloc: Global, bytes: &[u8], tokens: &[Token], at: usize) -> Resu
     requires within { at < length tokens.now }
     ensures { IfOk result (λ word. word ≡ word_at bytes.now tokens.now at) }
 {
-    let token = token_at(tokens, at);
-    let spelling = bytes_of(bytes, token);
-    if token.kind == Kind::Quoted {
-        unescaped(alloc, spelling)
-    } else {
-        Text::from_bytes(alloc, spelling)
-    }
+    token_at(bytes, tokens, at).word(alloc, bytes)
 }
 
-/// Where the token of this number begins. It takes no memory.
+/// Where the token of this number begins; the end of the text stands behind the last byte. It takes no memory.
 pub fn place_at(bytes: &[u8], tokens: &[Token], at: usize) -> Place
-    requires { at < length tokens.now }
+    requires { length bytes.now < 2 ^ 31 }
     ensures { result ≡ place_at bytes.now tokens.now at }
 {
-    let _ = bytes;
-    token_at(tokens, at).place
+    if at < tokens.len() {
+        tokens[at].place
+    } else {
+        place_behind(bytes)
+    }
 }
 
 // The token of a number.
-fn token_at(tokens: &[Token], at: usize) -> Token
-    requires { at < length tokens.now }
-    ensures { slice_get tokens.now at ≡ Some result }
+pub(crate) fn token_at(bytes: &[u8], tokens: &[Token], at: usize) -> Token
+    requires tokens { AreTokens bytes.now tokens.now }
+    requires within { at < length tokens.now }
+    ensures token { slice_get tokens.now at ≡ Some result }
+    ensures in_text { IsWithin bytes.now result }
+    ensures place { place_at bytes.now tokens.now at ≡ result.place }
 {
+    let _ = bytes;
     tokens[at]
-}
-
-// The bytes of a token.
-fn bytes_of(bytes: &[u8], token: Token) -> &[u8]
-    requires ordered { token.from ≤ token.to }
-    requires within { token.to ≤ length bytes.now }
-    ensures { result.now ≡ bytes_of bytes.now token }
-{
-    &bytes[token.from as usize..token.to as usize]
-}
-
-// The bytes that a quoted spelling stands for.
-fn unescaped(alloc: Global, spelling: &[u8]) -> Result<Text, AllocError>
-    ensures { IfOk result (λ word. word ≡ unescaped (drop 1 spelling.now)) }
-{
-    let mut word = Text::new(alloc);
-    let mut at = 1;
-    while at + 1 < spelling.len() {
-        let (byte, next) = piece(spelling, at);
-        word.push(byte)?;
-        at = next;
-    }
-    Ok(word)
-}
-
-// The byte that the next piece stands for, and where that piece ends.
-fn piece(spelling: &[u8], at: usize) -> (u8, usize)
-    requires { at + 1 < length spelling.now }
-    ensures stands_for { unescaped (drop at spelling.now) ≡ result.0 ∷ unescaped (drop result.1 spelling.now) }
-    ensures ahead { at < result.1 }
-    ensures within { result.1 ≤ length spelling.now }
-{
-    if spelling[at] == b'\\' {
-        (spelling[at + 1], at + 2)
-    } else {
-        (spelling[at], at + 1)
-    }
 }

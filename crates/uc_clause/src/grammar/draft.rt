@@ -14,9 +14,9 @@ ghost use Rattle.uc_clause.specs.declared.grammar.draft.Pending.{Pending};
 
 use super::head::head_at;
 use super::term::Part;
+use crate::terminal::token_at;
 use crate::{
-    Head, Place, Stop, Terminal, Token, Variables, Why, bytes_at, place_at, stands_at, terminal_at,
-    word_at,
+    Head, Place, Stop, Terminal, Token, Variables, Why, bytes_at, stands_at, terminal_at, word_at,
 };
 use std::alloc::Global;
 use uc_term::{MAX_NODES, Node, Sym, Symbols, Term};
@@ -247,7 +247,7 @@ impl Draft {
     {
         let number = variables.number(alloc, bytes_at(bytes, tokens, self.at))?;
         self.nodes.push(Node::Var(number))?;
-        self.places.push(place_at(bytes, tokens, self.at))?;
+        self.places.push(token_at(bytes, tokens, self.at).place)?;
         self.at += 1;
         self.behind_term = true;
         Ok(())
@@ -272,7 +272,7 @@ impl Draft {
         let name = word_at(alloc, bytes, tokens, self.at)?;
         let sym = symbols.intern(alloc, name.as_bytes(), 0)?;
         self.nodes.push(Node::App(sym, 0))?;
-        self.places.push(place_at(bytes, tokens, self.at))?;
+        self.places.push(token_at(bytes, tokens, self.at).place)?;
         self.at += 1;
         self.behind_term = true;
         Ok(())
@@ -289,7 +289,7 @@ impl Draft {
     {
         let node = self.nodes.len();
         self.nodes.push(Node::App(Sym(0), 0))?;
-        self.places.push(place_at(bytes, tokens, self.at))?;
+        self.places.push(token_at(bytes, tokens, self.at).place)?;
         self.pending.push(Pending {
             functor: self.at,
             node,
