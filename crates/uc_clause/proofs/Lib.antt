@@ -18,3 +18,6 @@ pub mod Stack
 pub mod Loop
 pub mod Sizes
 pub mod Parts
+pub mod ReadOnce
+pub mod Sequences
+pub mod Literals

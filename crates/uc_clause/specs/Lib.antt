@@ -15,3 +15,4 @@ pub mod Reading
 pub mod First
 pub mod Pieces
 pub mod Drafts
+pub mod Sides

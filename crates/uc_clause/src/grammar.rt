@@ -2,6 +2,7 @@
 
 mod draft;
 mod head;
+mod literal;
 mod stop;
 mod term;
 mod variables;

@@ -1,0 +1,20 @@
+-- How what is read of a part makes the whole.
+use Rattle.std.proofs.Common.{◌≡◌, ℕ, refl, sym, ◌∙◌}
+use Rattle.std.specs.Prelude.{Result, Ok, Err, IfOk, IfErr}
+use Rattle.uc_clause.specs.declared.grammar.stop.Why.{Why}
+use Rattle.uc_clause.specs.declared.grammar.stop.Stop.{Stop}
+use Rattle.uc_clause.specs.declared.grammar.stop.Stop.TheVariants.{At, NoMemory}
+use Rattle.uc_clause.specs.Rules.{Outcome, read, stop, Stops}
+
+-- where each stop of the part is one of the whole
+pub passes : {V W : Type 0} (part : Outcome V → Type 0) (whole : Outcome W → Type 0) (err : Stop) → ((why : Why) (k : ℕ) → part (stop why k) → whole (stop why k)) → Stops part err → Stops whole err
+passes part whole (At why k) step h = step why k h
+passes part whole NoMemory step h = tt
+
+pub if_err : {V : Type 0} {P Q : Stop → Type 0} (r : Result V Stop) → ((e : Stop) → P e → Q e) → IfErr r P → IfErr r Q
+if_err (Ok v) step h = tt
+if_err (Err e) step h = step e h
+
+pub if_ok : {V : Type 0} {P Q : V → Type 0} (r : Result V Stop) → ((v : V) → P v → Q v) → IfOk r P → IfOk r Q
+if_ok (Ok v) step h = step v h
+if_ok (Err e) step h = tt
