@@ -242,8 +242,8 @@ module _ (bytes : List ℕ) (tokens : List Token) (from : ℕ) (seen : Variables
     parse = h.parse;
     tree = h.tree;
     reads =
-      let start : h.start ≡ from = subst (λ gs. Stacked bytes tokens from gs h.start) e h.stacked in
-      subst (λ a. Term bytes tokens 0 a (read h.parse s.at)) start (subst (λ gs. Term bytes tokens (length (content gs)) h.start (read h.parse s.at)) e h.reads);
+        let start : h.start ≡ from = subst (λ gs. Stacked bytes tokens from gs h.start) e h.stacked in
+        subst (λ a. Term bytes tokens 0 a (read h.parse s.at)) start (subst (λ gs. Term bytes tokens (length (content gs)) h.start (read h.parse s.at)) e h.reads);
     nodes = h.nodes ∙ ap (λ gs. content gs ++ flat h.tree) e;
     places = h.places ∙ ap (λ gs. places_at (leaves_of gs ++ leaves h.parse)) e;
     seen_is = h.seen_is ∙ ap (λ gs. with_names seen (names_at (variables_of gs ++ variables h.parse))) e;

@@ -23,10 +23,10 @@ module _ (bytes : List ℕ) (tokens : List Token) (from : ℕ) (seen : Variables
   read_part part e =
       let term : part.term ≡ r.tree = ap (λ (p : Part). p.term) e ∙ ap tree_of r.nodes ∙ tree_of-flat r.tree in
       subst (λ p. IsPart bytes tokens from seen more_seen table p) (sym e)
-        (record {
-          parse = r.parse;
-          reads = r.reads;
-          places = r.places;
-          seen_is = r.seen_is;
-          means = subst (λ t. Means bytes tokens table more_seen r.parse t) (sym (ap tree_of r.nodes ∙ tree_of-flat r.tree)) r.means;
-        })
+      (record {
+        parse = r.parse;
+        reads = r.reads;
+        places = r.places;
+        seen_is = r.seen_is;
+        means = subst (λ t. Means bytes tokens table more_seen r.parse t) (sym (ap tree_of r.nodes ∙ tree_of-flat r.tree)) r.means;
+      })

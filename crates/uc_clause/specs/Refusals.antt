@@ -1,15 +1,18 @@
 -- Which fault it is that reading stops at a token. In an item any Lower as role but the nine stops as a token that isn't
 -- called for.
-use Rattle.std.specs.Prelude.{ℕ, ◌||◌, Bool, List, codes, bytes_eq, if◌then◌else◌}
+use Rattle.std.specs.Prelude.{◌≡◌, ◌⊎◌, ℕ, ◌||◌, Bool, List, codes, bytes_eq, if◌then◌else◌}
 use Rattle.uc_clause.specs.declared.token.Token.{Token}
 use Rattle.uc_clause.specs.declared.token.Place.{Place}
 use Rattle.uc_clause.specs.declared.terminal.Terminal.{Terminal}
 use Rattle.uc_clause.specs.declared.terminal.Terminal.TheVariants.{Lower, Distinct, Integer, Dollar, Close, Comma, Bar, Star}
 use Rattle.uc_clause.specs.declared.grammar.stop.Why.{Why}
 use Rattle.uc_clause.specs.declared.grammar.stop.Why.TheVariants as why
+use Rattle.uc_clause.specs.declared.grammar.stop.Stop.{Stop}
+use Rattle.uc_clause.specs.declared.grammar.stop.Stop.TheVariants.{At}
+use Rattle.uc_clause.specs.declared.grammar.stop.Stop.TheVariants as stop
 use Rattle.uc_clause.specs.declared.fault.What.TheVariants as what
 use Rattle.uc_clause.specs.declared.fault.ClauseFault.{ClauseFault}
-use Rattle.uc_clause.specs.declared.fault.ClauseFault.TheVariants.{Syntax, NotUnit, NotEquality, BadRole, Unsupported, Limit}
+use Rattle.uc_clause.specs.declared.fault.ClauseFault.TheVariants.{Syntax, NotUnit, NotEquality, BadRole, Unsupported, Limit, NoMemory}
 use Rattle.uc_clause.specs.Terminals.{terminal_at, bytes_at, place_at}
 
 -- the items of the other languages
@@ -67,3 +70,12 @@ module _ (bytes : List ℕ) (tokens : List Token) where
   -- these two stand in proofs alone
   fault_of why.NoRule k = Syntax (place_at bytes tokens k)
   fault_of why.Repeated k = Syntax (place_at bytes tokens k)
+
+-- this fault, unless memory is wanted
+abbrev pub IsOrMemory : ClauseFault → ClauseFault → Type 0
+IsOrMemory fault result = (result ≡ fault) ⊎ (result ≡ NoMemory)
+
+-- the fault that it is to stop so, unless memory is wanted
+abbrev pub IsFaultOf : List ℕ → List Token → Stop → ClauseFault → Type 0
+IsFaultOf bytes tokens (At why k) result = IsOrMemory (fault_of bytes tokens why k) result
+IsFaultOf bytes tokens stop.NoMemory result = result ≡ NoMemory

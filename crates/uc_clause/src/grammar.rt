@@ -3,6 +3,7 @@
 mod draft;
 mod head;
 mod literal;
+mod refusal;
 mod stop;
 mod term;
 mod variables;

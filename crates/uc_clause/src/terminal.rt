@@ -103,6 +103,18 @@ pub fn bytes_at<'a>(bytes: &'a [u8], tokens: &[Token], at: usize) -> &'a [u8]
     token_at(bytes, tokens, at).bytes(bytes)
 }
 
+// The bytes of the token of this number, none at the end of the text.
+pub(crate) fn spelling_at<'a>(bytes: &'a [u8], tokens: &[Token], at: usize) -> &'a [u8]
+    requires { AreTokens bytes.now tokens.now }
+    ensures { result.now ≡ bytes_at bytes.now tokens.now at }
+{
+    if at < tokens.len() {
+        bytes_at(bytes, tokens, at)
+    } else {
+        &bytes[..0]
+    }
+}
+
 /// The word that the token of this number stands for.
 pub fn word_at(alloc: Global, bytes: &[u8], tokens: &[Token], at: usize) -> Result<Text, AllocError>
     requires tokens { AreTokens bytes.now tokens.now }

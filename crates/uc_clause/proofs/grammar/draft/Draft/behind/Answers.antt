@@ -15,14 +15,14 @@ overflow_add-self-in-Comma c = omega (arith, some_other c.args.bytes.now c.args.
 pub returns-in_ok-sym-in-Close-clause-moves : goal.returns-in_ok-sym-in-Close-clause-moves
 returns-in_ok-sym-in-Close-clause-moves c = λ seen.
     closes_functor c.pop.new.self.items c.in-Some.top c.in_ok-sym-in-Close.sym c.intern.new.self c.requires.behind c.in-Some.ensures.items (sym c.in-Close.ensures)
-      (rw (← c.in_ok-name-in-Close.ensures, ← c.as_bytes.ensures) c.in_ok-sym-in-Close.ensures.interned.0)
-      (interned_grows _ _ _ _ _ c.in_ok-sym-in-Close.ensures.interned)
-      refl
+    (rw (← c.in_ok-name-in-Close.ensures, ← c.as_bytes.ensures) c.in_ok-sym-in-Close.ensures.interned.0)
+    (interned_grows _ _ _ _ _ c.in_ok-sym-in-Close.ensures.interned)
+    refl
 
 pub returns-in_ok-push-in-Comma-clause-moves : goal.returns-in_ok-push-in-Comma-clause-moves
 returns-in_ok-push-in-Comma-clause-moves c = λ seen.
     goes_to_next c.pop.new.self.items c.in-Some.top c.requires.behind c.in-Some.ensures.items (sym c.in-Comma.ensures) c.if-top-ge-MAX_ARITY.false
-      (rw c.in_ok-push-in-Comma.ensures.items refl)
+    (rw c.in_ok-push-in-Comma.ensures.items refl)
 
 pub returns-in_default-terminal_at : goal.returns-in_default-terminal_at
 returns-in_default-terminal_at c = record {
