@@ -21,3 +21,6 @@ pub mod Parts
 pub mod ReadOnce
 pub mod Sequences
 pub mod Literals
+pub mod MeansOnce
+pub mod Whole
+pub mod Alone

@@ -1,5 +1,6 @@
 -- What the readers of two sides answer.
 use Rattle.std.specs.Prelude.{◌≡◌, ℕ, List, ◌++◌, map}
+use Rattle.uc_term.specs.Tree.{Tree}
 use Rattle.uc_term.specs.Table.{Table}
 use Rattle.uc_clause.specs.declared.token.Token.{Token}
 use Rattle.uc_clause.specs.declared.grammar.term.Part.{Part}
@@ -9,6 +10,8 @@ use Rattle.uc_clause.specs.Terminals.{place_at}
 use Rattle.uc_clause.specs.Rules.{Rule, read}
 use Rattle.uc_clause.specs.Parse.{Parse, leaves, Sides, Literal}
 use Rattle.uc_clause.specs.Terms.{Term}
+use Rattle.uc_clause.specs.Items.{term_alone, equals_alone}
+use Rattle.uc_clause.specs.Reading.{SaysTerm, SaysSides}
 use Rattle.uc_clause.specs.Meaning.{Variables, with_names, variables_in, Means, places_of}
 
 -- the right side is read behind the left one
@@ -39,3 +42,17 @@ pub record ReadsLiteral (rule : Rule Literal) (bytes : List ℕ) (tokens : List 
   pub reads : rule from (read literal equation.pair.end)
   pub positive : equation.positive ≡ literal.positive
   pub are_sides : AreSides bytes tokens literal.sides seen more_seen table equation.pair
+
+-- all the tokens are a term, which is this
+pub record IsTermAlone (bytes : List ℕ) (tokens : List Token) (table : Table) (t : Tree) : Type 0 where
+  pub parse : Parse
+  pub end : ℕ
+  pub reads : term_alone bytes tokens 0 (read parse end)
+  pub means : SaysTerm table bytes tokens parse t
+
+-- all the tokens are the equation of two terms, which are these
+pub record IsEquationAlone (bytes : List ℕ) (tokens : List Token) (table : Table) (pair : Tree × Tree) : Type 0 where
+  pub sides : Sides
+  pub end : ℕ
+  pub reads : equals_alone bytes tokens 0 (read sides end)
+  pub means : SaysSides table bytes tokens sides pair

@@ -1,5 +1,6 @@
 //! The grammar of terms, literals, clauses and items.
 
+mod alone;
 mod draft;
 mod head;
 mod literal;
@@ -8,6 +9,7 @@ mod stop;
 mod term;
 mod variables;
 
+pub use alone::{read_equation, read_term};
 pub use draft::MAX_ARITY;
 pub use head::Head;
 pub use stop::{Stop, Why};

@@ -16,7 +16,7 @@ mod token;
 
 pub use clause::{Clause, Include, Item, Name, Role, Sourced};
 pub use fault::{ClauseFault, TokenFault, What};
-pub use grammar::{Head, MAX_ARITY, Stop, Variables, Why, term_at};
+pub use grammar::{Head, MAX_ARITY, Stop, Variables, Why, read_equation, read_term, term_at};
 pub use lexer::tokens;
 pub use printer::{print_clause, print_equation, print_name, print_term, print_word};
 pub use terminal::{Terminal, bytes_at, place_at, stands_at, terminal_at, word_at};
