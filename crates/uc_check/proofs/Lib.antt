@@ -1,2 +1,10 @@
 pub mod Once
 pub mod Sound
+pub mod Renaming
+pub mod Named
+pub mod Replacing
+pub mod Tests
+pub mod Steps
+pub mod Pairs
+pub mod Earlier
+pub mod Last

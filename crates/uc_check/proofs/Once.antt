@@ -7,8 +7,8 @@ use Rattle.uc_clause.specs.declared.clause.Sourced.{Sourced}
 use Rattle.uc_check.specs.declared.proof.Line.{Line}
 use Rattle.uc_check.specs.declared.proof.LineStep.{LineStep}
 use Rattle.uc_check.specs.declared.proof.LineSource.{LineSource}
-use Rattle.uc_check.specs.declared.check.Cause.{Cause}
-use Rattle.uc_check.specs.declared.check.Checked.{Checked}
+use Rattle.uc_check.specs.declared.checker.Cause.{Cause}
+use Rattle.uc_check.specs.declared.checker.Checked.{Checked}
 use Rattle.uc_check.specs.Replacements.{Leads, arrives, not_earlier, no_replacement, goes_on}
 use Rattle.uc_check.specs.Lines.{Tested, file_right, file_wrong, chain_right, chain_start, chain_step, chain_end, chain_parents, reflexive_right, reflexive_early, reflexive_wrong, goal_right, goal_early, goal_wrong, refute_right, refute_early, refute_wrong}
 use Rattle.uc_check.specs.Checks.{IsRightLine, AreRightBefore, FailsFirst, FirstFailure, IsChecked, accepted, rejected, no_line, no_refutation}

@@ -19,7 +19,9 @@ use Rattle.uc_check.specs.Clauses.{equation_of, axioms_of, goals_of, premises_of
 use Rattle.uc_check.specs.Variants.{renamed}
 use Rattle.uc_check.specs.Replacements.{IsRefutation, from_side, to_side, IsReplacement, Leads, arrives, goes_on}
 use Rattle.uc_check.specs.Lines.{IsClause, IsFile, IsChain, AreEarlier, ReadsReflexive, ReadsGoal, RefutesGround, Tested, file_right, chain_right, reflexive_right, goal_right, refute_right}
-use Rattle.uc_check.specs.Checks.{AreRightBefore, EndsInRefutation}
+use Rattle.uc_check.specs.declared.checker.Checked.{Checked}
+use Rattle.uc_check.specs.declared.checker.Checked.TheVariants.{Accepted}
+use Rattle.uc_check.specs.Checks.{AreRightBefore, EndsInRefutation, IsChecked, accepted, rejected, no_line, no_refutation}
 
 -- the clauses' equations stand in the lists of axioms and of goals
 pub axiom_in : (clauses : List Sourced) (i : ℕ) (s : Sourced) → slice_get clauses i ≡ Some s → s.clause.positive ≡ true → (j : ℕ) × (slice_get (axioms_of clauses) j ≡ Some (equation_of s.clause))
@@ -116,10 +118,10 @@ module _ (clauses : List Sourced) (fresh : Option Fresh) (lines : List Line) whe
 
   file_says : (name : Name) (line : Line) → line.positive ≡ true → IsClause clauses name line.positive line.left line.right → Conv Es line.left line.right
   file_says name line p c =
-      let at = axiom_in clauses c.number c.sourced c.sourced_is (c.polarity ∙ p) in
+      let at = axiom_in clauses c.number c.sourced c.sourced_is (c.same.polarity ∙ p) in
       let e = equation_of c.sourced.clause in
-      let t = equation_turn Es at.0 e (axioms_among fresh clauses at.0 e at.1) (λ x. var (c.variants.forth x)) in
-      rw (← c.variants.left_forth, ← c.variants.right_forth) (Conv-turn Es (renamed c.variants.forth e.left) (renamed c.variants.forth e.right) t)
+      let t = equation_turn Es at.0 e (axioms_among fresh clauses at.0 e at.1) (λ x. var (c.same.variants.forth x)) in
+      rw (← c.same.variants.left_forth, ← c.same.variants.right_forth) (Conv-turn Es (renamed c.same.variants.forth e.left) (renamed c.same.variants.forth e.right) t)
 
   turned_says : (b : Bool) (line : Line) → Conv Es line.left line.right → Conv Es (from_side b line) (to_side b line)
   turned_says true line c = c
@@ -153,12 +155,12 @@ earlier k ps p rest e h = let a : AreEarlier k (p ∷ rest) = subst (AreEarlier 
 later_earlier : (k : ℕ) (ps : List ℕ) (p q : ℕ) → ps ≡ p ∷ q ∷ [] → AreEarlier k ps → q < k
 later_earlier k ps p q e h = let a : AreEarlier k (p ∷ q ∷ []) = subst (AreEarlier k) e h in a.1.0
 
-no_refutation : (source : LineSource) → IsChain source → IsRefutation source → ⊥
-no_refutation (File name) c r = c
-no_refutation (Chain start steps parents) c r = r
-no_refutation (Reflexive parents) c r = c
-no_refutation (EncodeGoal parents) c r = c
-no_refutation (Refute parents) c r = c
+no_chain_refutes : (source : LineSource) → IsChain source → IsRefutation source → ⊥
+no_chain_refutes (File name) c r = c
+no_chain_refutes (Chain start steps parents) c r = r
+no_chain_refutes (Reflexive parents) c r = c
+no_chain_refutes (EncodeGoal parents) c r = c
+no_chain_refutes (Refute parents) c r = c
 
 module _ (clauses : List Sourced) (fresh : Option Fresh) (lines : List Line) where
   -- a file line that is right has a clause of the problem
@@ -183,14 +185,14 @@ module _ (clauses : List Sourced) (fresh : Option Fresh) (lines : List Line) whe
 
   goal_says : (k : ℕ) (parents : List ℕ) (line : Line) → RightBefore k → AreEarlier k parents → ReadsGoal fresh lines parents line → Conv (premises_of fresh clauses) line.left line.right
   goal_says k parents line before e r =
-      let c = file_clause (before r.parent (earlier k parents r.parent [] r.parents_are e) r.goal r.goal_is) r.from_file in
+      let c = file_clause (before r.parent (earlier k parents r.parent [] r.parents_are e) r.goal r.goal_is) r.reads.denial.0 in
       let s = c.1.sourced.clause in
-      let at = goal_in clauses c.1.number c.1.sourced c.1.sourced_is (c.1.polarity ∙ r.denied) in
+      let at = goal_in clauses c.1.number c.1.sourced c.1.sourced_is (c.1.same.polarity ∙ r.reads.denial.1) in
       let es = premises_of (Some r.marks) clauses in
-      let one = goal_conv r.marks clauses at.0 (equation_of s) at.1 c.1.variants.forth in
-      let two : Conv es (pair_term r.marks r.goal.left r.goal.right) (no_term r.marks) = subst (λ (t : Tree). Conv es t (no_term r.marks)) (ap₂ (pair_term r.marks) c.1.variants.left_forth c.1.variants.right_forth) one in
-      let three = Conv-apply es (λ x. var (r.variants.forth x)) two in
-      let four : Conv es line.left line.right = rw (← r.variants.left_forth, ← r.variants.right_forth) three in
+      let one = goal_conv r.marks clauses at.0 (equation_of s) at.1 c.1.same.variants.forth in
+      let two : Conv es (pair_term r.marks r.goal.left r.goal.right) (no_term r.marks) = subst (λ (t : Tree). Conv es t (no_term r.marks)) (ap₂ (pair_term r.marks) c.1.same.variants.left_forth c.1.same.variants.right_forth) one in
+      let three = Conv-apply es (λ x. var (r.reads.variants.forth x)) two in
+      let four : Conv es line.left line.right = rw (← r.reads.variants.left_forth, ← r.reads.variants.right_forth) three in
       subst (λ (f : Option Fresh). Conv (premises_of f clauses) line.left line.right) (sym r.marks_are) four
 
   by_source : (k : ℕ) (line : Line) {source : LineSource} → RightBefore k → SaysBefore k → Tested clauses fresh lines k line source None → line.positive ≡ true → (IsRefutation source → ⊥) → Conv (premises_of fresh clauses) line.left line.right
@@ -238,12 +240,12 @@ module _ (clauses : List Sourced) (fresh : Option Fresh) (lines : List Line) (ar
   ground_follows k parents before e r =
       let first = earlier k parents r.first (r.second ∷ []) r.parents_are e in
       let second = later_earlier k parents r.first r.second r.parents_are e in
-      let c = file_clause clauses fresh lines (before r.first first r.goal r.goal_is) r.from_file in
+      let c = file_clause clauses fresh lines (before r.first first r.goal r.goal_is) r.shows.denial.0 in
       let s = c.1.sourced.clause in
-      let ρ = c.1.variants.forth in
-      let at = goal_in clauses c.1.number c.1.sourced c.1.sourced_is (c.1.polarity ∙ r.denied) in
-      let says = says_all clauses fresh lines k before r.second second r.chain r.chain_is r.shown (no_refutation r.chain.source r.from_chain) in
-      let sides : Conv (premises_of fresh clauses) (renamed ρ s.left) (renamed ρ s.right) = rw (c.1.variants.left_forth, c.1.variants.right_forth, ← r.left_same, ← r.right_same) says in
+      let ρ = c.1.same.variants.forth in
+      let at = goal_in clauses c.1.number c.1.sourced c.1.sourced_is (c.1.same.polarity ∙ r.shows.denial.1) in
+      let says = says_all clauses fresh lines k before r.second second r.chain r.chain_is r.shows.derived.1 (no_chain_refutes r.chain.source r.shows.derived.0) in
+      let sides : Conv (premises_of fresh clauses) (renamed ρ s.left) (renamed ρ s.right) = rw (c.1.same.variants.left_forth, c.1.same.variants.right_forth, ← r.shows.left_same, ← r.shows.right_same) says in
       record { number = at.0; goal = equation_of s; goal_is = at.1; follows = record { σ = λ x. var (ρ x); conversion = without_encoding fresh clauses are c.1.number c.1.sourced c.1.sourced_is ρ sides } }
 
   encoded_follows : (m : Fresh) → fresh ≡ Some m → Conv (premises_of fresh clauses) (yes_term m) (no_term m) → Aim
@@ -260,10 +262,17 @@ module _ (clauses : List Sourced) (fresh : Option Fresh) (lines : List Line) (ar
   refuted_follows k line before (goal_right e h) r = absurd r
   refuted_follows k line before (refute_right {parents = ps} e (inl g)) r = ground_follows k ps before e g
   refuted_follows k line before (refute_right {parents = ps} e (inr g)) r =
-      let says = says_all clauses fresh lines k before g.parent (earlier k ps g.parent [] g.parents_are e) g.chain g.chain_is g.shown (no_refutation g.chain.source g.from_chain) in
-      encoded_follows g.marks g.marks_are (rw (← g.left_is, ← g.right_is) says)
+      let says = says_all clauses fresh lines k before g.parent (earlier k ps g.parent [] g.parents_are e) g.chain g.chain_is g.shows.derived.1 (no_chain_refutes g.chain.source g.shows.derived.0) in
+      encoded_follows g.marks g.marks_are (rw (← g.shows.left_is, ← g.shows.right_is) says)
 
   pub goal_shown : AreRightBefore clauses fresh lines (length lines) → EndsInRefutation lines → Aim
   goal_shown right end =
       let inside : end.last < length lines = let l = end.last_is in omega arith in
       refuted_follows end.last end.line (λ j h. right j (let l = end.last_is in omega arith)) (right end.last inside end.line end.line_is) end.refutes
+
+-- an answer that says accepted has found a goal that follows
+pub accepted_follows : (clauses : List Sourced) (fresh : Option Fresh) (lines : List Line) → AreFresh fresh clauses → HasGoalIfEncoded fresh clauses → (answer : Checked) → IsChecked clauses fresh lines answer → answer ≡ Accepted → SomeFollows (axioms_of clauses) (goals_of clauses)
+accepted_follows clauses fresh lines are has _ (accepted right end) e = goal_shown clauses fresh lines are has right end
+accepted_follows clauses fresh lines are has _ (rejected f) e = absurd cc
+accepted_follows clauses fresh lines are has _ (no_line n) e = absurd cc
+accepted_follows clauses fresh lines are has _ (no_refutation r l n) e = absurd cc

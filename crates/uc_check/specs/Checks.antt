@@ -3,10 +3,10 @@ use Rattle.std.specs.Prelude.{ℕ, ◌≡◌, ◌<◌, ◌+◌, List, [], length
 use Rattle.uc_term.specs.declared.fresh.Fresh.{Fresh}
 use Rattle.uc_clause.specs.declared.clause.Sourced.{Sourced}
 use Rattle.uc_check.specs.declared.proof.Line.{Line}
-use Rattle.uc_check.specs.declared.check.Cause.{Cause}
-use Rattle.uc_check.specs.declared.check.Cause.TheVariants.{NoGoal}
-use Rattle.uc_check.specs.declared.check.Checked.{Checked}
-use Rattle.uc_check.specs.declared.check.Checked.TheVariants.{Accepted, Rejected}
+use Rattle.uc_check.specs.declared.checker.Cause.{Cause}
+use Rattle.uc_check.specs.declared.checker.Cause.TheVariants.{NoGoal}
+use Rattle.uc_check.specs.declared.checker.Checked.{Checked}
+use Rattle.uc_check.specs.declared.checker.Checked.TheVariants.{Accepted, Rejected}
 use Rattle.uc_check.specs.Replacements.{IsRefutation}
 use Rattle.uc_check.specs.Lines.{Tested}
 

@@ -3,3 +3,4 @@ pub mod Variants
 pub mod Replacements
 pub mod Lines
 pub mod Checks
+pub mod Parents

@@ -5,24 +5,29 @@ use Rattle.uc_term.specs.Tree.{Tree, var}
 use Rattle.uc_term.specs.Variables.{firsts, has_variable}
 use Rattle.uc_term.specs.Encoding.{yes_term, no_term, pair_term}
 use Rattle.uc_clause.specs.declared.clause.Name.{Name}
+use Rattle.uc_clause.specs.declared.clause.Clause.{Clause}
 use Rattle.uc_clause.specs.declared.clause.Sourced.{Sourced}
 use Rattle.uc_check.specs.declared.proof.Line.{Line}
 use Rattle.uc_check.specs.declared.proof.LineStep.{LineStep}
 use Rattle.uc_check.specs.declared.proof.LineSource.{LineSource}
 use Rattle.uc_check.specs.declared.proof.LineSource.TheVariants.{File, Chain, Reflexive, EncodeGoal, Refute}
-use Rattle.uc_check.specs.declared.check.Cause.{Cause}
-use Rattle.uc_check.specs.declared.check.Cause.TheVariants.{NotAProblemClause, NotEarlier, EndsDiffer, WrongParents, NoGoal}
+use Rattle.uc_check.specs.declared.checker.Cause.{Cause}
+use Rattle.uc_check.specs.declared.checker.Cause.TheVariants.{NotAProblemClause, NotEarlier, EndsDiffer, WrongParents, NoGoal}
 use Rattle.uc_check.specs.Variants.{AreVariants}
 use Rattle.uc_check.specs.Replacements.{Leads}
 
--- some clause of the problem has this name, this polarity and this equation, sides in order, up to a renaming
+-- the clause has this name, this polarity and this equation, sides in order, up to a renaming
+pub record SaysSame (clause : Clause) (name : Name) (positive : Bool) (l r : Tree) : Type 0 where
+  pub name_is : clause.name ≡ name
+  pub polarity : clause.positive ≡ positive
+  pub variants : AreVariants clause.left clause.right l r
+
+-- some clause of the problem does
 pub record IsClause (clauses : List Sourced) (name : Name) (positive : Bool) (l r : Tree) : Type 0 where
   pub number : ℕ
   pub sourced : Sourced
   pub sourced_is : slice_get clauses number ≡ Some sourced
-  pub name_is : sourced.clause.name ≡ name
-  pub polarity : sourced.clause.positive ≡ positive
-  pub variants : AreVariants sourced.clause.left sourced.clause.right l r
+  pub same : SaysSame sourced.clause name positive l r
 
 abbrev pub IsFile : LineSource → Type 0
 IsFile (File name) = Unit {0}
@@ -31,6 +36,18 @@ IsFile _ = ⊥
 abbrev pub IsChain : LineSource → Type 0
 IsChain (Chain start steps parents) = Unit {0}
 IsChain _ = ⊥
+
+-- a file line that denies its equation
+abbrev pub IsDenial : Line → Type 0
+IsDenial line = IsFile line.source × (line.positive ≡ false)
+
+-- a chain line, of an equation
+abbrev pub IsDerived : Line → Type 0
+IsDerived line = IsChain line.source × (line.positive ≡ true)
+
+-- some variable occurs in the line's sides
+abbrev pub is_open : Line → Bool
+is_open line = has_variable line.left || has_variable line.right
 
 -- each of the lines is earlier than line k
 abbrev pub AreEarlier : ℕ → List ℕ → Type 0
@@ -50,7 +67,14 @@ pub record ReadsReflexive (fresh : Option Fresh) (parents : List ℕ) (line : Li
   pub left_is : line.left ≡ pair_term marks (var 0) (var 0)
   pub right_is : line.right ≡ yes_term marks
 
--- the line has one parent, a file line that denies s = t and has a variable, and reads eq(s,t) = false up to a renaming
+-- the line reads eq(s,t) = false up to a renaming, where the other one is a file line that denies s = t and has a variable
+pub record ReadsRefuted (marks : Fresh) (goal line : Line) : Type 0 where
+  pub denial : IsDenial goal
+  pub has_variables : is_open goal ≡ true
+  pub positive : line.positive ≡ true
+  pub variants : AreVariants (pair_term marks goal.left goal.right) (no_term marks) line.left line.right
+
+-- the line has one parent, and reads so for it
 pub record ReadsGoal (fresh : Option Fresh) (lines : List Line) (parents : List ℕ) (line : Line) : Type 0 where
   pub marks : Fresh
   pub marks_are : fresh ≡ Some marks
@@ -58,29 +82,32 @@ pub record ReadsGoal (fresh : Option Fresh) (lines : List Line) (parents : List 
   pub parents_are : parents ≡ parent ∷ []
   pub goal : Line
   pub goal_is : slice_get lines parent ≡ Some goal
-  pub from_file : IsFile goal.source
-  pub denied : goal.positive ≡ false
-  pub open_goal : (has_variable goal.left || has_variable goal.right) ≡ true
-  pub positive : line.positive ≡ true
-  pub variants : AreVariants (pair_term marks goal.left goal.right) (no_term marks) line.left line.right
+  pub reads : ReadsRefuted marks goal line
 
--- two parents, a file line that denies s = t and a chain line of s = t with the same sides, both ground
+-- a file line that denies s = t, and a chain line of s = t with the same sides, both ground
+pub record ShowsDenied (goal chain : Line) : Type 0 where
+  pub denial : IsDenial goal
+  pub ground_goal : is_open goal ≡ false
+  pub derived : IsDerived chain
+  pub left_same : chain.left ≡ goal.left
+  pub right_same : chain.right ≡ goal.right
+
+-- a chain line of true = false
+pub record ShowsFalse (marks : Fresh) (chain : Line) : Type 0 where
+  pub derived : IsDerived chain
+  pub left_is : chain.left ≡ yes_term marks
+  pub right_is : chain.right ≡ no_term marks
+
+-- two parents, a denial and then a chain line that shows what it denies
 pub record RefutesGround (lines : List Line) (parents : List ℕ) : Type 0 where
   pub first : ℕ
   pub second : ℕ
   pub parents_are : parents ≡ first ∷ second ∷ []
   pub goal : Line
   pub goal_is : slice_get lines first ≡ Some goal
-  pub from_file : IsFile goal.source
-  pub denied : goal.positive ≡ false
   pub chain : Line
   pub chain_is : slice_get lines second ≡ Some chain
-  pub from_chain : IsChain chain.source
-  pub shown : chain.positive ≡ true
-  pub left_same : chain.left ≡ goal.left
-  pub right_same : chain.right ≡ goal.right
-  pub left_ground : has_variable goal.left ≡ false
-  pub right_ground : has_variable goal.right ≡ false
+  pub shows : ShowsDenied goal chain
 
 -- one parent, a chain line of true = false
 pub record RefutesEncoded (fresh : Option Fresh) (lines : List Line) (parents : List ℕ) : Type 0 where
@@ -90,10 +117,7 @@ pub record RefutesEncoded (fresh : Option Fresh) (lines : List Line) (parents : 
   pub parents_are : parents ≡ parent ∷ []
   pub chain : Line
   pub chain_is : slice_get lines parent ≡ Some chain
-  pub from_chain : IsChain chain.source
-  pub shown : chain.positive ≡ true
-  pub left_is : chain.left ≡ yes_term marks
-  pub right_is : chain.right ≡ no_term marks
+  pub shows : ShowsFalse marks chain
 
 -- The outcome of the tests of line k, in their order: None where all are passed, and else the cause of the first that fails.
 module _ (clauses : List Sourced) (fresh : Option Fresh) (lines : List Line) (k : ℕ) (line : Line) where

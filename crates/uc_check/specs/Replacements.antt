@@ -1,13 +1,13 @@
 -- Steps of a chain: replacements of equals by equals.
 use Rattle.std.specs.Prelude.{ℕ, ◌≡◌, ◌<◌, Bool, true, List, [], ◌∷◌, slice_get, Some, Result, Ok, Err, if◌then◌else◌}
-use Rattle.uc_term.specs.Tree.{Tree, apply}
+use Rattle.uc_term.specs.Tree.{Tree, apply, subterm, put}
 use Rattle.uc_term.specs.Path.{at_position, put_position}
 use Rattle.uc_check.specs.declared.proof.Line.{Line}
 use Rattle.uc_check.specs.declared.proof.LineStep.{LineStep}
 use Rattle.uc_check.specs.declared.proof.LineSource.{LineSource}
 use Rattle.uc_check.specs.declared.proof.LineSource.TheVariants.{Refute}
-use Rattle.uc_check.specs.declared.check.Cause.{Cause}
-use Rattle.uc_check.specs.declared.check.Cause.TheVariants.{NotEarlier, NotAReplacement}
+use Rattle.uc_check.specs.declared.checker.Cause.{Cause}
+use Rattle.uc_check.specs.declared.checker.Cause.TheVariants.{NotEarlier, NotAReplacement}
 
 abbrev pub IsRefutation : LineSource → Type 0
 IsRefutation (Refute parents) = Unit {0}
@@ -40,3 +40,15 @@ pub data Leads (lines : List Line) (k : ℕ) : Tree → List LineStep → Result
   not_earlier : {t : Tree} {step : LineStep} {steps : List LineStep} → (step.by < k → ⊥) → Leads lines k t (step ∷ steps) (Err NotEarlier)
   no_replacement : {t : Tree} {step : LineStep} {steps : List LineStep} → step.by < k → (IsReplacement lines t step → ⊥) → Leads lines k t (step ∷ steps) (Err NotAReplacement)
   goes_on : {t : Tree} {step : LineStep} {steps : List LineStep} {end : Result Tree Cause} → step.by < k → IsReplacement lines t step → Leads lines k step.to steps end → Leads lines k t (step ∷ steps) end
+
+-- the last term of a chain
+abbrev pub chain_end : Tree → List LineStep → Tree
+chain_end t [] = t
+chain_end t (step ∷ steps) = chain_end step.to steps
+
+-- At this place one substitution makes a side the subterm of the term before, and the term behind is the one before with the
+-- other side's instance in its place.
+pub record ReplacesAt (from to before : Tree) (place : ℕ) (after : Tree) : Type 0 where
+  pub σ : ℕ → Tree
+  pub from_is : apply σ from ≡ subterm before place
+  pub to_is : put before place (apply σ to) ≡ after

@@ -4,10 +4,17 @@
 //! replacement of equals; Baader and Nipkow, Term Rewriting and All That, chapter 3).
 #![tactic(auto)]
 
-mod check;
+mod chain;
+mod checker;
+mod encode;
+mod file;
 mod laws;
+mod parents;
 mod proof;
+mod refute;
+mod replacement;
+mod variants;
 
-pub use check::{Cause, Checked};
+pub use checker::{Cause, Checked, check, check_lines};
 pub use laws::{lines_follow, one_answer, refutation_follows};
 pub use proof::{Line, LineSource, LineStep, Proof};

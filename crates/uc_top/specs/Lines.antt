@@ -12,10 +12,10 @@ use Rattle.uc_problem.specs.declared.fault.LoadFault.TheVariants as load
 use Rattle.uc_tstp.specs.declared.fault.ProofFault.{ProofFault}
 use Rattle.uc_tstp.specs.declared.fault.ProofFault.TheVariants as proof
 use Rattle.uc_check.specs.declared.proof.Line.{Line}
-use Rattle.uc_check.specs.declared.check.Cause.{Cause}
-use Rattle.uc_check.specs.declared.check.Cause.TheVariants as cause
-use Rattle.uc_check.specs.declared.check.Checked.{Checked}
-use Rattle.uc_check.specs.declared.check.Checked.TheVariants.{Accepted, Rejected}
+use Rattle.uc_check.specs.declared.checker.Cause.{Cause}
+use Rattle.uc_check.specs.declared.checker.Cause.TheVariants as cause
+use Rattle.uc_check.specs.declared.checker.Checked.{Checked}
+use Rattle.uc_check.specs.declared.checker.Checked.TheVariants.{Accepted, Rejected}
 
 -- lines one behind the other
 abbrev pub joined : List (List ℕ) → List ℕ
