@@ -210,3 +210,68 @@ fn compares(rt: HostRuntime) -> Result<(), Fail> {
     assert!(rt; holds_under(rt.alloc(), &order, b"Z|Y|X", b"XYZmmYXZmm>")?);
     Ok(())
 }
+
+// Many levels of the unary symbol over a term.
+fn tower(alloc: Global, end: Term) -> Result<Term, TermFault> {
+    let mut t = end;
+    for _ in 0..4000 {
+        let args = [t];
+        t = Term::app(alloc, I, &args)?;
+    }
+    Ok(t)
+}
+
+// Many levels of the binary symbol with a constant beside the deep argument, which is the last one or the first.
+fn comb(alloc: Global, part: Sym, last: bool) -> Result<Term, TermFault> {
+    let mut t = Term::var(alloc, 0)?;
+    for _ in 0..2047 {
+        let constant = Term::app(alloc, part, &[])?;
+        let args = if last { [constant, t] } else { [t, constant] };
+        t = Term::app(alloc, M, &args)?;
+    }
+    Ok(t)
+}
+
+// The term with another one in place of its variable: twice the levels.
+fn joined(alloc: Global, outer: &Term, inner: Term) -> Result<Vec<Node>, TermFault>
+    ensures { IfOk result (λ v. IsWhole v.items × (length v.items ≤ MAX_INSTANCE)) }
+{
+    let mut subst = Subst::new(alloc);
+    subst.add(0, inner)?;
+    let list = instance(alloc, outer.as_nodes(), &subst)?;
+    if list.len() > MAX_INSTANCE {
+        return Err(TermFault::TooLarge);
+    }
+    Ok(list)
+}
+
+// Whether the comb of the lower constant is less.
+fn combs_compare(alloc: Global, order: &Lpo, last: bool) -> Result<bool, TermFault> {
+    let outer = comb(alloc, B, last)?;
+    let s = joined(alloc, &outer, outer.copy(alloc)?)?;
+    let outer = comb(alloc, A, last)?;
+    let t = joined(alloc, &outer, outer.copy(alloc)?)?;
+    Ok(order.compare(&t, &s) == Cmp::Less)
+}
+
+// Whether the tower over the lower constant is less.
+fn towers_compare(alloc: Global, order: &Lpo) -> Result<bool, TermFault> {
+    let outer = tower(alloc, Term::var(alloc, 0)?)?;
+    let s = joined(alloc, &outer, tower(alloc, Term::app(alloc, B, &[])?)?)?;
+    let t = joined(alloc, &outer, tower(alloc, Term::app(alloc, A, &[])?)?)?;
+    Ok(order.compare(&t, &s) == Cmp::Less)
+}
+
+// Terms of 8,000 levels with one argument each, and of 4,094 with two.
+#[test]
+fn compares_deep_terms(rt: HostRuntime) -> Result<(), Fail> {
+    let symbols = symbols(rt.alloc())?;
+    let precedence = [E, A, B, M, I];
+    assert!(rt; are_known(&symbols, &precedence));
+    assert!(rt; has_constant(&symbols, &precedence));
+    let order = Lpo::new(rt.alloc(), &precedence, &symbols, &precedence)?;
+    assert!(rt; towers_compare(rt.alloc(), &order)?);
+    assert!(rt; combs_compare(rt.alloc(), &order, false)?);
+    assert!(rt; combs_compare(rt.alloc(), &order, true)?);
+    Ok(())
+}
