@@ -52,7 +52,7 @@ first_in : (x : ℕ) (c : List ℕ) → In c x → In c (first_or x c)
 first_in x [] i = elim i [ ]
 first_in x (y ∷ ys) i = in_front
 
-later : (z : ℕ) (c : List ℕ) (cs : Classes) → is_among z c ≡ false → Among (c ∷ cs) z → Among cs z
+pub later : (z : ℕ) (c : List ℕ) (cs : Classes) → is_among z c ≡ false → Among (c ∷ cs) z → Among cs z
 later z c cs e (among_front i) = absurd (let t = In-is_among z c i in cc)
 later z c cs e (among_rest a) = a
 

@@ -6,7 +6,7 @@ ghost use Rattle.uc_order.specs.VarOrders.{representative, represented, class_of
 ghost use Rattle.uc_order.specs.Renamed.{renamed_node};
 
 use std::alloc::{AllocError, Global};
-use uc_term::{Node, Term, VarOrder};
+use uc_term::{Node, Seq, Term, VarOrder};
 
 /// The term with each variable replaced by the first one of its class. A variable of no class stays.
 pub fn represent(alloc: Global, cases: &VarOrder, term: &Term) -> Result<Term, AllocError>
@@ -34,7 +34,22 @@ pub fn represent_node(cases: &VarOrder, node: Node) -> Node
 pub fn representative(cases: &VarOrder, x: u32) -> u32
     ensures { result ≡ representative cases.now x }
 {
-    for class in cases.classes() {
+    first_of_class(cases.classes(), x)
+}
+
+/// The number of the class of `x`, from 0 for the least; the number of classes, where it is in none. It takes no memory.
+pub fn class_of(cases: &VarOrder, x: u32) -> usize
+    ensures value { result ≡ class_of cases.now x }
+    ensures small { result ≤ length cases.now }
+{
+    class_number(cases.classes(), x)
+}
+
+/// `representative` of the order with these classes.
+pub fn first_of_class(classes: &[Seq<u32>], x: u32) -> u32
+    ensures { result ≡ representative classes.now x }
+{
+    for class in classes {
         let vars = class.as_slice();
         if is_among(x, vars) {
             return vars[0];
@@ -43,13 +58,13 @@ pub fn representative(cases: &VarOrder, x: u32) -> u32
     x
 }
 
-/// The number of the class of `x`, from 0 for the least; the number of classes, where it is in none. It takes no memory.
-pub fn class_of(cases: &VarOrder, x: u32) -> usize
-    ensures value { result ≡ class_of cases.now x }
-    ensures small { result ≤ length cases.now }
+/// `class_of` in the order with these classes.
+pub fn class_number(classes: &[Seq<u32>], x: u32) -> usize
+    ensures value { result ≡ class_of classes.now x }
+    ensures small { result ≤ length classes.now }
 {
     let mut at = 0;
-    for class in cases.classes() {
+    for class in classes {
         if is_among(x, class.as_slice()) {
             return at;
         }

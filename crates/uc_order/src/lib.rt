@@ -11,7 +11,9 @@ mod order;
 mod precedence;
 mod spec;
 
-pub use classes::{class_of, represent, represent_node, representative};
+pub use classes::{
+    class_number, class_of, first_of_class, represent, represent_node, representative,
+};
 pub use completeness::{each_once, exactly_one};
 pub use listing::var_orders;
 pub use order::{Cmp, Order};

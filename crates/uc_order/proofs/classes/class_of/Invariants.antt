@@ -1,6 +1,0 @@
-use Rattle.std.proofs.Common.{◌≡◌, ◌+◌, drop}
-use Rattle.uc_order.specs.VarOrders.{class_of}
-use Rattle.uc_order.proofs.classes.class_of.Given as goal
-
-abbrev pub invariant-loop-class : goal.invariant-loop-class
-invariant-loop-class l = (l.at ≡ l.class-index) × (class_of l.cases l.x ≡ l.class-index + class_of (drop l.class-index l.cases) l.x)
