@@ -1,0 +1,9 @@
+use Rattle.std.proofs.Common.{length, ◌-◌, ◌≡◌, ◌≤◌, take}
+use Rattle.uc_kbo.specs.Runs.{read_by}
+use Rattle.uc_kbo.proofs.climb.first_difference.Given as goal
+
+abbrev pub invariant-loop-at : goal.invariant-loop-at
+invariant-loop-at l = record { in_s : l.at ≤ length l.s; in_t : l.at ≤ length l.t; common : take l.at (read_by l.under l.classes l.s) ≡ take l.at (read_by l.under l.classes l.t) }
+
+abbrev pub decreases-loop-at : goal.decreases-loop-at
+decreases-loop-at l = length l.s - l.at

@@ -1,0 +1,13 @@
+pub mod Kbo
+pub mod Weights
+pub mod Sums
+pub mod Order
+pub mod Instances
+pub mod WellFounded
+pub mod Table
+pub mod Rises
+pub mod Ground
+pub mod Laws
+pub mod Runs
+pub mod Faults
+pub mod Valid

@@ -1,0 +1,13 @@
+//! The Knuth-Bendix order, with a unary symbol of weight 0 where it is last in the precedence.
+#![tactic(auto)]
+
+mod climb;
+mod covers;
+mod kbo;
+mod run;
+mod table;
+mod weights;
+
+pub use kbo::Kbo;
+pub use run::Run;
+pub use weights::{Slot, Weighed, Weights};

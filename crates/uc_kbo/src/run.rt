@@ -1,0 +1,115 @@
+//! A run of nodes within a list: its weight, and how often each variable is in it.
+
+ghost use Rattle.std.specs.Prelude.{◌≡◌, ℕ, ◌+◌, ◌<◌, ◌≤◌, length, slice_index, false, replicate, cond, ◌^◌};
+ghost use Rattle.uc_order.specs.Renamed.{renamed_node};
+ghost use Rattle.uc_kbo.specs.Runs.{IsRun, image_by, slot_by, read_by, table_weighing, node_weight, is_counted, in_slot};
+
+use crate::Weights;
+use uc_order::{class_number, first_of_class};
+use uc_term::{Node, Seq};
+
+/// The nodes from one place of a list to another. The variables that are counted under a number below 64 have a counter
+/// each.
+#[derive(Drop)]
+pub struct Run {
+    pub from: usize,
+    pub to: usize,
+    pub weight: u64,
+    pub counts: [u32; 64],
+    pub has_large: bool,
+}
+
+// The node as it is, or with the first variable of its class.
+#[inline]
+pub fn read(under: bool, classes: &[Seq<u32>], node: Node) -> Node
+    ensures { result ≡ renamed_node (image_by under classes.now) node }
+{
+    match node {
+        Node::Var(x) => Node::Var(if under { first_of_class(classes, x) } else { x }),
+        Node::App(_, _) => node,
+    }
+}
+
+// The number under which a variable is counted: its own, or that of its class.
+#[inline]
+pub fn slot(under: bool, classes: &[Seq<u32>], x: u32) -> usize
+    ensures { result ≡ slot_by under classes.now x }
+{
+    if under {
+        class_number(classes, x)
+    } else {
+        x as usize
+    }
+}
+
+impl Run {
+    // The empty run at a place.
+    #[inline]
+    pub fn new(from: usize) -> Run
+        ensures from { result.from ≡ from }
+        ensures to { result.to ≡ from }
+        ensures weight { result.weight ≡ 0 }
+        ensures counts { result.counts ≡ replicate 64 0 }
+        ensures large { result.has_large ≡ false }
+    {
+        Run {
+            from,
+            to: from,
+            weight: 0,
+            counts: [0; 64],
+            has_large: false,
+        }
+    }
+
+    // Counts one node more.
+    #[inline]
+    fn count(&mut self, w: &Weights, under: bool, classes: &[Seq<u32>], node: Node)
+        requires weight { self.old.weight + 4294967295 < 2 ^ 64 }
+        requires size { length self.old.counts ≡ 64 }
+        requires counts { (i : ℕ) → i < 64 → slice_index self.old.counts i + 1 < 2 ^ 32 }
+        ensures from { self.new.from ≡ self.old.from }
+        ensures to { self.new.to ≡ self.old.to }
+        ensures weight { self.new.weight ≡ self.old.weight + node_weight (table_weighing w.now.w0 w.now.table.items) node }
+        ensures small { self.new.weight ≤ self.old.weight + 4294967295 }
+        ensures size { length self.new.counts ≡ 64 }
+        ensures counts { (i : ℕ) → i < 64 → slice_index self.new.counts i ≡ slice_index self.old.counts i + cond (is_counted (in_slot (slot_by under classes.now) i) node) 1 0 }
+        ensures large { self.new.has_large ≡ false → (self.old.has_large ≡ false) × ((i : ℕ) → 64 ≤ i → is_counted (in_slot (slot_by under classes.now) i) node ≡ false) }
+    {
+        match node {
+            Node::Var(x) => {
+                self.weight += w.w0 as u64;
+                let at = slot(under, classes, x);
+                if at < 64 {
+                    self.counts[at] += 1;
+                } else {
+                    self.has_large = true;
+                }
+            }
+            Node::App(f, n) => self.weight += w.weight_of(f, n) as u64,
+        }
+    }
+
+    // Takes in the nodes up to `to`.
+    #[inline]
+    pub fn extend(
+        &mut self,
+        w: &Weights,
+        under: bool,
+        classes: &[Seq<u32>],
+        list: &[Node],
+        to: usize,
+    )
+        requires run { IsRun (table_weighing w.now.w0 w.now.table.items) (slot_by under classes.now) (read_by under classes.now list.now) self.old }
+        requires ahead { self.old.to ≤ to }
+        requires within { to ≤ length list.now }
+        requires small { length list.now ≤ 16777216 }
+        ensures run { IsRun (table_weighing w.now.w0 w.now.table.items) (slot_by under classes.now) (read_by under classes.now list.now) self.new }
+        ensures from { self.new.from ≡ self.old.from }
+        ensures to { self.new.to ≡ to }
+    {
+        for n in &list[self.to..to] {
+            self.count(w, under, classes, read(under, classes, *n));
+        }
+        self.to = to;
+    }
+}
