@@ -8,6 +8,7 @@ fn one_state_a_pair(rt: HostRuntime) -> Result<(), Fail> {
     assert!(rt; ledger.is_empty());
     ledger.reserve(rt.alloc(), 2)?;
     ledger.meet(rt.alloc(), &[State::Waiting, State::Large, State::Waiting])?;
+    assert!(rt; matches!(ledger.finish(0, 7), Err(NotThere(Some(State::Waiting)))));
     assert!(rt; ledger.take(0, 7).is_ok());
     assert_eq!(rt; ledger.state(0), Some(State::Out(7)));
     assert!(rt; matches!(ledger.take(0, 7), Err(NotThere(Some(State::Out(7))))));

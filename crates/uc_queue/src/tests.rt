@@ -28,3 +28,41 @@ fn each_fifth_by_number(rt: HostRuntime) -> Result<(), Fail> {
     assert_eq!(rt; queue.draw(), None);
     Ok(())
 }
+
+// Five entries: four draws by weight, and the fifth takes what is left.
+#[test]
+fn by_weight_then_number(rt: HostRuntime) -> Result<(), Fail> {
+    let mut queue = Passive::new(rt.alloc())?;
+    queue.add(rt.alloc(), 3, 0)?;
+    queue.add(rt.alloc(), 1, 1)?;
+    queue.add(rt.alloc(), 2, 2)?;
+    queue.add(rt.alloc(), 4, 3)?;
+    queue.add(rt.alloc(), 5, 4)?;
+    assert_eq!(rt; queue.draw(), Some(1));
+    assert_eq!(rt; queue.draw(), Some(2));
+    assert_eq!(rt; queue.draw(), Some(0));
+    assert_eq!(rt; queue.draw(), Some(3));
+    assert_eq!(rt; queue.draw(), Some(4));
+    assert_eq!(rt; queue.draw(), None);
+    Ok(())
+}
+
+// Six entries, the heaviest with the least number: the fifth draw takes it.
+#[test]
+fn the_heaviest_is_fifth(rt: HostRuntime) -> Result<(), Fail> {
+    let mut queue = Passive::new(rt.alloc())?;
+    queue.add(rt.alloc(), 9, 0)?;
+    queue.add(rt.alloc(), 1, 1)?;
+    queue.add(rt.alloc(), 2, 2)?;
+    queue.add(rt.alloc(), 4, 3)?;
+    queue.add(rt.alloc(), 5, 4)?;
+    queue.add(rt.alloc(), 6, 5)?;
+    assert_eq!(rt; queue.draw(), Some(1));
+    assert_eq!(rt; queue.draw(), Some(2));
+    assert_eq!(rt; queue.draw(), Some(3));
+    assert_eq!(rt; queue.draw(), Some(4));
+    assert_eq!(rt; queue.draw(), Some(0));
+    assert_eq!(rt; queue.draw(), Some(5));
+    assert_eq!(rt; queue.draw(), None);
+    Ok(())
+}
