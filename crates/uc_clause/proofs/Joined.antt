@@ -1,20 +1,19 @@
 -- A text that is made of pieces which stand apart is cut into them.
-use Rattle.std.proofs.Common.{◌≡◌, ℕ, zero, suc, ◌+◌, ◌-◌, ◌<◌, ◌≤◌, List, [], ◌∷◌, ◌++◌, length, get_or, take, drop, length-append, refl, sym, ap, ◌∙◌, subst, arith, append_assoc, append-nil, Bool, true, false, cond, ◌&&◌, ◌||◌, ◌⊎◌, inl, inr, ⊎_elim}
-use Rattle.std.specs.Prelude.{◌==◌, Result, Ok, Err}
+use Rattle.std.proofs.Common.{◌≡◌, ℕ, ◌+◌, ◌<◌, List, [], ◌∷◌, ◌++◌, length, get_or, drop, length-append, refl, sym, ap, ◌∙◌, subst, arith, append_assoc, append-nil, Bool, true, false, ◌&&◌, ◌||◌, ⊎_elim}
+use Rattle.std.specs.Prelude.{◌==◌, Ok}
 use Rattle.std.specs.List.{list_all, prefix_len}
 use Rattle.std.proofs.Math.Seq.{drop-append_seam, take-append_seam}
-
-use Rattle.std.proofs.lemmas.Bool.{and_parts, and_from, or_cases, cases_Bool, both_ways, eq-eqb, eqb-true, and_left, or_right}
+use Rattle.std.proofs.lemmas.Bool.{and_parts, or_cases, cases_Bool}
 use Rattle.std.proofs.lemmas.Bool.Decides.{nat_tests}
 use Rattle.uc_clause.specs.declared.token.Kind.{Kind}
-use Rattle.uc_clause.specs.declared.token.Kind.TheVariants.{Lower, Upper, Quoted, Distinct, Integer, Dollar, Unequal, Mark}
+use Rattle.uc_clause.specs.declared.token.Kind.TheVariants.{Lower, Upper, Quoted, Integer, Unequal, Mark}
 use Rattle.uc_clause.specs.declared.token.Token.{Token}
-use Rattle.uc_clause.specs.Bytes.{between, is_lower, is_upper, is_digit, is_sign, is_word, is_white, is_mark, is_name, is_digits, closes, is_plain}
+use Rattle.uc_clause.specs.Bytes.{between, is_lower, is_upper, is_digit, is_sign, is_word, is_mark, is_name, is_digits, closes}
 use Rattle.uc_clause.specs.Names.{IsSpellable, escaped, quoted, unescaped, spelling, kind_of_word, stands_for}
-use Rattle.uc_clause.specs.Tokens.{Cut, end, gap, token, stuck, onto, token_at, Stands, Skips, spells}
+use Rattle.uc_clause.specs.Tokens.{Cut, end, gap, token, token_at, Stands, Skips, spells}
 use Rattle.uc_clause.proofs.Once.{some_bytes}
 use Rattle.uc_clause.proofs.PieceLemmas.{plain_step}
-use Rattle.uc_clause.proofs.Longest.{lower_at, upper_at, digit_at, signed_at, mark_at, unequal_at, white_at, tail, tail_is}
+use Rattle.uc_clause.proofs.Longest.{lower_at, upper_at, digit_at, signed_at, mark_at, unequal_at, white_at, tail_is}
 use Rattle.uc_clause.proofs.QuotedAt.{quoted_at}
 
 -- a token's kind and bytes, or a byte of white space
@@ -92,14 +91,14 @@ pub integer_stands : (x rest : List ℕ) → spells Integer x ≡ true → prefi
 integer_stands [] rest s none = cc
 integer_stands (b ∷ bs) rest s none =
     ⊎_elim
-      (λ signed.
-        let parts = and_parts (is_sign b) (is_digits bs) signed in
-        let digits = some_digits bs parts.1 in
-        subst (Stands (b ∷ bs ++ rest) Integer) (one_and b bs) (signed_at (b ∷ bs ++ rest) (length bs) (omega arith) parts.0 (rw (tail_is b (bs ++ rest)) (sym (prefix_stop is_digit bs rest digits.1 none))) digits.0))
-      (λ plain.
-        let parts = and_parts (is_digit b) (list_all is_digit bs) plain in
-        subst (Stands (b ∷ bs ++ rest) Integer) (one_and b bs) (digit_at (b ∷ bs ++ rest) (length bs) (omega arith) parts.0 (rw (tail_is b (bs ++ rest)) (sym (prefix_stop is_digit bs rest parts.1 none)))))
-      (or_cases (is_sign b && is_digits bs) (is_digit b && list_all is_digit bs) s)
+    (λ signed.
+    let parts = and_parts (is_sign b) (is_digits bs) signed in
+    let digits = some_digits bs parts.1 in
+    subst (Stands (b ∷ bs ++ rest) Integer) (one_and b bs) (signed_at (b ∷ bs ++ rest) (length bs) (omega arith) parts.0 (rw (tail_is b (bs ++ rest)) (sym (prefix_stop is_digit bs rest digits.1 none))) digits.0))
+    (λ plain.
+    let parts = and_parts (is_digit b) (list_all is_digit bs) plain in
+    subst (Stands (b ∷ bs ++ rest) Integer) (one_and b bs) (digit_at (b ∷ bs ++ rest) (length bs) (omega arith) parts.0 (rw (tail_is b (bs ++ rest)) (sym (prefix_stop is_digit bs rest parts.1 none)))))
+    (or_cases (is_sign b && is_digits bs) (is_digit b && list_all is_digit bs) s)
 
 -- marks
 pub mark_stands : (b : ℕ) (rest : List ℕ) → is_mark b ≡ true → is_sign b ≡ false → (b ≡ 36 → ⊥) → (b ≡ 33 → ⊥) → (b ≡ 47 → ⊥) → Stands (b ∷ rest) Mark 1
@@ -132,9 +131,9 @@ closes_escaped [] all = refl
 closes_escaped (b ∷ w) all =
     let parts = and_parts (between 32 126 b) (list_all (between 32 126) w) all in
     ⊎_elim
-      (λ e. rw (escaped_on b w e) (escape_closes b (escaped w ++ 39 ∷ []) e ∙ closes_escaped w parts.1))
-      (λ e. rw (escaped_off b w e) (plain_closes b (escaped w ++ 39 ∷ []) parts.0 e ∙ closes_escaped w parts.1))
-      (cases_Bool (b == 92 || b == 39))
+    (λ e. rw (escaped_on b w e) (escape_closes b (escaped w ++ 39 ∷ []) e ∙ closes_escaped w parts.1))
+    (λ e. rw (escaped_off b w e) (plain_closes b (escaped w ++ 39 ∷ []) parts.0 e ∙ closes_escaped w parts.1))
+    (cases_Bool (b == 92 || b == 39))
 
 -- pieces with a quote behind them aren't nothing
 plain_first : (b : ℕ) (y : List ℕ) → (b == 92) ≡ false → (z : List ℕ) → unescaped (b ∷ y ++ 39 ∷ z) ≡ b ∷ unescaped (y ++ 39 ∷ z)
@@ -145,9 +144,9 @@ pub unescaped-escaped : (w : List ℕ) → unescaped (escaped w ++ 39 ∷ []) �
 unescaped-escaped [] = refl
 unescaped-escaped (b ∷ w) =
     ⊎_elim
-      (λ e. rw (escaped_on b w e) (ap (λ l. b ∷ l) (unescaped-escaped w)))
-      (λ e. rw (escaped_off b w e) (plain_first b (escaped w) (grind (arith, nat_tests)) [] ∙ ap (λ l. b ∷ l) (unescaped-escaped w)))
-      (cases_Bool (b == 92 || b == 39))
+    (λ e. rw (escaped_on b w e) (ap (λ l. b ∷ l) (unescaped-escaped w)))
+    (λ e. rw (escaped_off b w e) (plain_first b (escaped w) (grind (arith, nat_tests)) [] ∙ ap (λ l. b ∷ l) (unescaped-escaped w)))
+    (cases_Bool (b == 92 || b == 39))
 
 first_escaped : (b : ℕ) (w rest : List ℕ) → get_or (escaped (b ∷ w) ++ rest) 0 0 ≡ 39 → ⊥
 first_escaped b w rest h = ⊎_elim (λ e. let y = rw (escaped_on b w e) at h in omega arith) (λ e. let y : b ≡ 39 = rw (escaped_off b w e) at h in grind (arith, nat_tests)) (cases_Bool (b == 92 || b == 39))
@@ -160,10 +159,10 @@ quoted_stands (b ∷ w) rest spellable =
     let len : length inner ≡ length (escaped (b ∷ w)) + 1 = length-append (escaped (b ∷ w)) (39 ∷ []) in
     let whole : length (39 ∷ inner ++ rest) ≡ 1 + (length inner + length rest) = omega (arith, length-append inner rest) in
     subst (Stands (39 ∷ inner ++ rest) Quoted) (one_and 39 inner)
-      (quoted_at (39 ∷ inner ++ rest) (length inner) (omega arith) refl (λ one. omega arith)
-        (λ h. first_escaped b w (39 ∷ [] ++ rest) (ap (λ l. get_or l 0 0) (sym (append_assoc (escaped (b ∷ w)) (39 ∷ []) rest)) ∙ h))
-        (rw (tail_is 39 (inner ++ rest)) (omega (arith, length-append inner rest)))
-        (rw (tail_is 39 (inner ++ rest), take-append_seam inner rest) closed))
+    (quoted_at (39 ∷ inner ++ rest) (length inner) (omega arith) refl (λ one. omega arith)
+    (λ h. first_escaped b w (39 ∷ [] ++ rest) (ap (λ l. get_or l 0 0) (sym (append_assoc (escaped (b ∷ w)) (39 ∷ []) rest)) ∙ h))
+    (rw (tail_is 39 (inner ++ rest)) (omega (arith, length-append inner rest)))
+    (rw (tail_is 39 (inner ++ rest), take-append_seam inner rest) closed))
 
 -- a word as it is printed
 pub spelling_stands : (w rest : List ℕ) → IsSpellable w → prefix_len is_word rest ≡ 0 → Stands (spelling w ++ rest) (kind_of_word w) (length (spelling w))

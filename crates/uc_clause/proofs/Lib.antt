@@ -24,3 +24,8 @@ pub mod Literals
 pub mod MeansOnce
 pub mod Whole
 pub mod Alone
+pub mod Printed
+pub mod ReadBack
+pub mod Renumbering
+pub mod PrintedClause
+pub mod ClauseAgain

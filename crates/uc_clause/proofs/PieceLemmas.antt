@@ -71,7 +71,7 @@ bad_escape q (b ∷ c ∷ bs) quote some e n k zero = refl
 bad_escape q (b ∷ c ∷ bs) quote some e n k (suc zero) = not_quote q b quote e
 bad_escape q (b ∷ c ∷ bs) quote some e n k (suc (suc m)) = grind (arith, nat_tests)
 
-drop_both : (n at : ℕ) (xs : List ℕ) → drop n (drop at xs) ≡ drop (at + n) xs
+pub drop_both : (n at : ℕ) (xs : List ℕ) → drop n (drop at xs) ≡ drop (at + n) xs
 drop_both n zero xs = rw zero-add refl
 drop_both n (suc at) [] = drop_all n [] (omega arith) ∙ sym (drop_all (suc at + n) [] (omega arith))
 drop_both n (suc at) (x ∷ xs) = let e : suc at + n ≡ suc (at + n) = omega arith in rw e (drop_both n at xs)

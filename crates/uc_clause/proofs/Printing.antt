@@ -10,7 +10,11 @@ use Rattle.uc_term.specs.Flat.{flat, spelled, AreWhole}
 use Rattle.uc_term.specs.Code.{spelled-flat}
 use Rattle.uc_term.specs.Over.{AreOver}
 use Rattle.uc_term.specs.Table.{Table, Has, IsOf, arity_of, name_of}
-use Rattle.uc_term.proofs.Terms.{count-of_list, whole-drop}
+use Rattle.std.proofs.lemmas.List.{take_more}
+use Rattle.uc_term.specs.Variables.{variables}
+use Rattle.uc_term.proofs.NodeVars.{node_vars, node_vars-append, node_vars-flat}
+use Rattle.uc_clause.specs.Printable.{AreNumbered, IsNumberedNode}
+use Rattle.uc_term.proofs.Terms.{take_of_length-le, count-of_list, whole-drop}
 use Rattle.uc_clause.specs.Names.{spelling}
 use Rattle.uc_clause.specs.Printing.{variable_text, term_text, rest_text}
 use Rattle.uc_clause.specs.Marks.{closing, marks_behind, node_text, arguments_of, HasSymbol}
@@ -154,3 +158,23 @@ closed_text out longer items new left e h m =
 
 pub closed_pending : (items new : List ℕ) (left : ℕ) → items ≡ new ++ left ∷ [] → left ≤ 0 → (closing (reverse new)).pending ≡ (closing (reverse items)).pending
 closed_pending items new left e h = let none_left : left ≡ 0 = omega arith in rw (popped items new left e, none_left) refl
+
+-- the numbers of variables
+pub numbered_both : (xs ys : List ℕ) → AreNumbered xs → AreNumbered ys → AreNumbered (xs ++ ys)
+numbered_both [] ys h k = k
+numbered_both (x ∷ xs) ys h k = (h.0, numbered_both xs ys h.1 k)
+
+pub numbered_split : (xs ys : List ℕ) → AreNumbered (xs ++ ys) → AreNumbered xs × AreNumbered ys
+numbered_split [] ys h = (tt, h)
+numbered_split (x ∷ xs) ys h = let both = numbered_split xs ys h.1 in ((h.0, both.0), both.1)
+
+numbered_node : (n : Node) → IsNumberedNode n → AreNumbered (node_vars (n ∷ []))
+numbered_node (Var x) h = (h, tt)
+numbered_node (App f k) h = tt
+
+pub numbered_more : (nodes : List Node) (i : ℕ) (d : Node) → i < length nodes → AreNumbered (node_vars (take i nodes)) → IsNumberedNode (get_or nodes i d) → AreNumbered (node_vars (take (i + 1) nodes))
+numbered_more nodes i d h before n =
+    subst AreNumbered (sym (ap node_vars (take_more nodes i d h) ∙ node_vars-append (take i nodes) (get_or nodes i d ∷ []))) (numbered_both (node_vars (take i nodes)) (node_vars (get_or nodes i d ∷ [])) before (numbered_node (get_or nodes i d) n))
+
+pub numbered_end : (nodes : List Node) (t : Tree) (i : ℕ) → nodes ≡ flat t → length nodes ≤ i → AreNumbered (node_vars (take i nodes)) → AreNumbered (variables t)
+numbered_end nodes t i e h numbered = subst AreNumbered (ap node_vars (take_of_length-le nodes i h ∙ e) ∙ node_vars-flat t) numbered

@@ -12,6 +12,7 @@ pub mod Items
 pub mod Meaning
 pub mod Refusals
 pub mod Reading
+pub mod Printable
 pub mod First
 pub mod Pieces
 pub mod Drafts

@@ -1,10 +1,14 @@
 //! Printing of terms, names and clauses.
 
-ghost use Rattle.std.specs.Prelude.{◌≡◌, ◌++◌, ◌∷◌, [], IfOk, OnOk, reverse};
+ghost use Rattle.std.specs.Prelude.{◌≤◌, length, ◌≡◌, ◌++◌, ◌∷◌, [], IfOk, OnOk, reverse};
 ghost use Rattle.uc_term.specs.Table.{IsOf};
 ghost use Rattle.uc_clause.specs.Bytes.{is_name};
 ghost use Rattle.uc_clause.specs.Marks.{closing, marks_behind, node_text, arguments_of, HasSymbol};
 ghost use Rattle.uc_clause.specs.Names.{spelling, quoted, escaped, name_spelling};
+ghost use Rattle.uc_term.specs.Tree.{nodes};
+ghost use Rattle.uc_term.specs.Variables.{variables, renumbered};
+ghost use Rattle.uc_clause.specs.Reading.{ReadsTerm};
+ghost use Rattle.uc_clause.specs.Printable.{IsPrintable, IsPrintableClause, ReadsAgain, IsNumbered, AreNumbered, IsNumberedNode};
 ghost use Rattle.uc_clause.specs.Printing.{variable_text, term_text, sign_text, equation_text, role_text, clause_text};
 
 use crate::bytes::{is_lower, word_len};
@@ -14,32 +18,29 @@ use std::alloc::{AllocError, Global};
 use uc_term::{Node, Symbols, Term, Text};
 
 /// A term in the syntax that it is read in: variable `n` is `X` and `n + 1`, names stand bare where they are lower-case
-/// words and else in quotes, and there are no spaces.
+/// words and else in quotes, and there are no spaces. Where a token can spell each name and no symbol has more than 255
+/// arguments, the text is read again as the same term with its variables numbered by first occurrence.
 pub fn print_term(alloc: Global, term: &Term, symbols: &Symbols) -> Result<Text, AllocError>
     requires { IsOf symbols.now term.now }
-    ensures { IfOk result (λ text. text ≡ term_text symbols.now term.now) }
+    ensures text { IfOk result (λ text. text ≡ term_text symbols.now term.now) }
+    ensures read_again { IsPrintable symbols.now term.now → IfOk result (λ text. ReadsTerm text symbols.now (renumbered term.now)) }
 {
     let mut out = Text::new(alloc);
     write_term(alloc, &mut out, term, symbols)?;
     Ok(out)
 }
 
-/// A clause on one line, without its line feed: `cnf(NAME, ROLE, EQUATION).` with `s = t` or `s != t`.
+/// A clause on one line, without its line feed: `cnf(NAME, ROLE, EQUATION).` with `s = t` or `s != t`. Where a token can
+/// spell each name and no symbol has more than 255 arguments, a text of no more than 16,777,216 bytes is read again as the
+/// same clause with its variables numbered by first occurrence and the places of the text.
 pub fn print_clause(alloc: Global, clause: &Clause, symbols: &Symbols) -> Result<Text, AllocError>
     requires left { IsOf symbols.now clause.now.left }
     requires right { IsOf symbols.now clause.now.right }
-    ensures { IfOk result (λ text. text ≡ clause_text symbols.now clause.now) }
+    ensures text { IfOk result (λ text. text ≡ clause_text symbols.now clause.now) }
+    ensures read_again { IsPrintableClause symbols.now clause.now → IfOk result (λ text. length text ≤ 16777216 → ReadsAgain text symbols.now clause.now) }
 {
     let mut out = Text::new(alloc);
-    out.extend(b"cnf(")?;
-    write_name(&mut out, &clause.name)?;
-    out.extend(b", ")?;
-    out.extend(role_text(clause.role))?;
-    out.extend(b", ")?;
-    write_term(alloc, &mut out, &clause.left, symbols)?;
-    out.extend(sign_text(clause.positive))?;
-    write_term(alloc, &mut out, &clause.right, symbols)?;
-    out.extend(b").")?;
+    write_clause(alloc, &mut out, clause, symbols)?;
     Ok(out)
 }
 
@@ -103,6 +104,29 @@ fn sign_text(positive: bool) -> &'static [u8]
     if positive { b" = " } else { b" != " }
 }
 
+fn write_clause(
+    alloc: Global,
+    out: &mut Text,
+    clause: &Clause,
+    symbols: &Symbols,
+) -> Result<(), AllocError>
+    requires left { IsOf symbols.now clause.now.left }
+    requires right { IsOf symbols.now clause.now.right }
+    ensures text { OnOk result (out.new ≡ out.old ++ clause_text symbols.now clause.now) }
+    ensures left { OnOk result ((nodes clause.now.left ≤ 4096) × AreNumbered (variables clause.now.left)) }
+    ensures right { OnOk result ((nodes clause.now.right ≤ 4096) × AreNumbered (variables clause.now.right)) }
+{
+    out.extend(b"cnf(")?;
+    write_name(out, &clause.name)?;
+    out.extend(b", ")?;
+    out.extend(role_text(clause.role))?;
+    out.extend(b", ")?;
+    write_term(alloc, out, &clause.left, symbols)?;
+    out.extend(sign_text(clause.positive))?;
+    write_term(alloc, out, &clause.right, symbols)?;
+    out.extend(b").")
+}
+
 fn write_name(out: &mut Text, name: &Name) -> Result<(), AllocError>
     ensures { OnOk result (out.new ≡ out.old ++ name_spelling name.now) }
 {
@@ -162,7 +186,9 @@ fn write_term(
     symbols: &Symbols,
 ) -> Result<(), AllocError>
     requires { IsOf symbols.now term.now }
-    ensures { OnOk result (out.new ≡ out.old ++ term_text symbols.now term.now) }
+    ensures text { OnOk result (out.new ≡ out.old ++ term_text symbols.now term.now) }
+    ensures small { OnOk result (nodes term.now ≤ 4096) }
+    ensures numbered { OnOk result (AreNumbered (variables term.now)) }
 {
     let mut pending = Vec::new(alloc);
     let nodes = term.as_nodes();
@@ -175,7 +201,8 @@ fn write_term(
 
 fn write_node(out: &mut Text, node: Node, symbols: &Symbols) -> Result<(), AllocError>
     requires { HasSymbol symbols.now node }
-    ensures { OnOk result (out.new ≡ out.old ++ node_text symbols.now node) }
+    ensures text { OnOk result (out.new ≡ out.old ++ node_text symbols.now node) }
+    ensures numbered { OnOk result (IsNumberedNode node) }
 {
     match node {
         Node::Var(n) => write_variable(out, n),
@@ -184,7 +211,8 @@ fn write_node(out: &mut Text, node: Node, symbols: &Symbols) -> Result<(), Alloc
 }
 
 fn write_variable(out: &mut Text, n: u32) -> Result<(), AllocError>
-    ensures { OnOk result (out.new ≡ out.old ++ variable_text n) }
+    ensures text { OnOk result (out.new ≡ out.old ++ variable_text n) }
+    ensures numbered { IsNumbered n }
 {
     out.push(b'X')?;
     let mut buffer = Buffer::new();
