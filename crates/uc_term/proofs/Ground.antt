@@ -1,5 +1,5 @@
 -- Whether a variable occurs in a flat list.
-use Rattle.std.proofs.Common.{◌≡◌, ℕ, ◌<◌, ◌≤◌, Bool, true, false, ◌||◌, List, [], ◌∷◌, ◌++◌, length, drop, get_or, refl, sym, ap, ◌∙◌, arith, zero, suc, ◌+◌}
+use Rattle.std.proofs.Common.{◌≡◌, ℕ, ◌<◌, ◌≤◌, Bool, true, false, ◌||◌, List, [], ◌∷◌, ◌++◌, length, drop, get_or, refl, ap, ◌∙◌, arith, zero, suc, ◌+◌}
 use Rattle.std.proofs.lemmas.List.{drop_more}
 use Rattle.uc_term.specs.declared.node.Sym.{Sym}
 use Rattle.uc_term.specs.declared.node.Node.{Node}

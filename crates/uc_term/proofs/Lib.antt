@@ -19,3 +19,5 @@ pub mod Firsts
 pub mod Pairs
 pub mod Joins
 pub mod NodeVars
+pub mod Gathered
+pub mod Grown

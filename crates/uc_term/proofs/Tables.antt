@@ -50,7 +50,7 @@ get_within [] ys i x e = absurd cc
 get_within (z ∷ xs) ys zero x e = e
 get_within (z ∷ xs) ys (suc i) x e = get_within xs ys i x e
 
-get_pushed : {A : Type 0} (xs : List A) (y : A) (i : ℕ) (x : A) → slice_get (xs ++ y ∷ []) i ≡ Some x → (slice_get xs i ≡ Some x) ⊎ ((i ≡ length xs) × (x ≡ y))
+pub get_pushed : {A : Type 0} (xs : List A) (y : A) (i : ℕ) (x : A) → slice_get (xs ++ y ∷ []) i ≡ Some x → (slice_get xs i ≡ Some x) ⊎ ((i ≡ length xs) × (x ≡ y))
 get_pushed [] y zero x e = inr (refl, cc)
 get_pushed [] y (suc i) x e = absurd cc
 get_pushed (z ∷ xs) y zero x e = inl e

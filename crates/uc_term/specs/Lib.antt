@@ -14,3 +14,4 @@ pub mod Faults
 pub mod Keys
 pub mod Encoding
 pub mod Signatures
+pub mod Gathering

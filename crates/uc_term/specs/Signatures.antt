@@ -1,6 +1,6 @@
 -- The signature of a list of terms.
 use Rattle.std.specs.Prelude.{ℕ, zero, suc, ◌≡◌, ◌<◌, ◌≤◌, ◌+◌, ◌==◌, Bool, true, false, List, [], ◌∷◌, ◌++◌, length, codes, decimal, bytes_eq, Option, Some, None, Result, Ok, Err, if◌then◌else◌}
-use Rattle.std.specs.List.{list_any, flat_map}
+use Rattle.std.specs.List.{list_any}
 use Rattle.uc_term.specs.declared.node.Sym.{Sym}
 use Rattle.uc_term.specs.declared.fault.TermFault.{TermFault}
 use Rattle.uc_term.specs.declared.fault.TermFault.TheVariants.{ArityClash, TooMany, NoMemory}
@@ -9,7 +9,7 @@ use Rattle.uc_term.specs.declared.node.Node.TheVariants.{Var, App}
 use Rattle.uc_term.specs.declared.signature.Signature.{Signature}
 use Rattle.uc_term.specs.Tree.{Tree}
 use Rattle.uc_term.specs.Flat.{flat}
-use Rattle.uc_term.specs.Table.{Table, IsSymbol, name_of, arity_of, Grows}
+use Rattle.uc_term.specs.Table.{Table, IsSymbol, name_of, arity_of}
 
 -- where a symbol occurs: at this place, in prefix order, of the term of this number
 pub record Occurrence : Type 0 where

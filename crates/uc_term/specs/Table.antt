@@ -49,6 +49,10 @@ abbrev pub IsInterned : Table → Table → List ℕ → ℕ → Sym → Type 0
 IsInterned old new name arity f =
     IsSymbol new f name arity × (((new ≡ old) × Has old f) ⊎ ((new ≡ old ++ record { name = name; arity = arity } ∷ []) × ((g : Sym) → IsSymbol old g name arity → ⊥)))
 
+-- the table is as it was, or has this symbol's entry at its end
+abbrev pub AddsAtMost : Table → Table → Sym → Type 0
+AddsAtMost old new f = (new ≡ old) ⊎ (new ≡ old ++ entry_of new f ∷ [])
+
 abbrev pub entry_code : Coded Entry
 entry_code = code_by (List ℕ × ℕ) (coded× (coded_list coded_ℕ) coded_ℕ) (λ e. (e.name, e.arity)) (λ p. record { name = p.0; arity = p.1 }) (λ _. refl)
 

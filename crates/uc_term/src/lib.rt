@@ -8,6 +8,8 @@
 mod equation;
 mod fault;
 mod fresh;
+mod fresh_symbol;
+mod gather;
 mod laws;
 mod node;
 mod position;
@@ -23,6 +25,7 @@ mod variables;
 pub use equation::{Equation, Side};
 pub use fault::TermFault;
 pub use fresh::Fresh;
+pub use fresh_symbol::add_fresh;
 pub use laws::{encoding_adds_nothing, encoding_decides_goals};
 pub use node::{Node, Pos, Sym};
 pub use seq::Seq;

@@ -1,4 +1,4 @@
-use Rattle.std.proofs.Common.{◌≡◌, sym, ap, ◌∙◌}
+use Rattle.std.proofs.Common.{sym, ap, ◌∙◌}
 use Rattle.uc_term.specs.Flat.{flat, tree_of}
 use Rattle.uc_term.specs.Code.{tree_of-flat}
 use Rattle.uc_term.proofs.term.Term.same.Goals as goal

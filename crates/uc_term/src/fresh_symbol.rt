@@ -1,0 +1,61 @@
+//! Symbols whose names no symbol of a list has.
+
+ghost use Rattle.std.specs.Prelude.{◌≡◌, ℕ, ◌<◌, IfOk, OnErr, IsTrue, ◌↔◌};
+ghost use Rattle.uc_term.specs.Table.{Grows, AddsAtMost};
+ghost use Rattle.uc_term.specs.Signatures.{tried_name, IsFree, IsFreshFor};
+ghost use Rattle.uc_term.specs.Gathering.{HasAll};
+
+use crate::{Sym, Symbols};
+use itoa::Buffer;
+use std::alloc::{AllocError, Global};
+
+/// A symbol of this arity with the first name among the word, the word with `_1`, the word with `_2` and so on that none
+/// of the taken symbols has. Where the table lacks it, it is added.
+pub fn add_fresh(
+    alloc: Global,
+    symbols: &mut Symbols,
+    taken: &[Sym],
+    word: &[u8],
+    arity: u32,
+) -> Result<Sym, AllocError>
+    requires { HasAll symbols.old taken.now }
+    ensures fresh { IfOk result (IsFreshFor symbols.new word.now arity taken.now) }
+    ensures only { IfOk result (AddsAtMost symbols.old symbols.new) }
+    ensures grows { Grows symbols.old symbols.new }
+    ensures err { OnErr result (symbols.new ≡ symbols.old) }
+{
+    // some number is free long before the last one, since a signature has at most 60,000 symbols
+    for number in 0..u32::MAX {
+        let name = name_tried(alloc, word, number)?;
+        if is_free(symbols, taken, name.as_slice()) {
+            return symbols.intern(alloc, name.as_slice(), arity);
+        }
+    }
+    Err(AllocError)
+}
+
+/// The name of this number that is tried.
+fn name_tried(alloc: Global, word: &[u8], number: u32) -> Result<Vec<u8>, AllocError>
+    ensures { IfOk result (λ name. name.items ≡ tried_name word.now number) }
+{
+    let mut name = Vec::from_slice(alloc, word)?;
+    if number > 0 {
+        let mut buffer = Buffer::new();
+        name.extend_from_slice(b"_")?;
+        name.extend_from_slice(buffer.format(number).as_bytes())?;
+    }
+    Ok(name)
+}
+
+/// Whether none of the symbols has this name.
+fn is_free(symbols: &Symbols, taken: &[Sym], name: &[u8]) -> bool
+    requires { HasAll symbols.now taken.now }
+    ensures { IsTrue result ↔ IsFree symbols.now taken.now name.now }
+{
+    for f in taken {
+        if symbols.name(*f) == name {
+            return false;
+        }
+    }
+    true
+}
