@@ -34,7 +34,7 @@ pub flat_all-join : (ts us : Trees) → flat_all (join ts us) ≡ flat_all ts ++
 flat_all-join none us = refl
 flat_all-join (more t ts) us = rw (flat_all-join ts us) (sym (append_assoc (flat t) (flat_all ts) (flat_all us)))
 
-count-le-nodes_all : (ts : Trees) → count ts ≤ nodes_all ts
+pub count-le-nodes_all : (ts : Trees) → count ts ≤ nodes_all ts
 count-le-nodes_all none = omega arith
 count-le-nodes_all (more t ts) = omega (arith, count-le-nodes_all ts, nodes_pos t)
 

@@ -1,2 +1,11 @@
 pub mod Walk
 pub mod Both
+pub mod Fitting
+pub mod Relabel
+pub mod Closing
+pub mod Sizing
+pub mod Passing
+pub mod Writing
+pub mod General
+pub mod Solving
+pub mod Outcome

@@ -1,2 +1,5 @@
 pub mod Matching
 pub mod Extension
+pub mod Unifiers
+pub mod Closure
+pub mod Solutions

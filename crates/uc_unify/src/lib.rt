@@ -2,9 +2,14 @@
 //! chapter 4).
 #![tactic(auto)]
 
+mod closure;
 mod matching;
+mod sizes;
+mod solution;
+mod unification;
 
 pub use matching::{matches, matches_both};
+pub use unification::{Unified, unify};
 
 #[cfg(test)]
 mod tests;

@@ -101,7 +101,7 @@ fn bind(alloc: Global, subst: &mut Subst, x: u32, part: &[Node]) -> Result<bool,
 
 /// Whether the node is this symbol with this number of arguments.
 #[inline]
-fn is_head(node: Node, f: Sym, n: u32) -> bool
+pub fn is_head(node: Node, f: Sym, n: u32) -> bool
     ensures { IsTrue result ↔ (node ≡ Node.App f n) }
 {
     match node {

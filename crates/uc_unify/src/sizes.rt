@@ -1,0 +1,104 @@
+//! The sizes of the terms that closed classes stand for.
+
+ghost use Rattle.std.specs.Prelude.{◌≡◌, ℕ, ◌+◌, ◌<◌, ◌≤◌, length, IfOk};
+ghost use Rattle.uc_term.specs.Flat.{AreWhole};
+ghost use Rattle.uc_unify.specs.Closure.{AreClasses, HasArguments, class};
+ghost use Rattle.uc_unify.specs.Solutions.{AreSized, IsSizeAt, IsSizing, AreSizing, AreStuck};
+
+use crate::closure::MAX_BOTH;
+use std::alloc::{AllocError, Global};
+use uc_term::{MAX_NODES, Node, end_of};
+
+/// The size at a place that stands for itself, cut behind that of the largest term; 0 where an argument has no size yet.
+fn size_at(nodes: &[Node], classes: &[usize], sizes: &[u32], place: usize) -> u32
+    requires whole { AreWhole nodes.now }
+    requires small { length nodes.now ≤ MAX_BOTH }
+    requires classes { AreClasses nodes.now classes.now }
+    requires sized { AreSized nodes.now classes.now sizes.now }
+    requires within { place < length nodes.now }
+    requires stands { class classes.now place ≡ place }
+    ensures { IsSizeAt nodes.now classes.now sizes.now place result }
+{
+    match nodes[place] {
+        Node::Var(_) => 1,
+        Node::App(_, count) => sum_of_sizes(nodes, classes, sizes, place, count),
+    }
+}
+
+/// One more than the sizes of the arguments.
+fn sum_of_sizes(nodes: &[Node], classes: &[usize], sizes: &[u32], place: usize, count: u32) -> u32
+    requires whole { AreWhole nodes.now }
+    requires small { length nodes.now ≤ MAX_BOTH }
+    requires classes { AreClasses nodes.now classes.now }
+    requires sized { AreSized nodes.now classes.now sizes.now }
+    requires stands { class classes.now place ≡ place }
+    requires symbol { HasArguments nodes.now place count }
+    ensures { IsSizeAt nodes.now classes.now sizes.now place result }
+{
+    let mut size: u32 = 1;
+    let mut place = place + 1;
+    for _ in 0..count {
+        let part = sizes[classes[place]];
+        if part == 0 {
+            return 0;
+        }
+        size += part;
+        place = end_of(nodes, place);
+    }
+    size.min(MAX_NODES as u32 + 1)
+}
+
+/// Sizes a place, where it stands for its class, has no size yet and can have one; whether it was sized.
+fn size_place(nodes: &[Node], classes: &[usize], sizes: &mut Vec<u32>, place: usize) -> bool
+    requires whole { AreWhole nodes.now }
+    requires small { length nodes.now ≤ MAX_BOTH }
+    requires classes { AreClasses nodes.now classes.now }
+    requires sized { AreSized nodes.now classes.now sizes.old.items }
+    requires within { place < length nodes.now }
+    ensures sized { AreSized nodes.now classes.now sizes.new.items }
+    ensures outcome { IsSizing nodes.now classes.now place sizes.old.items sizes.new.items result }
+{
+    if classes[place] != place || sizes[place] != 0 {
+        return false;
+    }
+    let size = size_at(nodes, classes, sizes.as_slice(), place);
+    if size == 0 {
+        return false;
+    }
+    sizes[place] = size;
+    true
+}
+
+/// Sizes what can be sized, from the last place to the first; whether a place was sized.
+fn size_places(nodes: &[Node], classes: &[usize], sizes: &mut Vec<u32>) -> bool
+    requires whole { AreWhole nodes.now }
+    requires small { length nodes.now ≤ MAX_BOTH }
+    requires classes { AreClasses nodes.now classes.now }
+    requires sized { AreSized nodes.now classes.now sizes.old.items }
+    ensures sized { AreSized nodes.now classes.now sizes.new.items }
+    ensures outcome { AreSizing nodes.now classes.now sizes.old.items sizes.new.items result }
+{
+    let mut any = false;
+    let mut place = nodes.len();
+    while place > 0 {
+        place -= 1;
+        any = size_place(nodes, classes, sizes, place) || any;
+    }
+    any
+}
+
+/// The size of each place that stands for a class; none for those whose terms would hold themselves.
+pub fn sizes_of(alloc: Global, nodes: &[Node], classes: &[usize]) -> Result<Vec<u32>, AllocError>
+    requires whole { AreWhole nodes.now }
+    requires small { length nodes.now ≤ MAX_BOTH }
+    requires classes { AreClasses nodes.now classes.now }
+    ensures sized { IfOk result (λ sizes. AreSized nodes.now classes.now sizes.items) }
+    ensures stuck { IfOk result (λ sizes. AreStuck nodes.now classes.now sizes.items) }
+{
+    let mut sizes = Vec::new(alloc);
+    for _ in 0..nodes.len() {
+        sizes.push(0u32)?;
+    }
+    while size_places(nodes, classes, &mut sizes) {}
+    Ok(sizes)
+}
