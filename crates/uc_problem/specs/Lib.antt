@@ -1,3 +1,5 @@
 pub mod Candidates
 pub mod Loading
 pub mod Holds
+pub mod Fetching
+pub mod Parts

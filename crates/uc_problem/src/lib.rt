@@ -1,12 +1,16 @@
 //! Problems: loading from a library with includes and selections, the signature, and the encoding of goals with variables.
 #![tactic(auto)]
 
+mod candidates;
 mod counts;
 mod fault;
+mod fetch;
 mod problem;
+mod selection;
 
 pub use counts::Counts;
 pub use fault::LoadFault;
+pub use fetch::MAX_FILE;
 pub use problem::{Encoded, Problem, Source};
 pub use uc_clause::Sourced;
 pub use uc_term::{Equation, Fresh, Signature};
