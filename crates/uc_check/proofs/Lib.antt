@@ -3,7 +3,7 @@ pub mod Sound
 pub mod Renaming
 pub mod Named
 pub mod Replacing
-pub mod Tests
+pub mod Decided
 pub mod Steps
 pub mod Pairs
 pub mod Earlier

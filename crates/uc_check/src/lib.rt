@@ -13,6 +13,8 @@ mod parents;
 mod proof;
 mod refute;
 mod replacement;
+#[cfg(test)]
+mod tests;
 mod variants;
 
 pub use checker::{Cause, Checked, check, check_lines};

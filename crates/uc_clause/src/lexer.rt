@@ -200,8 +200,8 @@ fn advance(place: Place, piece: &[u8]) -> Place
     behind
 }
 
-// The place behind these bytes.
-pub(crate) fn place_behind(bytes: &[u8]) -> Place
+/// The place behind these bytes, of which there are fewer than 2^31. It takes no memory.
+pub fn place_behind(bytes: &[u8]) -> Place
     requires { length bytes.now < 2 ^ 31 }
     ensures { result ≡ place_behind bytes.now }
 {

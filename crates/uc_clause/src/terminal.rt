@@ -103,8 +103,8 @@ pub fn bytes_at<'a>(bytes: &'a [u8], tokens: &[Token], at: usize) -> &'a [u8]
     token_at(bytes, tokens, at).bytes(bytes)
 }
 
-// The bytes of the token of this number, none at the end of the text.
-pub(crate) fn spelling_at<'a>(bytes: &'a [u8], tokens: &[Token], at: usize) -> &'a [u8]
+/// The bytes of the token of this number, none at the end of the text. It takes no memory.
+pub fn spelling_at<'a>(bytes: &'a [u8], tokens: &[Token], at: usize) -> &'a [u8]
     requires { AreTokens bytes.now tokens.now }
     ensures { result.now ≡ bytes_at bytes.now tokens.now at }
 {

@@ -11,7 +11,8 @@ use Rattle.uc_lpo.specs.PathOrder.{PathOrder, SomeReaches, Exceeds}
 use Rattle.uc_order.specs.VarOrders.{Classes, IsHigher, representative}
 use Rattle.uc_lpo.specs.Ranks.{rank_of}
 use Rattle.uc_lpo.specs.Higher.{higher_transitive, higher_irreflexive}
-use Rattle.uc_lpo.specs.Shown.{shown, shown_all, shown_node}
+use Rattle.uc_lpo.specs.Shown.{shown, shown_all}
+use Rattle.uc_order.specs.Renamed.{renamed_node}
 use Rattle.uc_lpo.specs.Heads.{SameHead}
 use Rattle.uc_lpo.proofs.Decide.{first_greater, first_not_greater, none_differ}
 use Rattle.uc_lpo.proofs.Steps.{tail_is, nothing_left}
@@ -98,7 +99,7 @@ module _ (ranks : List ℕ) (classes : Classes) where
           let b' : P ↔ SomeReaches rank above (rest s s_end) (app h.f (join c.front (more T (rest t t_end)))) = rw t_is at b in
           rw (s_is, t_is) (λ p. d.1 (b'.0 p), λ k. b'.1 (d.0 k))
 
-      pub go_on : map (shown_node represent) (take (s_end - from) (drop from s)) ≡ map (shown_node represent) (take (t_end - from) (drop from t)) → (s_end ≤ length t) × Common (rest s 1) (rest t 1) (rest s s_end) (rest t s_end)
+      pub go_on : map (renamed_node represent) (take (s_end - from) (drop from s)) ≡ map (renamed_node represent) (take (t_end - from) (drop from t)) → (s_end ≤ length t) × Common (rest s 1) (rest t 1) (rest s s_end) (rest t s_end)
       go_on e =
           let ends : s_end ≡ t_end = omega (arith, alike_length represent _ _ e, w.some, v.some, w.within, v.within) in
           let same : S ≡ T = shown_same represent _ _ w.whole v.whole e in

@@ -3,7 +3,7 @@ pub mod Steps
 pub mod Shown
 pub mod Fronts
 pub mod Passes
-pub mod Classes
+pub mod Alike
 pub mod Same
 pub mod Precedences
 pub mod Known

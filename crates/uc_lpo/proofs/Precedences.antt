@@ -9,7 +9,7 @@ use Rattle.uc_order.specs.Members.{In, in_front, in_rest, Each, IsFirst, first_f
 use Rattle.uc_lpo.specs.Ranks.{moved, rank_in, rank_of, arity_in}
 use Rattle.uc_lpo.specs.Places.{rank_first, rank_rest, same_sym, rank_known, known_rank, first_lowest, arity_at}
 use Rattle.uc_lpo.specs.Constants.{HasConstant}
-use Rattle.uc_lpo.proofs.Classes.{drop_at}
+use Rattle.uc_lpo.proofs.Alike.{drop_at}
 use Rattle.uc_lpo.proofs.Steps.{nothing_left}
 
 pub Each-get : {A : Type 0} (P : A → Type 0) (xs : List A) (i : ℕ) (d : A) → Each P xs → i < length xs → P (get_or xs i d)

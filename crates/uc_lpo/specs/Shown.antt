@@ -1,8 +1,6 @@
 -- Terms whose variables are replaced by those that stand for them.
 use Rattle.std.specs.Prelude.{ℕ}
 use Rattle.uc_term.specs.Tree.{Tree, var, Trees, apply, apply_all}
-use Rattle.uc_term.specs.declared.node.Node.{Node}
-use Rattle.uc_term.specs.declared.node.Node.TheVariants.{Var, App}
 
 module _ (represent : ℕ → ℕ) where
   abbrev pub shown : Tree → Tree
@@ -10,7 +8,3 @@ module _ (represent : ℕ → ℕ) where
 
   abbrev pub shown_all : Trees → Trees
   shown_all ts = apply_all (λ x. var (represent x)) ts
-
-  abbrev pub shown_node : Node → Node
-  shown_node (Var x) = Var (represent x)
-  shown_node (App f n) = App f n

@@ -2,4 +2,5 @@ pub mod Framing
 pub mod Parse
 pub mod Lines
 pub mod Meaning
+pub mod Drafts
 pub mod Reading

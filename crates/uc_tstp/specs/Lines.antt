@@ -27,7 +27,9 @@ use Rattle.uc_clause.specs.Terminals.{terminal_at, bytes_at}
 use Rattle.uc_clause.specs.Rules.{Outcome, read, stop, Rule, mapped, Then, ◌>>=◌, gives, here, pick, the, Choice}
 use Rattle.uc_clause.specs.Parse.{Parse, Literal}
 use Rattle.uc_clause.specs.Items as items
-use Rattle.uc_tstp.specs.Parse.{Body, says, falsum, Step, Source, from_file, by_chain, by_reflexive, by_goal, by_refute, Line}
+use Rattle.uc_tstp.specs.declared.words.Inference.{Inference}
+use Rattle.uc_tstp.specs.declared.words.Inference.TheVariants.{Chain, Encode, Refute}
+use Rattle.uc_tstp.specs.Parse.{Body, says, falsum, StepHead, Step, Source, from_file, by_chain, by_reflexive, by_goal, by_refute, Line}
 
 -- the number of a Lower
 abbrev pub lower_by : Terminal → ℕ → Option ℕ
@@ -41,37 +43,41 @@ functor_by Quoted at = Some at
 functor_by other at = None
 
 -- this very word, as a Lower
-abbrev pub word_by : List ℕ → Terminal → List ℕ → Option (Unit {0})
-word_by word Lower bytes = if bytes_eq bytes word then Some tt else None
-word_by word other bytes = None
+abbrev pub is_word : List ℕ → Terminal → List ℕ → Bool
+is_word word Lower bytes = bytes_eq bytes word
+is_word word other bytes = false
 
--- the decimal number that digits are
+-- the number from 1 to 255 that these decimal digits are behind those of a number
 abbrev pub value_from : ℕ → List ℕ → ℕ
 value_from n [] = n
 value_from n (b ∷ bs) = value_from (n * 10 + (b - 48)) bs
 
+abbrev pub path_number : ℕ → List ℕ → Option ℕ
+path_number n bs = if list_all is_digit bs && (nat_le 1 (value_from n bs) && nat_le (value_from n bs) 255) then Some (value_from n bs) else None
+
 -- a number of a path: an Integer from 1 to 255 without a sign
 abbrev pub number_by : Terminal → List ℕ → Option ℕ
-number_by Integer bytes = if list_all is_digit bytes && (nat_le 1 (value_from 0 bytes) && nat_le (value_from 0 bytes) 255) then Some (value_from 0 bytes) else None
+number_by Integer bytes = path_number 0 bytes
 number_by other bytes = None
 
 -- the way of a step: lr or rl
+abbrev pub way_of : List ℕ → Option Bool
+way_of bytes = if bytes_eq bytes (codes "lr") then Some true else (if bytes_eq bytes (codes "rl") then Some false else None)
+
 abbrev pub way_by : Terminal → List ℕ → Option Bool
-way_by Lower bytes = if bytes_eq bytes (codes "lr") then Some true else (if bytes_eq bytes (codes "rl") then Some false else None)
+way_by Lower bytes = way_of bytes
 way_by other bytes = None
 
--- the inference rules
-pub data RuleName : Type 0 where
-  chain : RuleName
-  encode : RuleName
-  refute : RuleName
-
-abbrev pub rule_of : List ℕ → Option RuleName
-rule_of bytes = if bytes_eq bytes (codes "chain") then Some chain else (if bytes_eq bytes (codes "encode") then Some encode else (if bytes_eq bytes (codes "refute") then Some refute else None))
+-- the inference rules by their names
+abbrev pub rule_of : List ℕ → Option Inference
+rule_of bytes = if bytes_eq bytes (codes "chain") then Some Chain else (if bytes_eq bytes (codes "encode") then Some Encode else (if bytes_eq bytes (codes "refute") then Some Refute else None))
 
 -- what an encode line is of: the reflexivity, or a goal
+abbrev pub of_goal_of : List ℕ → Option Bool
+of_goal_of bytes = if bytes_eq bytes (codes "reflexive") then Some false else (if bytes_eq bytes (codes "goal") then Some true else None)
+
 abbrev pub of_goal_by : Terminal → List ℕ → Option Bool
-of_goal_by Lower bytes = if bytes_eq bytes (codes "reflexive") then Some false else (if bytes_eq bytes (codes "goal") then Some true else None)
+of_goal_by Lower bytes = of_goal_of bytes
 of_goal_by other bytes = None
 
 abbrev pub is_falsum : Terminal → List ℕ → Bool
@@ -84,13 +90,13 @@ fits_file (says l) = true
 fits_file falsum = false
 
 -- and those that a line of an inference rule may have
-abbrev pub fits_rule : RuleName → Body → Bool
-fits_rule chain (says l) = l.positive
-fits_rule encode (says l) = l.positive
-fits_rule refute (says l) = false
-fits_rule chain falsum = false
-fits_rule encode falsum = false
-fits_rule refute falsum = true
+abbrev pub fits_rule : Inference → Body → Bool
+fits_rule Chain (says l) = l.positive
+fits_rule Encode (says l) = l.positive
+fits_rule Refute (says l) = false
+fits_rule Chain falsum = false
+fits_rule Encode falsum = false
+fits_rule Refute falsum = true
 
 -- the body is one that may stand here, or reading stops at its first token
 abbrev pub body_fits : Bool → ℕ → Rule (Unit {0})
@@ -101,8 +107,12 @@ module _ (bytes : List ℕ) (tokens : List Token) where
   abbrev pub token : Terminal → Rule (Unit {0})
   token terminal = the bytes tokens terminal NoToken
 
+  abbrev pub word_at : List ℕ → ℕ → Bool
+  word_at w at = is_word w (terminal_at bytes tokens at) (bytes_at bytes tokens at)
+
   abbrev pub word : List ℕ → Rule (Unit {0})
-  word w at = pick NoToken (word_by w (terminal_at bytes tokens at) (bytes_at bytes tokens at)) at
+  word w at (read v end) = (word_at w at ≡ true) × (end ≡ at + 1)
+  word w at (stop why k) = (word_at w at ≡ false) × (why ≡ NoToken) × (k ≡ at)
 
   abbrev pub lower : Rule ℕ
   lower at = pick NoToken (lower_by (terminal_at bytes tokens at) at) at
@@ -120,12 +130,12 @@ module _ (bytes : List ℕ) (tokens : List Token) where
   of_goal at = pick NoToken (of_goal_by (terminal_at bytes tokens at) (bytes_at bytes tokens at)) at
 
   -- the name of an inference rule: another Lower is no rule, another token isn't called for
-  pub data RuleWord (at : ℕ) : Outcome RuleName → Type 0 where
-    is_rule : {r : RuleName} → terminal_at bytes tokens at ≡ Lower → rule_of (bytes_at bytes tokens at) ≡ Some r → RuleWord at (read r (at + 1))
+  pub data RuleWord (at : ℕ) : Outcome Inference → Type 0 where
+    is_rule : {r : Inference} → terminal_at bytes tokens at ≡ Lower → rule_of (bytes_at bytes tokens at) ≡ Some r → RuleWord at (read r (at + 1))
     is_no_rule : terminal_at bytes tokens at ≡ Lower → rule_of (bytes_at bytes tokens at) ≡ None → RuleWord at (stop NoRule at)
     is_no_word : terminal_at bytes tokens at ≢ Lower → RuleWord at (stop NoToken at)
 
-  abbrev pub rule_word : Rule RuleName
+  abbrev pub rule_word : Rule Inference
   rule_word at outcome = RuleWord at outcome
 
   -- the name of a line, which none of the earlier lines has
@@ -175,8 +185,9 @@ module _ (bytes : List ℕ) (tokens : List Token) where
   abbrev pub parents : Rule (List ℕ)
   parents = list lower
 
-  abbrev pub step : Rule Step
-  step = do
+  -- what stands before the term of a step
+  abbrev pub step_head : Rule StepHead
+  step_head = do
     _ ← word (codes "step")
     _ ← token Open
     by ← lower
@@ -185,9 +196,14 @@ module _ (bytes : List ℕ) (tokens : List Token) where
     _ ← token Comma
     path ← path
     _ ← token Comma
+    gives (record { by = by; left_to_right = left_to_right; path = path })
+
+  abbrev pub step : Rule Step
+  step = do
+    head ← step_head
     to ← items.term bytes tokens
     _ ← token Close
-    gives (record { by = by; left_to_right = left_to_right; path = path; to = to })
+    gives (record { by = head.by; left_to_right = head.left_to_right; path = head.path; to = to })
 
   -- the steps behind the first term of a chain, up to the closing square bracket
   abbrev pub more_steps : Rule (List Step)
@@ -198,35 +214,39 @@ module _ (bytes : List ℕ) (tokens : List Token) where
   abbrev pub steps : Rule (List Step)
   steps = Choice bytes tokens CloseSquare (no_members step) more_steps
 
-  abbrev pub rest_of_inference : (List ℕ → Source) → Rule Source
-  rest_of_inference source = do
+  -- what stands behind the square brackets of an inference: its parents
+  abbrev pub rest_of_inference : Rule (List ℕ)
+  rest_of_inference = do
     _ ← token Comma
     parents ← parents
     _ ← token Close
-    gives (source parents)
+    gives parents
 
   -- what stands in the square brackets of a chain, and behind them
   abbrev pub chain_source : Rule Source
   chain_source = do
     start ← items.term bytes tokens
     steps ← steps
-    rest_of_inference (by_chain start steps)
+    parents ← rest_of_inference
+    gives (by_chain start steps parents)
 
   abbrev pub encode_source : Rule Source
   encode_source = do
     goal ← of_goal
     _ ← token CloseSquare
-    rest_of_inference (if goal then by_goal else by_reflexive)
+    parents ← rest_of_inference
+    gives (if goal then by_goal parents else by_reflexive parents)
 
   abbrev pub refute_source : Rule Source
   refute_source = do
     _ ← token CloseSquare
-    rest_of_inference by_refute
+    parents ← rest_of_inference
+    gives (by_refute parents)
 
-  abbrev pub source_of_rule : RuleName → Rule Source
-  source_of_rule chain = chain_source
-  source_of_rule encode = encode_source
-  source_of_rule refute = refute_source
+  abbrev pub source_of_rule : Inference → Rule Source
+  source_of_rule Chain = chain_source
+  source_of_rule Encode = encode_source
+  source_of_rule Refute = refute_source
 
   abbrev pub file_source : Body → ℕ → Rule Source
   file_source b first = do
@@ -251,8 +271,8 @@ module _ (bytes : List ℕ) (tokens : List Token) where
 
   -- a source, by its first word
   pub data SourceAt (b : Body) (first : ℕ) (at : ℕ) (outcome : Outcome Source) : Type 0 where
-    is_from_file : word_by (codes "file") (terminal_at bytes tokens at) (bytes_at bytes tokens at) ≡ Some tt → file_source b first at outcome → SourceAt b first at outcome
-    is_inferred : word_by (codes "file") (terminal_at bytes tokens at) (bytes_at bytes tokens at) ≡ None → inference_source b first at outcome → SourceAt b first at outcome
+    is_from_file : word_at (codes "file") at ≡ true → file_source b first at outcome → SourceAt b first at outcome
+    is_inferred : word_at (codes "file") at ≡ false → inference_source b first at outcome → SourceAt b first at outcome
 
   abbrev pub source : Body → ℕ → Rule Source
   source b first at outcome = SourceAt b first at outcome

@@ -15,6 +15,12 @@ pub record Step : Type 0 where
   pub path : List ℕ
   pub to : Parse
 
+-- what stands before the term of a step
+pub record StepHead : Type 0 where
+  pub by : ℕ
+  pub left_to_right : Bool
+  pub path : List ℕ
+
 -- where a line comes from, with the tokens that name its parents
 pub data Source : Type 0 where
   from_file : ℕ → Source

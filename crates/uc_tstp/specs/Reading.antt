@@ -1,5 +1,5 @@
 -- What a text reads as: a proof, or why not.
-use Rattle.std.specs.Prelude.{ℕ, ◌≡◌, ◌+◌, ◌-◌, List, [], ◌∷◌, length, take, drop, bytes_eq, slice_get, Option, Some, None, Result, Ok, Err, if◌then◌else◌}
+use Rattle.std.specs.Prelude.{ℕ, ◌≡◌, ◌+◌, List, [], ◌∷◌, length, bytes_eq, slice_range, slice_get, Option, Some, None, Result, Ok, Err, if◌then◌else◌}
 use Rattle.std.specs.List.{list_any}
 use Rattle.uc_term.specs.Table.{Table}
 use Rattle.uc_clause.specs.declared.token.Token.{Token}
@@ -13,7 +13,8 @@ use Rattle.uc_clause.specs.Rules.{read, stop}
 use Rattle.uc_check.specs.declared.proof.Proof.{Proof}
 use Rattle.uc_tstp.specs.declared.fault.ProofFault.{ProofFault}
 use Rattle.uc_tstp.specs.declared.fault.ProofFault.TheVariants.{Syntax, UnknownRule, UnknownName, RepeatedName, Limit, NoMemory}
-use Rattle.uc_tstp.specs.Framing.{Frame, Framed}
+use Rattle.uc_tstp.specs.declared.framing.Frame.{Frame}
+use Rattle.uc_tstp.specs.Framing.{Framed}
 use Rattle.uc_tstp.specs.Parse as parse
 use Rattle.uc_tstp.specs.Lines.{LinesAt}
 use Rattle.uc_tstp.specs.Meaning.{names_of, MeanLines}
@@ -28,7 +29,7 @@ fault_of other place = Syntax place
 
 -- the bytes of the frame
 abbrev pub inside : List ℕ → Frame → List ℕ
-inside text frame = take (frame.to - frame.from) (drop frame.from text)
+inside text frame = slice_range text frame.from frame.to
 
 abbrev pub first_byte : ℕ → Option Token → ℕ
 first_byte end (Some token) = token.from

@@ -4,5 +4,9 @@
 #![tactic(auto)]
 
 mod fault;
+mod framing;
+mod lists;
+mod words;
 
 pub use fault::ProofFault;
+pub use framing::{Frame, MAX_PROOF, frame_of};

@@ -1,6 +1,6 @@
 use Rattle.std.proofs.Common.{sym, ◌∙◌}
 use Rattle.uc_check.specs.Lines.{chain_right, chain_start, chain_step, chain_end, chain_parents}
-use Rattle.uc_check.proofs.Tests.{not_of, of}
+use Rattle.uc_check.proofs.Decided.{not_of, of}
 use Rattle.uc_check.proofs.chain.test_chain.Goals as goal
 
 pub returns-then-not-same : goal.returns-then-not-same

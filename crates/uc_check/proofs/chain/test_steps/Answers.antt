@@ -1,4 +1,4 @@
-use Rattle.uc_check.proofs.Tests.{not_of, of}
+use Rattle.uc_check.proofs.Decided.{not_of, of}
 use Rattle.std.proofs.Common.{ap, ◌∙◌}
 use Rattle.uc_check.specs.Replacements.{chain_end}
 use Rattle.uc_check.proofs.Steps.{step_at, nothing_left, stops_early, stops_wrong, steps_on, all_stepped}

@@ -2,7 +2,7 @@ use Rattle.std.proofs.Common.{None, Some, sym, subst}
 use Rattle.uc_check.specs.declared.proof.LineSource.{LineSource}
 use Rattle.uc_check.specs.declared.checker.Cause.TheVariants.{NotAProblemClause}
 use Rattle.uc_check.specs.Lines.{Tested, file_right, file_wrong}
-use Rattle.uc_check.proofs.Tests.{not_of, of}
+use Rattle.uc_check.proofs.Decided.{not_of, of}
 use Rattle.uc_check.proofs.checker.test_line.Goals as goal
 
 pub returns-then-branch : goal.returns-then-branch

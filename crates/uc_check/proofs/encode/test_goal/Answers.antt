@@ -1,5 +1,5 @@
 use Rattle.uc_check.specs.Lines.{goal_right, goal_early, goal_wrong}
-use Rattle.uc_check.proofs.Tests.{not_of, of}
+use Rattle.uc_check.proofs.Decided.{not_of, of}
 use Rattle.uc_check.proofs.encode.test_goal.Goals as goal
 
 pub returns-then-not-are_earlier : goal.returns-then-not-are_earlier

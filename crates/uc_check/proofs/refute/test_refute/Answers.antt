@@ -1,6 +1,6 @@
 use Rattle.std.proofs.Common.{inl, inr}
 use Rattle.uc_check.specs.Lines.{refute_right, refute_early, refute_wrong}
-use Rattle.uc_check.proofs.Tests.{not_of, of}
+use Rattle.uc_check.proofs.Decided.{not_of, of}
 use Rattle.uc_check.proofs.refute.test_refute.Goals as goal
 
 pub returns-then-not-are_earlier : goal.returns-then-not-are_earlier

@@ -1,5 +1,5 @@
 use Rattle.std.proofs.Common.{◌≡◌, sym, ◌∙◌, drop}
-use Rattle.uc_check.proofs.Tests.{never, always, not_of, of, to_end}
+use Rattle.uc_check.proofs.Decided.{never, always, not_of, of, to_end}
 use Rattle.uc_check.proofs.Replacing.{first_whole, second_whole, in_first, old_whole, new_whole, not_within, not_front, not_behind, no_match, matched}
 use Rattle.uc_check.proofs.replacement.replaces_at.Goals as goal
 use Rattle.uc_check.proofs.replacement.replaces_at.Goals.{in-None, in-Some}
