@@ -21,3 +21,4 @@ pub mod Joins
 pub mod NodeVars
 pub mod Gathered
 pub mod Grown
+pub mod Upwards

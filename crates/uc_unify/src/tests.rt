@@ -1,4 +1,4 @@
-use crate::{matches, matches_both};
+use crate::{Unified, matches, matches_both, unify};
 use std::alloc::Global;
 use std::test::Fail;
 use uc_term::{Node, Sym, Term};
@@ -8,6 +8,8 @@ const F: Sym = Sym(0);
 const A: Sym = Sym(1);
 
 const B: Sym = Sym(2);
+
+const G: Sym = Sym(3);
 
 /// `f` of two terms.
 fn f(alloc: Global, left: Term, right: Term) -> Result<Term, Fail> {
@@ -70,6 +72,93 @@ fn both_have_one_substitution(rt: HostRuntime) -> Result<(), Fail> {
             b.as_nodes()
         )?
         .is_none()
+    );
+    Ok(())
+}
+
+/// The first argument of each pair is a variable, and the second one two of the variable before it: `x1 = f(x0, x0)`,
+/// `x2 = f(x1, x1)` and so on, as two terms with so many arguments.
+fn doubling(alloc: Global, count: u32) -> Result<(Term, Term), Fail> {
+    let mut left = Vec::new(alloc);
+    let mut right = Vec::new(alloc);
+    for i in 0..count.min(255) {
+        left.push(Term::var(alloc, i + 1)?)?;
+        right.push(f(alloc, Term::var(alloc, i)?, Term::var(alloc, i)?)?)?;
+    }
+    let left = Term::app(alloc, G, left.as_slice())?;
+    let right = Term::app(alloc, G, right.as_slice())?;
+    Ok((left, right))
+}
+
+/// So many unary symbols round a term.
+fn deep(alloc: Global, levels: u32, inside: Term) -> Result<Term, Fail> {
+    let mut term = inside;
+    for _ in 0..levels {
+        let args = vec![in alloc; term]?;
+        term = Term::app(alloc, G, args.as_slice())?;
+    }
+    Ok(term)
+}
+
+fn is_apart(alloc: Global, s: &Term, t: &Term) -> Result<bool, Fail> {
+    Ok(matches!(unify(alloc, s.as_nodes(), t.as_nodes())?, Unified::Apart))
+}
+
+#[test]
+fn unifiers_are_most_general(rt: HostRuntime) -> Result<(), Fail> {
+    let g = rt.alloc();
+    let twice = f(g, x(g)?, x(g)?)?;
+    let other = f(g, Term::var(g, 8)?, constant(g, A)?)?;
+    match unify(g, twice.as_nodes(), other.as_nodes())? {
+        Unified::Unifier(subst) => {
+            assert_eq!(rt;
+                subst.get(7).ok_or("no pair")?.as_nodes(),
+                [Node::App(A, 0)].as_slice()
+            );
+            assert_eq!(rt;
+                subst.get(8).ok_or("no pair")?.as_nodes(),
+                [Node::App(A, 0)].as_slice()
+            );
+        }
+        _ => assert!(rt; false, "no unifier"),
+    }
+    assert!(rt; is_apart(g, &x(g)?, &deep(g, 1, x(g)?)?)?);
+    assert!(rt; is_apart(g, &constant(g, A)?, &constant(g, B)?)?);
+    assert!(rt; !is_apart(g, &x(g)?, &x(g)?)?);
+    Ok(())
+}
+
+// the common instance of 10 doubling variables has 4,083 nodes, and that of 24 has more than 33,000,000
+#[test]
+fn nothing_is_built_that_is_too_large(rt: HostRuntime) -> Result<(), Fail> {
+    let g = rt.alloc();
+    let (left, right) = doubling(g, 10)?;
+    assert!(rt;
+        matches!(
+            unify(g, left.as_nodes(), right.as_nodes())?,
+            Unified::Unifier(_)
+        )
+    );
+    let (left, right) = doubling(g, 24)?;
+    assert!(rt;
+        matches!(
+            unify(g, left.as_nodes(), right.as_nodes())?,
+            Unified::TooLarge
+        )
+    );
+    Ok(())
+}
+
+#[test]
+fn deep_terms_need_no_stack(rt: HostRuntime) -> Result<(), Fail> {
+    let g = rt.alloc();
+    let left = deep(g, 4095, x(g)?)?;
+    let right = deep(g, 4095, constant(g, A)?)?;
+    assert!(rt;
+        matches!(
+            unify(g, left.as_nodes(), right.as_nodes())?,
+            Unified::Unifier(_)
+        )
     );
     Ok(())
 }
