@@ -6,6 +6,8 @@
 mod fault;
 mod framing;
 mod lists;
+#[cfg(test)]
+mod tests;
 mod words;
 
 pub use fault::ProofFault;
