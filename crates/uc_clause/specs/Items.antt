@@ -144,11 +144,15 @@ module _ (bytes : List ℕ) (tokens : List Token) where
     _ ← token Close NoToken
     gives sides
 
+  -- what `~` denies
+  abbrev pub denied : Rule Sides
+  denied = Choice bytes tokens Open equals_in_brackets equals
+
   -- ~ term = term, or ~ ( term = term )
   abbrev pub denial : Rule Literal
   denial = do
     _ ← token Tilde NoToken
-    sides ← Choice bytes tokens Open equals_in_brackets equals
+    sides ← denied
     gives (record { positive = false; sides = sides })
 
   abbrev pub literal : Rule Literal
