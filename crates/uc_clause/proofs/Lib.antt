@@ -29,3 +29,4 @@ pub mod ReadBack
 pub mod Renumbering
 pub mod PrintedClause
 pub mod ClauseAgain
+pub mod Notes

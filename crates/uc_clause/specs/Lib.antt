@@ -17,3 +17,4 @@ pub mod First
 pub mod Pieces
 pub mod Drafts
 pub mod Sides
+pub mod Notes

@@ -3,7 +3,9 @@
 mod alone;
 mod draft;
 mod head;
+mod item;
 mod literal;
+mod note;
 mod refusal;
 mod stop;
 mod term;
@@ -12,6 +14,7 @@ mod variables;
 pub use alone::{read_equation, read_term};
 pub use draft::MAX_ARITY;
 pub use head::Head;
+pub use item::{Heading, Inclusion, Opening};
 pub use stop::{Stop, Why};
 pub use term::term_at;
 pub use variables::Variables;
