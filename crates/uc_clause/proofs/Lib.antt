@@ -30,3 +30,4 @@ pub mod Renumbering
 pub mod PrintedClause
 pub mod ClauseAgain
 pub mod Notes
+pub mod Lists

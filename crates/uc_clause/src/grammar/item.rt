@@ -9,7 +9,7 @@ ghost use Rattle.uc_clause.specs.Items as items;
 
 use super::note::expect;
 use crate::terminal::spelling_at;
-use crate::{Role, Stop, Terminal, Token, Why, terminal_at};
+use crate::{Role, Stop, Terminal, Token, Why, stands_at, terminal_at};
 use std::alloc::Global;
 use uc_term::Seq;
 
@@ -123,4 +123,106 @@ fn role_at(bytes: &[u8], tokens: &[Token], at: usize) -> Result<(Role, usize), S
         Some(role) => Ok((role, at + 1)),
         None => Err(Stop::At(Why::NoRole, at)),
     }
+}
+
+// Reads `cnf ( name , role ,`.
+fn heading_at(bytes: &[u8], tokens: &[Token], from: usize) -> Result<(Heading, usize), Stop>
+    requires { AreTokens bytes.now tokens.now }
+    ensures { Gives (items.heading bytes.now tokens.now from) result }
+{
+    let at = expect(bytes, tokens, from, Terminal::Lower, Why::NoItem)?;
+    let at = expect(bytes, tokens, at, Terminal::Open, Why::NoToken)?;
+    let (name, at) = name_at(bytes, tokens, at)?;
+    let at = expect(bytes, tokens, at, Terminal::Comma, Why::NoToken)?;
+    let (role, at) = role_at(bytes, tokens, at)?;
+    let end = expect(bytes, tokens, at, Terminal::Comma, Why::NoToken)?;
+    Ok((
+        Heading {
+            first: from,
+            name,
+            role,
+        },
+        end,
+    ))
+}
+
+// Reads `name { , name } ]`.
+fn names_at(
+    alloc: Global,
+    bytes: &[u8],
+    tokens: &[Token],
+    from: usize,
+) -> Result<(Seq<usize>, usize), Stop>
+    ensures { Gives (items.Names bytes.now tokens.now from) result }
+{
+    let mut names = Vec::new(alloc);
+    let mut at = from;
+    'names: loop {
+        let (name, end) = name_at(bytes, tokens, at)?;
+        names.push(name)?;
+        match terminal_at(bytes, tokens, end) {
+            Terminal::CloseSquare => return Ok((Seq::from_vec(names), end + 1)),
+            Terminal::Comma => at = end + 1,
+            _ => return Err(Stop::At(Why::NoToken, end)),
+        }
+    }
+}
+
+// Reads a list of names in square brackets, which may be empty.
+fn list_at(
+    alloc: Global,
+    bytes: &[u8],
+    tokens: &[Token],
+    from: usize,
+) -> Result<(Seq<usize>, usize), Stop>
+    ensures { Gives (items.list bytes.now tokens.now from) result }
+{
+    let at = expect(bytes, tokens, from, Terminal::OpenSquare, Why::NoSelection)?;
+    if stands_at(bytes, tokens, at, Terminal::CloseSquare) {
+        Ok((Seq::new(alloc), at + 1))
+    } else {
+        names_at(alloc, bytes, tokens, at)
+    }
+}
+
+// Reads `, [ [ name { , name } ] ] )` or `)`.
+fn selected_at(
+    alloc: Global,
+    bytes: &[u8],
+    tokens: &[Token],
+    from: usize,
+) -> Result<(Option<Seq<usize>>, usize), Stop>
+    ensures { Gives (items.selected bytes.now tokens.now from) result }
+{
+    if !stands_at(bytes, tokens, from, Terminal::Comma) {
+        let end = expect(bytes, tokens, from, Terminal::Close, Why::NoToken)?;
+        return Ok((None, end));
+    }
+    let (names, at) = list_at(alloc, bytes, tokens, from + 1)?;
+    let end = expect(bytes, tokens, at, Terminal::Close, Why::NoToken)?;
+    Ok((Some(names), end))
+}
+
+// Reads an include.
+fn inclusion_at(
+    alloc: Global,
+    bytes: &[u8],
+    tokens: &[Token],
+    from: usize,
+) -> Result<(Inclusion, usize), Stop>
+    ensures { Gives (items.include bytes.now tokens.now from) result }
+{
+    let at = expect(bytes, tokens, from, Terminal::Lower, Why::NoItem)?;
+    let at = expect(bytes, tokens, at, Terminal::Open, Why::NoToken)?;
+    let (file, at) = quoted_at(bytes, tokens, at)?;
+    let (names, at) = selected_at(alloc, bytes, tokens, at)?;
+    let end = expect(bytes, tokens, at, Terminal::Dot, Why::NoToken)?;
+    Ok((
+        Inclusion {
+            first: from,
+            file,
+            names,
+        },
+        end,
+    ))
 }
