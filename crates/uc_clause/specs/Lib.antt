@@ -18,3 +18,4 @@ pub mod Pieces
 pub mod Drafts
 pub mod Sides
 pub mod Notes
+pub mod Given

@@ -38,7 +38,7 @@ pub enum Opening {
 }
 
 // What begins at a token, where an item is called for.
-fn opening_of(terminal: Terminal, word: &[u8]) -> Opening
+pub(crate) fn opening_of(terminal: Terminal, word: &[u8]) -> Opening
     ensures { result ≡ items.opening_of terminal word.now }
 {
     match terminal {
@@ -119,14 +119,21 @@ fn role_at(bytes: &[u8], tokens: &[Token], at: usize) -> Result<(Role, usize), S
     requires { AreTokens bytes.now tokens.now }
     ensures { Gives (items.role bytes.now tokens.now at) result }
 {
-    match role_by(terminal_at(bytes, tokens, at), spelling_at(bytes, tokens, at)) {
+    match role_by(
+        terminal_at(bytes, tokens, at),
+        spelling_at(bytes, tokens, at),
+    ) {
         Some(role) => Ok((role, at + 1)),
         None => Err(Stop::At(Why::NoRole, at)),
     }
 }
 
 // Reads `cnf ( name , role ,`.
-fn heading_at(bytes: &[u8], tokens: &[Token], from: usize) -> Result<(Heading, usize), Stop>
+pub(crate) fn heading_at(
+    bytes: &[u8],
+    tokens: &[Token],
+    from: usize,
+) -> Result<(Heading, usize), Stop>
     requires { AreTokens bytes.now tokens.now }
     ensures { Gives (items.heading bytes.now tokens.now from) result }
 {
@@ -204,7 +211,7 @@ fn selected_at(
 }
 
 // Reads an include.
-fn inclusion_at(
+pub(crate) fn inclusion_at(
     alloc: Global,
     bytes: &[u8],
     tokens: &[Token],

@@ -57,13 +57,13 @@ fn piece_of(innermost: Option<Bracket>, terminal: Terminal) -> Piece
 }
 
 // The innermost of the open brackets, which is the last one.
-fn innermost(open: &[Bracket]) -> Option<Bracket>
-    ensures { result ≡ slice_get open.now (length open.now - 1) }
+fn innermost(brackets: &[Bracket]) -> Option<Bracket>
+    ensures { result ≡ slice_get brackets.now (length brackets.now - 1) }
 {
-    if open.is_empty() {
+    if brackets.is_empty() {
         None
     } else {
-        Some(open[open.len() - 1])
+        Some(brackets[brackets.len() - 1])
     }
 }
 
@@ -154,12 +154,7 @@ pub(crate) fn notes_at(
 }
 
 // Reads `, note )` or `)`, behind a note.
-fn more_notes_at(
-    alloc: Global,
-    bytes: &[u8],
-    tokens: &[Token],
-    from: usize,
-) -> Result<usize, Stop>
+fn more_notes_at(alloc: Global, bytes: &[u8], tokens: &[Token], from: usize) -> Result<usize, Stop>
     ensures { Goes (items.more_notes bytes.now tokens.now from) result }
 {
     if !stands_at(bytes, tokens, from, Terminal::Comma) {

@@ -18,4 +18,4 @@ returns-in_err-step c =
 pub returns : goal.returns
 returns c =
     is_note (λ e. c.in_default.not-Behind (c.piece_of.ensures ∙ ap (piece_of None) c.terminal_at.ensures ∙ e))
-      (c.pieces.invariant (read tt c.step.new.self.at) (subst (NoteGoes c.args.bytes.now c.args.tokens.now c.pieces.note c.step.new.self) c.if-branch.false c.in_ok-step.ensures.goes))
+    (c.pieces.invariant (read tt c.step.new.self.at) (subst (NoteGoes c.args.bytes.now c.args.tokens.now c.pieces.note c.step.new.self) c.if-branch.false c.in_ok-step.ensures.goes))
