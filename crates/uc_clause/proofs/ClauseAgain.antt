@@ -22,7 +22,7 @@ use Rattle.uc_clause.specs.Rules.{read, goes_on, is_second, read_or_stop}
 use Rattle.uc_clause.specs.Parse.{Literal, Sides, Formula, formula}
 use Rattle.uc_clause.specs.Terms.{head_of}
 use Rattle.uc_clause.specs.Items as items
-use Rattle.uc_clause.specs.Items.{role_of, role_by, name_by, sign_of, opening_of, opens_formula}
+use Rattle.uc_clause.specs.Items.{role_of, role_by, name_by, sign_of, opening_of}
 use Rattle.uc_clause.specs.Meaning.{Means, MeansClause, no_items, one_item, with_names, variables_in, places_of}
 use Rattle.uc_clause.specs.Printing.{variable_text, role_text, clause_text}
 use Rattle.uc_clause.specs.Printable.{IsPrintableClause, AreNumbered, clause_variables, ReadsAgain}
@@ -153,7 +153,7 @@ module _ (table : Table) (text : List ℕ) (tokens : List Token) where
 
   -- an item `cnf(..).` at a token
   abbrev formula_of : ℕ → Clause → Formula
-  formula_of at c = record { first = at; name = at + 1 + 1; role = c.role; literal = literal_of (at + 1 + 1 + 1 + 1 + 1 + 1) c }
+  formula_of at c = record { heading = record { first = at; name = at + 1 + 1; role = c.role }; literal = literal_of (at + 1 + 1 + 1 + 1 + 1 + 1) c }
 
   abbrev item_end : ℕ → Clause → ℕ
   item_end at c = at + 1 + 1 + 1 + 1 + 1 + 1 + width c.left + 1 + width c.right + 1 + 1
@@ -192,10 +192,10 @@ module _ (table : Table) (text : List ℕ) (tokens : List Token) where
       let name_read : read_or_stop NoToken (name_by (terminal_at text tokens (at + 1 + 1)) (at + 1 + 1)) (at + 1 + 1) ≡ read (at + 1 + 1) (at + 1 + 1 + 1) = ap (λ o. read_or_stop NoToken o (at + 1 + 1)) (ap (λ t. name_by t (at + 1 + 1)) name.terminal ∙ name_is_read c.name.text c.name.integer _ (at + 1 + 1)) in
       let role_read : read_or_stop NoRole (role_by (terminal_at text tokens (at + 1 + 1 + 1 + 1)) (bytes_at text tokens (at + 1 + 1 + 1 + 1))) (at + 1 + 1 + 1 + 1) ≡ read c.role (at + 1 + 1 + 1 + 1 + 1) = ap (λ o. read_or_stop NoRole o (at + 1 + 1 + 1 + 1)) (ap₂ role_by role.terminal role.bytes ∙ role_is_read c.role) in
       record {
-        reads = items.is_cnf (ap₂ opening_of cnf.terminal cnf.bytes)
-            (goes_on refl (goes_on (cnf.terminal, refl) (goes_on (open_mark.terminal, refl) (goes_on (sym name_read) (goes_on (comma.terminal, refl) (goes_on (sym role_read) (goes_on (second_comma.terminal, refl)
+        reads = items.is_clause {outcome = read (formula_of at c) (item_end at c)} (ap₂ opening_of cnf.terminal cnf.bytes)
+            (goes_on (goes_on refl (goes_on (cnf.terminal, refl) (goes_on (open_mark.terminal, refl) (goes_on (sym name_read) (goes_on (comma.terminal, refl) (goes_on (sym role_read) (goes_on (second_comma.terminal, refl) refl)))))))
             (goes_on (items.is_bare equation.not_open (is_second equation.not_tilde equation.reads))
-            (goes_on (is_second (close_or_comma _ close.terminal) (close.terminal, refl)) (goes_on (dot.terminal, refl) refl))))))))));
+            (goes_on (is_second (close_or_comma _ close.terminal) (close.terminal, refl)) (goes_on (dot.terminal, refl) refl))));
         means = record {
           name = record { text = sym (name.word ∙ name_word c.name.text c.name.integer); integer = subst (λ t. (c.name.integer ≡ true) ↔ (t ≡ terminal.Integer)) (sym name.terminal) (name_integer c.name.text c.name.integer _) };
           role = refl;

@@ -29,3 +29,10 @@ pub mod ReadBack
 pub mod Renumbering
 pub mod PrintedClause
 pub mod ClauseAgain
+pub mod Notes
+pub mod Lists
+pub mod Progress
+pub mod Gathered
+pub mod ItemsOnce
+pub mod InText
+pub mod Files

@@ -4,7 +4,7 @@ use Rattle.std.specs.Prelude.{Result, Ok, Err, IfOk, IfErr}
 use Rattle.uc_clause.specs.declared.grammar.stop.Why.{Why}
 use Rattle.uc_clause.specs.declared.grammar.stop.Stop.{Stop}
 use Rattle.uc_clause.specs.declared.grammar.stop.Stop.TheVariants.{At, NoMemory}
-use Rattle.uc_clause.specs.Rules.{Outcome, read, stop, Stops}
+use Rattle.uc_clause.specs.Rules.{Outcome, read, stop, Stops, Gives}
 
 -- where each stop of the part is one of the whole
 pub passes : {V W : Type 0} (part : Outcome V → Type 0) (whole : Outcome W → Type 0) (err : Stop) → ((why : Why) (k : ℕ) → part (stop why k) → whole (stop why k)) → Stops part err → Stops whole err
@@ -18,3 +18,9 @@ if_err (Err e) step h = step e h
 pub if_ok : {V : Type 0} {P Q : V → Type 0} (r : Result V Stop) → ((v : V) → P v → Q v) → IfOk r P → IfOk r Q
 if_ok (Ok v) step h = step v h
 if_ok (Err e) step h = tt
+
+-- where whatever the part comes to is what the whole comes to
+pub gives_more : {V : Type 0} (part whole : Outcome V → Type 0) (r : Result (V × ℕ) Stop) → ((o : Outcome V) → part o → whole o) → Gives part r → Gives whole r
+gives_more part whole (Ok v) step h = step (read v.0 v.1) h
+gives_more part whole (Err (At why k)) step h = step (stop why k) h
+gives_more part whole (Err NoMemory) step h = tt

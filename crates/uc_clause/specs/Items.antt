@@ -12,17 +12,26 @@
 -- In the include, the outer square brackets show an option, the next are the list's own, and the innermost show that the
 -- list may be empty. A note is one or more tokens in which round and square brackets are balanced and no comma stands
 -- outside brackets.
-use Rattle.std.specs.Prelude.{◌≡◌, ◌≢◌, ℕ, ◌+◌, ◌<◌, ◌≤◌, Bool, true, false, List, [], ◌∷◌, Option, Some, None, codes, bytes_eq, if◌then◌else◌}
+use Rattle.std.specs.Prelude.{◌≡◌, ◌≢◌, ℕ, ◌+◌, ◌<◌, ◌≤◌, Bool, true, false, List, [], ◌∷◌, Option, Some, None, ◌-◌, ◌++◌, length, take, slice_get, codes, bytes_eq, if◌then◌else◌}
 use Rattle.uc_clause.specs.declared.token.Token.{Token}
 use Rattle.uc_clause.specs.declared.clause.Role.{Role}
-use Rattle.uc_clause.specs.declared.clause.Role.TheVariants.{Axiom, Hypothesis, Definition, Assumption, Lemma, Theorem, Corollary, Plain, NegatedConjecture}
+use Rattle.uc_clause.specs.declared.clause.Role.TheVariants.{Axiom, Hypothesis, Definition, Assumption, Lemma, Theorem, Corollary, NegatedConjecture}
+use Rattle.uc_clause.specs.declared.clause.Role.TheVariants as roles
 use Rattle.uc_clause.specs.declared.terminal.Terminal.{Terminal}
 use Rattle.uc_clause.specs.declared.terminal.Terminal.TheVariants.{Lower, Quoted, Integer, Unequal, Open, Close, OpenSquare, CloseSquare, Comma, Dot, Equal, Tilde, End}
+use Rattle.uc_clause.specs.declared.grammar.note.Bracket.{Bracket}
+use Rattle.uc_clause.specs.declared.grammar.note.Bracket.TheVariants.{Round, Square}
+use Rattle.uc_clause.specs.declared.grammar.note.Piece.{Piece}
+use Rattle.uc_clause.specs.declared.grammar.note.Piece.TheVariants.{Plain, Opens, Closes, Behind, Misplaced}
 use Rattle.uc_clause.specs.declared.grammar.stop.Why.{Why}
 use Rattle.uc_clause.specs.declared.grammar.stop.Why.TheVariants.{NoItem, NoRole, NoSelection, NoSign, NoEnd, NoToken, Parentheses}
 use Rattle.uc_clause.specs.Terminals.{terminal_at, bytes_at}
 use Rattle.uc_clause.specs.Rules.{Outcome, read, stop, Rule, mapped, ◌>>=◌, gives, here, pick, the, Choice}
-use Rattle.uc_clause.specs.Parse.{Parse, Sides, Literal, Entry, formula, inclusion}
+use Rattle.uc_clause.specs.Parse.{Parse, Sides, Literal, Formula, Entry, formula, inclusion}
+use Rattle.uc_clause.specs.declared.grammar.item.Heading.{Heading}
+use Rattle.uc_clause.specs.declared.grammar.item.Inclusion.{Inclusion}
+use Rattle.uc_clause.specs.declared.grammar.item.Opening.{Opening}
+use Rattle.uc_clause.specs.declared.grammar.item.Opening.TheVariants.{OpensClause, OpensInclude, OpensNothing}
 use Rattle.uc_clause.specs.Terms.{Term}
 
 -- the nine roles by their words
@@ -35,7 +44,7 @@ role_of word =
     else (if bytes_eq word (codes "lemma") then Some Lemma
     else (if bytes_eq word (codes "theorem") then Some Theorem
     else (if bytes_eq word (codes "corollary") then Some Corollary
-    else (if bytes_eq word (codes "plain") then Some Plain
+    else (if bytes_eq word (codes "plain") then Some roles.Plain
     else (if bytes_eq word (codes "negated_conjecture") then Some NegatedConjecture
     else None))))))))
 
@@ -45,14 +54,9 @@ role_by Lower word = role_of word
 role_by other word = None
 
 -- what an item begins with
-pub data Opening : Type 0 where
-  opens_formula : Opening
-  opens_inclusion : Opening
-  opens_nothing : Opening
-
 abbrev pub opening_of : Terminal → List ℕ → Opening
-opening_of Lower word = if bytes_eq word (codes "cnf") then opens_formula else (if bytes_eq word (codes "include") then opens_inclusion else opens_nothing)
-opening_of other word = opens_nothing
+opening_of Lower word = if bytes_eq word (codes "cnf") then OpensClause else (if bytes_eq word (codes "include") then OpensInclude else OpensNothing)
+opening_of other word = OpensNothing
 
 -- the sign of an equation: whether it is `=`, or `!=`
 abbrev pub sign_of : Terminal → Option Bool
@@ -60,30 +64,20 @@ sign_of Equal = Some true
 sign_of Unequal = Some false
 sign_of other = None
 
--- the two kinds of brackets that a note may have
-pub data Bracket : Type 0 where
-  round : Bracket
-  square : Bracket
-
--- what a token is to a note: a part of it, with the brackets that are open behind it; what ends it; or what can't stand there
-pub data Part : Type 0 where
-  is_part : List Bracket → Part
-  ends_note : Part
-  stops_note : Part
-
--- with these brackets open before it, the innermost first
-abbrev pub part_of : List Bracket → Terminal → Part
-part_of bs End = stops_note
-part_of bs Open = is_part (round ∷ bs)
-part_of bs OpenSquare = is_part (square ∷ bs)
-part_of [] Comma = ends_note
-part_of [] Close = ends_note
-part_of [] CloseSquare = ends_note
-part_of (round ∷ bs) Close = is_part bs
-part_of (square ∷ bs) Close = stops_note
-part_of (round ∷ bs) CloseSquare = stops_note
-part_of (square ∷ bs) CloseSquare = is_part bs
-part_of bs other = is_part bs
+-- what a token is to a note, behind this innermost open bracket, if one is open: a part of it, which may open or close a
+-- bracket; what ends it; or what can't stand there
+abbrev pub piece_of : Option Bracket → Terminal → Piece
+piece_of innermost End = Misplaced
+piece_of innermost Open = Opens Round
+piece_of innermost OpenSquare = Opens Square
+piece_of None Comma = Behind
+piece_of None Close = Behind
+piece_of None CloseSquare = Behind
+piece_of (Some Round) Close = Closes
+piece_of (Some Square) Close = Misplaced
+piece_of (Some Round) CloseSquare = Misplaced
+piece_of (Some Square) CloseSquare = Closes
+piece_of innermost other = Plain
 
 -- a name: a Lower, a Quoted or an Integer
 abbrev pub name_by : Terminal → ℕ → Option ℕ
@@ -144,11 +138,15 @@ module _ (bytes : List ℕ) (tokens : List Token) where
     _ ← token Close NoToken
     gives sides
 
+  -- what `~` denies
+  abbrev pub denied : Rule Sides
+  denied = Choice bytes tokens Open equals_in_brackets equals
+
   -- ~ term = term, or ~ ( term = term )
   abbrev pub denial : Rule Literal
   denial = do
     _ ← token Tilde NoToken
-    sides ← Choice bytes tokens Open equals_in_brackets equals
+    sides ← denied
     gives (record { positive = false; sides = sides })
 
   abbrev pub literal : Rule Literal
@@ -165,39 +163,51 @@ module _ (bytes : List ℕ) (tokens : List Token) where
   abbrev pub clause : Rule Literal
   clause at outcome = Clause 0 at outcome
 
-  -- the rest of a note, with these brackets open
+  -- what the next token is to a note in which these brackets are open, the innermost last
+  abbrev pub piece_at : List Bracket → ℕ → Piece
+  piece_at open_ones at = piece_of (slice_get open_ones (length open_ones - 1)) (terminal_at bytes tokens at)
+
+  -- the rest of a note in which these brackets are open
   pub data Rest : List Bracket → ℕ → Outcome (Unit {0}) → Type 0 where
-    goes_on_in_note : {bs next : List Bracket} {at : ℕ} {outcome : Outcome (Unit {0})} → part_of bs (terminal_at bytes tokens at) ≡ is_part next → Rest next (at + 1) outcome → Rest bs at outcome
-    ends_before : {bs : List Bracket} {at : ℕ} → part_of bs (terminal_at bytes tokens at) ≡ ends_note → Rest bs at (read tt at)
-    stops_before : {bs : List Bracket} {at : ℕ} → part_of bs (terminal_at bytes tokens at) ≡ stops_note → Rest bs at (stop NoToken at)
+    has_token : {bs : List Bracket} {at : ℕ} {outcome : Outcome (Unit {0})} → piece_at bs at ≡ Plain → Rest bs (at + 1) outcome → Rest bs at outcome
+    has_opening : {bs : List Bracket} {b : Bracket} {at : ℕ} {outcome : Outcome (Unit {0})} → piece_at bs at ≡ Opens b → Rest (bs ++ b ∷ []) (at + 1) outcome → Rest bs at outcome
+    has_closing : {bs : List Bracket} {at : ℕ} {outcome : Outcome (Unit {0})} → piece_at bs at ≡ Closes → Rest (take (length bs - 1) bs) (at + 1) outcome → Rest bs at outcome
+    ends_before : {bs : List Bracket} {at : ℕ} → piece_at bs at ≡ Behind → Rest bs at (read tt at)
+    stops_before : {bs : List Bracket} {at : ℕ} → piece_at bs at ≡ Misplaced → Rest bs at (stop NoToken at)
 
   -- a note isn't empty
   pub data Note : ℕ → Outcome (Unit {0}) → Type 0 where
-    is_note : {at : ℕ} {outcome : Outcome (Unit {0})} → part_of [] (terminal_at bytes tokens at) ≢ ends_note → Rest [] at outcome → Note at outcome
-    is_no_note : {at : ℕ} → part_of [] (terminal_at bytes tokens at) ≡ ends_note → Note at (stop NoToken at)
+    is_note : {at : ℕ} {outcome : Outcome (Unit {0})} → piece_at [] at ≢ Behind → Rest [] at outcome → Note at outcome
+    is_no_note : {at : ℕ} → piece_at [] at ≡ Behind → Note at (stop NoToken at)
 
   abbrev pub note : Rule (Unit {0})
   note at outcome = Note at outcome
 
-  -- what stands behind the first note
+  -- , note )
   abbrev pub second_note : Rule (Unit {0})
   second_note = do
     _ ← token Comma NoToken
     _ ← note
     token Close NoToken
 
+  -- [ , note ] )
+  abbrev pub more_notes : Rule (Unit {0})
+  more_notes = Choice bytes tokens Comma second_note (token Close NoToken)
+
+  -- , note [ , note ] )
   abbrev pub first_note : Rule (Unit {0})
   first_note = do
     _ ← token Comma NoToken
     _ ← note
-    Choice bytes tokens Comma second_note (token Close NoToken)
+    more_notes
 
   -- [ , note [ , note ] ] )
   abbrev pub notes : Rule (Unit {0})
   notes = Choice bytes tokens Comma first_note (token Close NoEnd)
 
-  abbrev pub cnf : Rule Entry
-  cnf = do
+  -- cnf ( name , role ,
+  abbrev pub heading : Rule Heading
+  heading = do
     first ← here
     _ ← token Lower NoItem
     _ ← token Open NoToken
@@ -205,10 +215,15 @@ module _ (bytes : List ℕ) (tokens : List Token) where
     _ ← token Comma NoToken
     role ← role
     _ ← token Comma NoToken
+    gives (record { first = first; name = name; role = role })
+
+  abbrev pub cnf : Rule Formula
+  cnf = do
+    heading ← heading
     literal ← clause
     _ ← notes
     _ ← token Dot NoToken
-    gives (formula (record { first = first; name = name; role = role; literal = literal }))
+    gives (record { heading = heading; literal = literal })
 
   -- name { , name } ]
   pub data Names : ℕ → Outcome (List ℕ) → Type 0 where
@@ -225,12 +240,17 @@ module _ (bytes : List ℕ) (tokens : List Token) where
     _ ← token CloseSquare NoToken
     gives []
 
+  -- [ [ name { , name } ] ]
+  abbrev pub list : Rule (List ℕ)
+  list = do
+    _ ← token OpenSquare NoSelection
+    Choice bytes tokens CloseSquare no_names names
+
   -- , [ [ name { , name } ] ] )
   abbrev pub selection : Rule (Option (List ℕ))
   selection = do
     _ ← token Comma NoToken
-    _ ← token OpenSquare NoSelection
-    ns ← Choice bytes tokens CloseSquare no_names names
+    ns ← list
     _ ← token Close NoToken
     gives (Some ns)
 
@@ -239,24 +259,27 @@ module _ (bytes : List ℕ) (tokens : List Token) where
     _ ← token Close NoToken
     gives None
 
-  abbrev pub include : Rule Entry
+  abbrev pub selected : Rule (Option (List ℕ))
+  selected = Choice bytes tokens Comma selection no_selection
+
+  abbrev pub include : Rule Inclusion
   include = do
     first ← here
     _ ← token Lower NoItem
     _ ← token Open NoToken
     file ← quoted
-    names ← Choice bytes tokens Comma selection no_selection
+    names ← selected
     _ ← token Dot NoToken
-    gives (inclusion (record { first = first; file = file; names = names }))
+    gives (record { first = first; file = file; names = names })
 
   abbrev pub opening_at : ℕ → Opening
   opening_at at = opening_of (terminal_at bytes tokens at) (bytes_at bytes tokens at)
 
   -- an item, by what it begins with
   pub data Item : ℕ → Outcome Entry → Type 0 where
-    is_cnf : {at : ℕ} {outcome : Outcome Entry} → opening_at at ≡ opens_formula → cnf at outcome → Item at outcome
-    is_include : {at : ℕ} {outcome : Outcome Entry} → opening_at at ≡ opens_inclusion → include at outcome → Item at outcome
-    is_no_item : {at : ℕ} → opening_at at ≡ opens_nothing → Item at (stop NoItem at)
+    is_clause : {at : ℕ} {outcome : Outcome Formula} → opening_at at ≡ OpensClause → cnf at outcome → Item at (mapped formula outcome)
+    is_include : {at : ℕ} {outcome : Outcome Inclusion} → opening_at at ≡ OpensInclude → include at outcome → Item at (mapped inclusion outcome)
+    is_no_item : {at : ℕ} → opening_at at ≡ OpensNothing → Item at (stop NoItem at)
 
   -- items up to the end of the text
   pub data Items : ℕ → Outcome (List Entry) → Type 0 where

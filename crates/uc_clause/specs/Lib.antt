@@ -17,3 +17,5 @@ pub mod First
 pub mod Pieces
 pub mod Drafts
 pub mod Sides
+pub mod Notes
+pub mod Given

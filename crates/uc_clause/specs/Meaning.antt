@@ -15,7 +15,8 @@ use Rattle.uc_clause.specs.declared.clause.Item.{Item}
 use Rattle.uc_clause.specs.declared.clause.Item.TheVariants as item
 use Rattle.uc_clause.specs.declared.terminal.Terminal.TheVariants.{Integer}
 use Rattle.uc_clause.specs.Terminals.{terminal_at, bytes_at, word_at, place_at}
-use Rattle.uc_clause.specs.Parse.{Parse, variable, applied, Parses, no_more, also, leaves, variables, Sides, Formula, Inclusion, Entry, formula, inclusion}
+use Rattle.uc_clause.specs.declared.grammar.item.Inclusion.{Inclusion}
+use Rattle.uc_clause.specs.Parse.{Parse, variable, applied, Parses, no_more, also, leaves, variables, Sides, Formula, Entry, formula, inclusion}
 
 -- the names of variables, each once, by first occurrence
 abbrev pub Variables : Type 0
@@ -63,12 +64,12 @@ module _ (bytes : List ℕ) (tokens : List Token) where
     pub means_right : Means table (variables_of sides) sides.right right
 
   pub record MeansClause (table : Table) (f : Formula) (clause : Clause) : Type 0 where
-    pub name : IsName f.name clause.name
-    pub role : clause.role ≡ f.role
+    pub name : IsName f.heading.name clause.name
+    pub role : clause.role ≡ f.heading.role
     pub positive : clause.positive ≡ f.literal.positive
     pub sides : MeansSides table f.literal.sides clause.left clause.right
     pub places : clause.places ≡ places_of f.literal.sides
-    pub place : clause.place ≡ place_at bytes tokens f.first
+    pub place : clause.place ≡ place_at bytes tokens f.heading.first
 
   -- the tokens are these names, each with its place
   pub data AreNames : List ℕ → List (Name × Place) → Type 0 where

@@ -1,6 +1,7 @@
 -- What the grammar makes of tokens: trees whose leaves are the numbers of tokens.
-use Rattle.std.specs.Prelude.{ℕ, ◌+◌, Bool, List, [], ◌∷◌, ◌++◌, Option}
-use Rattle.uc_clause.specs.declared.clause.Role.{Role}
+use Rattle.std.specs.Prelude.{ℕ, ◌+◌, Bool, List, [], ◌∷◌, ◌++◌}
+use Rattle.uc_clause.specs.declared.grammar.item.Heading.{Heading}
+use Rattle.uc_clause.specs.declared.grammar.item.Inclusion.{Inclusion}
 
 mutual
   -- a term: a variable, or a functor with its arguments, by the numbers of their tokens
@@ -51,18 +52,10 @@ pub record Literal : Type 0 where
   pub positive : Bool
   pub sides : Sides
 
--- a clause, with the token where its item begins and that of its name
+-- a clause: where its item begins, its name and its role, and what it says
 pub record Formula : Type 0 where
-  pub first : ℕ
-  pub name : ℕ
-  pub role : Role
+  pub heading : Heading
   pub literal : Literal
-
--- an include, with the token where it begins, that of its file, and those of its names where there is a list
-pub record Inclusion : Type 0 where
-  pub first : ℕ
-  pub file : ℕ
-  pub names : Option (List ℕ)
 
 pub data Entry : Type 0 where
   formula : Formula → Entry

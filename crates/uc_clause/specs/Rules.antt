@@ -1,5 +1,5 @@
 -- Rules of a grammar: relations between the number of a token and what reading from there comes to.
-use Rattle.std.specs.Prelude.{◌≡◌, ◌≢◌, ℕ, ◌+◌, List, Option, Some, None}
+use Rattle.std.specs.Prelude.{◌≡◌, ◌≢◌, ℕ, ◌+◌, List, Option, Some, None, Result, Ok, Err}
 use Rattle.uc_clause.specs.declared.token.Token.{Token}
 use Rattle.uc_clause.specs.declared.terminal.Terminal.{Terminal}
 use Rattle.uc_clause.specs.Terminals.{terminal_at}
@@ -60,3 +60,13 @@ pub data Choice (bytes : List ℕ) (tokens : List Token) {V : Type 0} (terminal 
 abbrev pub Stops : {V : Type 0} → (Outcome V → Type 0) → Stop → Type 0
 Stops outcome (At why k) = outcome (stop why k)
 Stops outcome NoMemory = Unit {0}
+
+-- a reader that gives the number of the token behind goes on or stops as the rule does
+abbrev pub Goes : (Outcome (Unit {0}) → Type 0) → Result ℕ Stop → Type 0
+Goes outcome (Ok end) = outcome (read tt end)
+Goes outcome (Err e) = Stops outcome e
+
+-- a reader that gives a value and the number of the token behind it reads or stops as the rule does
+abbrev pub Gives : {V : Type 0} → (Outcome V → Type 0) → Result (V × ℕ) Stop → Type 0
+Gives outcome (Ok r) = outcome (read r.0 r.1)
+Gives outcome (Err e) = Stops outcome e

@@ -124,6 +124,23 @@ pub fn word_at(alloc: Global, bytes: &[u8], tokens: &[Token], at: usize) -> Resu
     token_at(bytes, tokens, at).word(alloc, bytes)
 }
 
+// The word that the token of this number stands for, none at the end of the text.
+pub(crate) fn named_at(
+    alloc: Global,
+    bytes: &[u8],
+    tokens: &[Token],
+    at: usize,
+) -> Result<Text, AllocError>
+    requires { AreTokens bytes.now tokens.now }
+    ensures { IfOk result (λ word. word ≡ word_at bytes.now tokens.now at) }
+{
+    if at < tokens.len() {
+        word_at(alloc, bytes, tokens, at)
+    } else {
+        Ok(Text::new(alloc))
+    }
+}
+
 /// Where the token of this number begins; the end of the text stands behind the last byte. It takes no memory.
 pub fn place_at(bytes: &[u8], tokens: &[Token], at: usize) -> Place
     requires { length bytes.now < 2 ^ 31 }

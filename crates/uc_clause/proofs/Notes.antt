@@ -1,0 +1,64 @@
+-- How notes are read.
+use Rattle.std.proofs.Common.{◌≡◌, ℕ, ◌+◌, ◌-◌, ◌<◌, ◌≤◌, List, [], ◌∷◌, ◌++◌, length, take, refl, sym, ap, ◌∙◌, subst, arith}
+use Rattle.std.specs.Prelude.{◌≢◌, Option, Some, None, slice_get, Result, Ok, Err}
+use Rattle.uc_clause.specs.declared.token.Token.{Token}
+use Rattle.uc_clause.specs.declared.terminal.Terminal.{Terminal}
+use Rattle.uc_clause.specs.declared.terminal.Terminal.TheVariants.{End, Comma, Close}
+use Rattle.uc_clause.specs.declared.grammar.note.Bracket.{Bracket}
+use Rattle.uc_clause.specs.declared.grammar.note.Piece.{Piece}
+use Rattle.uc_clause.specs.declared.grammar.note.Piece.TheVariants.{Plain, Opens, Closes, Behind, Misplaced}
+use Rattle.uc_clause.specs.declared.grammar.stop.Why.{Why}
+use Rattle.uc_clause.specs.declared.grammar.stop.Why.TheVariants.{NoToken, NoEnd}
+use Rattle.uc_clause.specs.declared.grammar.stop.Stop.{Stop}
+use Rattle.uc_clause.specs.declared.grammar.stop.Stop.TheVariants.{At, NoMemory}
+use Rattle.uc_clause.specs.Terminals.{terminal_at}
+use Rattle.uc_clause.specs.Rules.{Outcome, read, stop, Stops, Goes, goes_on, stops_first, is_first, is_second, the}
+use Rattle.uc_clause.specs.Items.{piece_of, piece_at, Rest, has_token, has_opening, has_closing, ends_before, stops_before, Note, is_note, is_no_note, note, notes, more_notes, first_note, second_note}
+use Rattle.uc_clause.proofs.Ends.{some_token}
+use Rattle.uc_clause.proofs.Sequences.{passes}
+
+-- what a token is to a note, step by step
+pub piece_is : (bytes : List ℕ) (tokens : List Token) (bs : List Bracket) (at : ℕ) (slice : List Bracket) (inner : Option Bracket) (t : Terminal) (r p : Piece) → slice ≡ bs → inner ≡ slice_get slice (length slice - 1) → t ≡ terminal_at bytes tokens at → r ≡ piece_of inner t → r ≡ p → piece_at bytes tokens bs at ≡ p
+piece_is bytes tokens bs at slice inner t r p s i e f g =
+    let same : inner ≡ slice_get bs (length bs - 1) = i ∙ ap (λ l. slice_get l (length l - 1)) s in
+    sym (f ∙ ap (λ v. piece_of v t) same ∙ ap (piece_of (slice_get bs (length bs - 1))) e) ∙ g
+
+end_misplaced : (inner : Option Bracket) → piece_of inner End ≡ Misplaced
+end_misplaced None = refl
+end_misplaced (Some b) = refl
+
+pub some_piece : (bytes : List ℕ) (tokens : List Token) (bs : List Bracket) (at : ℕ) (p : Piece) → piece_at bytes tokens bs at ≡ p → p ≢ Misplaced → at < length tokens
+some_piece bytes tokens bs at p e n = some_token bytes tokens at (λ f. n (sym e ∙ ap (piece_of (slice_get bs (length bs - 1))) f ∙ end_misplaced (slice_get bs (length bs - 1))))
+
+module _ (bytes : List ℕ) (tokens : List Token) (from : ℕ) where
+  pub note_reads : (e : Stop) → piece_at bytes tokens [] from ≢ Behind → Stops (Rest bytes tokens [] from) e → Stops (Note bytes tokens from) e
+  note_reads e n h = passes (Rest bytes tokens [] from) (Note bytes tokens from) e (λ why k s. is_note n s) h
+
+  first_stops : terminal_at bytes tokens from ≡ Comma → (e : Stop) → Stops (Note bytes tokens (from + 1)) e → Stops (first_note bytes tokens from) e
+  first_stops c e h = passes (Note bytes tokens (from + 1)) (first_note bytes tokens from) e (λ why k s. goes_on {v = tt} {middle = from + 1} (c, refl) (stops_first s)) h
+
+  pub notes_comma_stops : terminal_at bytes tokens from ≡ Comma → (e : Stop) → Stops (Note bytes tokens (from + 1)) e → Stops (notes bytes tokens from) e
+  notes_comma_stops c e h = passes (Note bytes tokens (from + 1)) (notes bytes tokens from) e (λ why k s. is_first c (goes_on {v = tt} {middle = from + 1} (c, refl) (stops_first s))) h
+
+  pub more_comma_stops : terminal_at bytes tokens from ≡ Comma → (e : Stop) → Stops (Note bytes tokens (from + 1)) e → Stops (more_notes bytes tokens from) e
+  more_comma_stops c e h = passes (Note bytes tokens (from + 1)) (more_notes bytes tokens from) e (λ why k s. is_first c (goes_on {v = tt} {middle = from + 1} (c, refl) (stops_first s))) h
+
+  pub notes_close : terminal_at bytes tokens from ≢ Comma → (r : Result ℕ Stop) → Goes (the bytes tokens Close NoEnd from) r → Goes (notes bytes tokens from) r
+  notes_close n (Ok end) g = is_second n g
+  notes_close n (Err (At why k)) g = is_second n g
+  notes_close n (Err NoMemory) g = tt
+
+  pub more_close : terminal_at bytes tokens from ≢ Comma → (r : Result ℕ Stop) → Goes (the bytes tokens Close NoToken from) r → Goes (more_notes bytes tokens from) r
+  more_close n (Ok end) g = is_second n g
+  more_close n (Err (At why k)) g = is_second n g
+  more_close n (Err NoMemory) g = tt
+
+  pub notes_first : terminal_at bytes tokens from ≡ Comma → (middle : ℕ) → Note bytes tokens (from + 1) (read tt middle) → (r : Result ℕ Stop) → Goes (more_notes bytes tokens middle) r → Goes (notes bytes tokens from) r
+  notes_first c middle x (Ok end) g = is_first c (goes_on {v = tt} {middle = from + 1} (c, refl) (goes_on {v = tt} x g))
+  notes_first c middle x (Err (At why k)) g = is_first c (goes_on {v = tt} {middle = from + 1} (c, refl) (goes_on {v = tt} x g))
+  notes_first c middle x (Err NoMemory) g = tt
+
+  pub more_second : terminal_at bytes tokens from ≡ Comma → (middle : ℕ) → Note bytes tokens (from + 1) (read tt middle) → (r : Result ℕ Stop) → Goes (the bytes tokens Close NoToken middle) r → Goes (more_notes bytes tokens from) r
+  more_second c middle x (Ok end) g = is_first c (goes_on {v = tt} {middle = from + 1} (c, refl) (goes_on {v = tt} x g))
+  more_second c middle x (Err (At why k)) g = is_first c (goes_on {v = tt} {middle = from + 1} (c, refl) (goes_on {v = tt} x g))
+  more_second c middle x (Err NoMemory) g = tt

@@ -1,0 +1,165 @@
+//! Notes, which are read and dropped, and what encloses them.
+
+ghost use Rattle.std.specs.Prelude.{◌≡◌, ◌≢◌, ◌-◌, length, slice_get, IfOk, IfErr};
+ghost use Rattle.uc_clause.specs.Notes.{NoteGoes};
+ghost use Rattle.uc_clause.specs.Rules.{Stops, Goes, the};
+ghost use Rattle.uc_clause.specs.Items as items;
+
+use crate::{Stop, Terminal, Token, Why, stands_at, terminal_at};
+use std::alloc::Global;
+
+/// A kind of brackets that a note may have.
+#[derive(Clone, Copy, PartialEq, Eq, Debug)]
+pub(crate) enum Bracket {
+    Round,
+    Square,
+}
+
+/// What a token is to a note.
+#[derive(Clone, Copy, PartialEq, Eq, Debug)]
+pub(crate) enum Piece {
+    /// A part of it.
+    Plain,
+    /// A bracket that opens.
+    Opens(Bracket),
+    /// The bracket that closes the innermost open one.
+    Closes,
+    /// What ends the note.
+    Behind,
+    /// What can't stand there.
+    Misplaced,
+}
+
+// What a token is to a note, behind this innermost open bracket.
+fn piece_of(innermost: Option<Bracket>, terminal: Terminal) -> Piece
+    ensures { result ≡ items.piece_of innermost terminal }
+{
+    match terminal {
+        Terminal::End => Piece::Misplaced,
+        Terminal::Open => Piece::Opens(Bracket::Round),
+        Terminal::OpenSquare => Piece::Opens(Bracket::Square),
+        Terminal::Comma => match innermost {
+            None => Piece::Behind,
+            Some(_) => Piece::Plain,
+        },
+        Terminal::Close => match innermost {
+            None => Piece::Behind,
+            Some(Bracket::Round) => Piece::Closes,
+            Some(Bracket::Square) => Piece::Misplaced,
+        },
+        Terminal::CloseSquare => match innermost {
+            None => Piece::Behind,
+            Some(Bracket::Round) => Piece::Misplaced,
+            Some(Bracket::Square) => Piece::Closes,
+        },
+        _ => Piece::Plain,
+    }
+}
+
+// The innermost of the open brackets, which is the last one.
+fn innermost(brackets: &[Bracket]) -> Option<Bracket>
+    ensures { result ≡ slice_get brackets.now (length brackets.now - 1) }
+{
+    if brackets.is_empty() {
+        None
+    } else {
+        Some(brackets[brackets.len() - 1])
+    }
+}
+
+// Reads this very token, and gives the number of the next.
+pub(crate) fn expect(
+    bytes: &[u8],
+    tokens: &[Token],
+    at: usize,
+    terminal: Terminal,
+    why: Why,
+) -> Result<usize, Stop>
+    requires { terminal ≢ Terminal.End }
+    ensures { Goes (the bytes.now tokens.now terminal why at) result }
+{
+    if stands_at(bytes, tokens, at, terminal) {
+        Ok(at + 1)
+    } else {
+        Err(Stop::At(why, at))
+    }
+}
+
+/// A note while it is read: the next token, and the open brackets, the innermost last.
+#[derive(Drop)]
+struct Note {
+    at: usize,
+    open: Vec<Bracket>,
+}
+
+impl Note {
+    // Goes over the next token, and answers whether that is a part of the note.
+    fn step(&mut self, bytes: &[u8], tokens: &[Token]) -> Result<bool, Stop>
+        ensures goes { IfOk result (NoteGoes bytes.now tokens.now self.old self.new) }
+        ensures stops { IfErr result (Stops (items.Rest bytes.now tokens.now self.old.open.items self.old.at)) }
+    {
+        match piece_of(
+            innermost(self.open.as_slice()),
+            terminal_at(bytes, tokens, self.at),
+        ) {
+            Piece::Plain => {
+                self.at += 1;
+                Ok(true)
+            }
+            Piece::Opens(bracket) => {
+                self.open.push(bracket)?;
+                self.at += 1;
+                Ok(true)
+            }
+            Piece::Closes => {
+                let _ = self.open.pop();
+                self.at += 1;
+                Ok(true)
+            }
+            Piece::Behind => Ok(false),
+            Piece::Misplaced => Err(Stop::At(Why::NoToken, self.at)),
+        }
+    }
+}
+
+// Reads a note, and gives the number of the token behind it.
+fn note_at(alloc: Global, bytes: &[u8], tokens: &[Token], from: usize) -> Result<usize, Stop>
+    ensures { Goes (items.Note bytes.now tokens.now from) result }
+{
+    if let Piece::Behind = piece_of(None, terminal_at(bytes, tokens, from)) {
+        return Err(Stop::At(Why::NoToken, from));
+    }
+    let mut note = Note {
+        at: from,
+        open: Vec::new(alloc),
+    };
+    'pieces: while note.step(bytes, tokens)? {}
+    Ok(note.at)
+}
+
+// Reads `, note [ , note ] )` or `)`, behind a clause.
+pub(crate) fn notes_at(
+    alloc: Global,
+    bytes: &[u8],
+    tokens: &[Token],
+    from: usize,
+) -> Result<usize, Stop>
+    ensures { Goes (items.notes bytes.now tokens.now from) result }
+{
+    if !stands_at(bytes, tokens, from, Terminal::Comma) {
+        return expect(bytes, tokens, from, Terminal::Close, Why::NoEnd);
+    }
+    let end = note_at(alloc, bytes, tokens, from + 1)?;
+    more_notes_at(alloc, bytes, tokens, end)
+}
+
+// Reads `, note )` or `)`, behind a note.
+fn more_notes_at(alloc: Global, bytes: &[u8], tokens: &[Token], from: usize) -> Result<usize, Stop>
+    ensures { Goes (items.more_notes bytes.now tokens.now from) result }
+{
+    if !stands_at(bytes, tokens, from, Terminal::Comma) {
+        return expect(bytes, tokens, from, Terminal::Close, Why::NoToken);
+    }
+    let end = note_at(alloc, bytes, tokens, from + 1)?;
+    expect(bytes, tokens, end, Terminal::Close, Why::NoToken)
+}
