@@ -1,2 +1,5 @@
 pub mod Folders
 pub mod Fetches
+pub mod Later
+pub mod Items
+pub mod Includes

@@ -5,6 +5,7 @@ mod candidates;
 mod counts;
 mod fault;
 mod fetch;
+mod files;
 mod problem;
 mod selection;
 

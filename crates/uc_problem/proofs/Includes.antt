@@ -1,0 +1,128 @@
+-- Loading an include.
+use Rattle.std.proofs.Common.{◌≡◌, ℕ, ◌+◌, ◌<◌, ◌≤◌, List, [], ◌∷◌, Option, Some, None, Result, Ok, Err, refl, sym, subst}
+use Rattle.uc_term.specs.Table.{Table, Grows}
+use Rattle.uc_edge.specs.Files.{Files}
+use Rattle.uc_clause.specs.declared.token.Place.{Place}
+use Rattle.uc_clause.specs.declared.clause.Name.{Name}
+use Rattle.uc_clause.specs.declared.clause.Clause as read
+use Rattle.uc_clause.specs.declared.clause.Include.{Include}
+use Rattle.uc_clause.specs.declared.clause.Item.TheVariants as item
+use Rattle.uc_clause.specs.declared.clause.Sourced.{Sourced}
+use Rattle.uc_clause.specs.declared.fault.What.TheVariants.{Files as FileCount}
+use Rattle.uc_problem.specs.declared.counts.Counts.{Counts}
+use Rattle.uc_problem.specs.declared.fetch.Found.{Found}
+use Rattle.uc_problem.specs.declared.fault.LoadFault.{LoadFault}
+use Rattle.uc_problem.specs.declared.fault.LoadFault.TheVariants.{Absent, ReadFault, TooDeep, NoSuchName, ArityClash, Limit, Clause, NoMemory}
+use Rattle.uc_problem.specs.Candidates.{candidates}
+use Rattle.uc_problem.specs.Fetching.{cut, IsFirst}
+use Rattle.uc_problem.specs.Loading.{Loaded, LoadsFile, LoadsItems, clause, too_many_clauses, too_deep, too_many_files, absent, stops_inside, misses_name, includes, all_before, before, first_held, selected, listed_or, first_missing}
+use Rattle.uc_problem.specs.Holds.{ReadsAs}
+use Rattle.uc_problem.specs.Parts.{ForFiles, IsPart, ItemComesTo, IsTaken, IsSelection}
+use Rattle.uc_problem.proofs.Items.{all_files, for_both, refused_part}
+
+module _ (holds : Option Files) (folder : List ℕ) (root : Option (List ℕ)) (depth : ℕ) (name : List ℕ) (old : Counts) where
+  taken_before : (s : Sourced) (loaded : Loaded) → before s loaded ≡ all_before (s ∷ []) loaded
+  taken_before s (Ok r) = refl
+  taken_before s (Err e) = refl
+
+  pub taken : (c : read.Clause) (t : Table) (first now : ℕ) (new : Counts) (r : Result (List Sourced) LoadFault) → IsTaken name c old new r → IsPart holds first now t new (ItemComesTo folder root depth name old (item.Clause c)) r
+  taken c t first now new (Ok clauses) h =
+      all_files holds t (λ files T. ItemComesTo folder root depth name old (item.Clause c) files T (Ok (clauses, new)))
+      (λ files T rest loaded l. subst (λ (cs : List Sourced). LoadsItems (ReadsAs T) files folder root depth name old (item.Clause c ∷ rest) (all_before cs loaded)) (sym h.1)
+      (subst (λ (x : Loaded). LoadsItems (ReadsAs T) files folder root depth name old (item.Clause c ∷ rest) x) (taken_before (record { file = name; clause = c }) loaded)
+      (clause h.0 (subst (λ (n : Counts). LoadsItems (ReadsAs T) files folder root depth name n rest loaded) h.2 l))))
+  taken c t first now new (Err NoMemory) h = tt
+  taken c t first now new (Err (Limit file place what)) h =
+      all_files holds t (λ files T. ItemComesTo folder root depth name old (item.Clause c) files T (Err (Limit file place what)))
+      (λ files T rest. subst (λ (e : LoadFault). LoadsItems (ReadsAs T) files folder root depth name old (item.Clause c ∷ rest) (Err e)) (sym h.1) (too_many_clauses h.0))
+  taken c t first now new (Err (Absent file from)) h = absurd cc
+  taken c t first now new (Err (ReadFault file)) h = absurd cc
+  taken c t first now new (Err (TooDeep file place)) h = absurd cc
+  taken c t first now new (Err (NoSuchName file place n)) h = absurd cc
+  taken c t first now new (Err (ArityClash file place n a b)) h = absurd cc
+  taken c t first now new (Err (Clause file fault)) h = absurd cc
+
+  module _ (i : Include) where
+    abbrev pub Comes : Files → Table → Loaded → Type 0
+    Comes = ItemComesTo folder root depth name old (item.Include i)
+
+    pub deep : (t : Table) (first now : ℕ) (new : Counts) → 16 ≤ depth → IsPart holds first now t new Comes (Err (TooDeep name i.place))
+    deep t first now new h = all_files holds t (λ files T. Comes files T (Err (TooDeep name i.place))) (λ files T rest. too_deep h)
+
+    pub many : (t : Table) (first now : ℕ) (new : Counts) → depth < 16 → 256 ≤ old.files → IsPart holds first now t new Comes (Err (Limit name i.place FileCount))
+    many t first now new h k = all_files holds t (λ files T. Comes files T (Err (Limit name i.place FileCount))) (λ files T rest. too_many_files h k)
+
+    abbrev names : List (List ℕ)
+    names = candidates folder root i.file
+
+    none_held : (holds : Option Files) (t : Table) (first now : ℕ) → depth < 16 → old.files < 256 → IsFirst holds first now names (Ok None) → ForFiles holds t (λ files T. Comes files T (Err (Absent i.file (Some (name, i.place)))))
+    none_held None t first now h k f = tt
+    none_held (Some files) t first now h k f = λ T g rest. absent h k f
+
+    pub missing : (t : Table) (first before now : ℕ) (new : Counts) → depth < 16 → old.files < 256 → IsFirst holds before now names (Ok None) → IsPart holds first now t new Comes (Err (Absent i.file (Some (name, i.place))))
+    missing t first before now new h k f = none_held holds t before now h k f
+
+    -- the file that was found
+    pub record Held (found : Found) (files : Files) : Type 0 where
+      pub whole : List ℕ
+      pub held : first_held files names ≡ Some (found.name, whole)
+      pub bytes : found.bytes ≡ cut whole
+
+    pub held_of : (holds : Option Files) (t : Table) (before now : ℕ) (found : Found) → IsFirst holds before now names (Ok (Some found)) → ForFiles holds t (λ files T. Held found files)
+    held_of None t before now found f = tt
+    held_of (Some files) t before now found f = λ T g. record { whole = f.0; held = f.1; bytes = f.2 }
+
+    abbrev one_more : Counts
+    one_more = record { clauses = old.clauses; files = old.files + 1 }
+
+    -- what the found file comes to
+    abbrev pub Inside : Found → Files → Table → Loaded → Type 0
+    Inside found files T loaded = (whole : List ℕ) → found.bytes ≡ cut whole → LoadsFile (ReadsAs T) files folder root (depth + 1) found.name whole one_more loaded
+
+    pub inside_stops : (t u : Table) (first before now : ℕ) (new : Counts) (found : Found) (e : LoadFault) → depth < 16 → old.files < 256 → first ≤ before → Grows t u → ForFiles holds t (λ files T. Held found files) → IsPart holds before now u new (Inside found) (Err e) → IsPart holds first now u new Comes (Err e)
+    inside_stops t u first before now new found e h k le g f p =
+        refused_part holds first before now t u new (λ files T. Held found files) (Inside found) Comes e le g f
+        (λ files T m held inside rest. stops_inside h k held.held (inside held.whole held.bytes)) p
+
+    pub kept : (t u : Table) (first before now : ℕ) (new : Counts) (found : Found) (given chosen : List Sourced) → depth < 16 → old.files < 256 → Grows t u → ForFiles holds t (λ files T. Held found files) → IsPart holds before now u new (Inside found) (Ok given) → Ok chosen ≡ selected name i.names given → IsPart holds first now u new Comes (Ok chosen)
+    kept t u first before now new found given chosen h k g f p e =
+        for_both holds t u (λ files T. Held found files) (λ files T. Inside found files T (Ok (given, new))) (λ files T. Comes files T (Ok (chosen, new))) g
+        (λ files T m held inside rest loaded l. includes h k held.held (inside held.whole held.bytes) (sym e) l) f p
+
+    misses : (t u : Table) (new : Counts) (found : Found) (given : List Sourced) (why : LoadFault) → depth < 16 → old.files < 256 → Grows t u → ForFiles holds t (λ files T. Held found files) → ForFiles holds u (λ files T. Inside found files T (Ok (given, new))) → Err why ≡ selected name i.names given → ForFiles holds u (λ files T. Comes files T (Err why))
+    misses t u new found given why h k g f p e =
+        for_both holds t u (λ files T. Held found files) (λ files T. Inside found files T (Ok (given, new))) (λ files T. Comes files T (Err why)) g
+        (λ files T m held inside rest. misses_name h k held.held (inside held.whole held.bytes) (sym e)) f p
+
+    -- the one refusal of a selection
+    abbrev IsName : LoadFault → Type 0
+    IsName (NoSuchName file place n) = Unit {0}
+    IsName _ = ⊥
+
+    listed_name : (names : List (Name × Place)) (given : List Sourced) (m : Option (Name × Place)) (e : LoadFault) → Err e ≡ listed_or name names given m → IsName e
+    listed_name names given None e q = absurd cc
+    listed_name names given (Some m) e q = let s : e ≡ NoSuchName name m.1 m.0 = cc in subst IsName (sym s) tt
+
+    only_name : (names : Option (List (Name × Place))) (given : List Sourced) (e : LoadFault) → Err e ≡ selected name names given → IsName e
+    only_name None given e q = absurd cc
+    only_name (Some names) given e q = listed_name names given (first_missing given names) e q
+
+    pub chosen : (t u : Table) (first before now : ℕ) (new : Counts) (found : Found) (given : List Sourced) (r : Result (List Sourced) LoadFault) → depth < 16 → old.files < 256 → Grows t u → ForFiles holds t (λ files T. Held found files) → IsPart holds before now u new (Inside found) (Ok given) → IsSelection name i given r → IsPart holds first now u new Comes r
+    chosen t u first before now new found given (Ok cs) h k g f p s = kept t u first before now new found given cs h k g f p s
+    chosen t u first before now new found given (Err NoMemory) h k g f p s = tt
+    chosen t u first before now new found given (Err (NoSuchName file place n)) h k g f p s = misses t u new found given (NoSuchName file place n) h k g f p s
+    chosen t u first before now new found given (Err (Absent file from)) h k g f p s = absurd (only_name i.names given (Absent file from) s)
+    chosen t u first before now new found given (Err (ReadFault file)) h k g f p s = absurd (only_name i.names given (ReadFault file) s)
+    chosen t u first before now new found given (Err (TooDeep file place)) h k g f p s = absurd (only_name i.names given (TooDeep file place) s)
+    chosen t u first before now new found given (Err (ArityClash file place n a b)) h k g f p s = absurd (only_name i.names given (ArityClash file place n a b) s)
+    chosen t u first before now new found given (Err (Limit file place what)) h k g f p s = absurd (only_name i.names given (Limit file place what) s)
+    chosen t u first before now new found given (Err (Clause file fault)) h k g f p s = absurd (only_name i.names given (Clause file fault) s)
+
+    -- the same, of what was answered for names that are these
+    pub missing_of : (t : Table) (first before now : ℕ) (new : Counts) (ns : List (List ℕ)) (answer : Option Found) → ns ≡ names → answer ≡ None → depth < 16 → old.files < 256 → IsFirst holds before now ns (Ok answer) → (file includer : List ℕ) → file ≡ i.file → includer ≡ name → IsPart holds first now t new Comes (Err (Absent file (Some (includer, i.place))))
+    missing_of t first before now new ns answer e a h k f file includer p q =
+        rw (p, q) (missing t first before now new h k (subst (λ (r : Option Found). IsFirst holds before now names (Ok r)) a (subst (λ (l : List (List ℕ)). IsFirst holds before now l (Ok answer)) e f)))
+
+    pub held_of_names : (t : Table) (before now : ℕ) (ns : List (List ℕ)) (answer : Option Found) (found : Found) → ns ≡ names → answer ≡ Some found → IsFirst holds before now ns (Ok answer) → ForFiles holds t (λ files T. Held found files)
+    held_of_names t before now ns answer found e a f =
+        held_of holds t before now found (subst (λ (r : Option Found). IsFirst holds before now names (Ok r)) a (subst (λ (l : List (List ℕ)). IsFirst holds before now l (Ok answer)) e f))
