@@ -3,7 +3,8 @@ use Rattle.std.specs.Prelude.{ℕ, zero, suc, ◌≡◌, ◌+◌, Bool, true, fa
 use Rattle.uc_term.specs.Tree.{Tree, nodes}
 use Rattle.uc_term.specs.Flat.{flat}
 use Rattle.uc_term.specs.declared.node.Node.TheVariants.{App}
-use Rattle.uc_term.specs.Table.{Table, name_of}
+use Rattle.uc_term.specs.Table.{Table, Grows, name_of}
+use Rattle.uc_term.specs.Gathering.{AreOf}
 use Rattle.uc_term.specs.Signatures.{IsSignatureOf, Gathers, occurrences_of}
 use Rattle.uc_term.specs.declared.node.Sym.{Sym}
 use Rattle.uc_term.specs.declared.node.Pos.{Pos}
@@ -43,15 +44,19 @@ numbers_of positive n [] = []
 numbers_of true n (s ∷ ss) = if s.clause.positive then n ∷ numbers_of true (n + 1) ss else numbers_of true (n + 1) ss
 numbers_of false n (s ∷ ss) = if s.clause.positive then numbers_of false (n + 1) ss else n ∷ numbers_of false (n + 1) ss
 
--- the library holds this problem under this name: its clauses in flat order, which are its axioms and which its goals, and its
--- signature
+-- a problem's own parts agree: which of its clauses are its axioms and which its goals, and its signature
+pub record Agrees (table : Table) (problem : Problem) : Type 0 where
+  pub axioms : problem.axioms ≡ numbers_of true 0 problem.clauses
+  pub goals : problem.goals ≡ numbers_of false 0 problem.clauses
+  pub over : AreOf table (terms_of problem.clauses)
+  pub signature : IsSignatureOf table (terms_of problem.clauses) problem.signature
+  pub conjecture : problem.conjecture ≡ None
+
+-- the library holds this problem under this name: its clauses in flat order, and what follows from them
 pub record Holds (table : Table) (files : Files) (root : Option (List ℕ)) (name : List ℕ) (problem : Problem) : Type 0 where
   pub counts : Counts
   pub flat : Flattens table files root name (Ok (problem.clauses, counts))
-  pub axioms : problem.axioms ≡ numbers_of true 0 problem.clauses
-  pub goals : problem.goals ≡ numbers_of false 0 problem.clauses
-  pub signature : IsSignatureOf table (terms_of problem.clauses) problem.signature
-  pub conjecture : problem.conjecture ≡ None
+  pub agrees : Agrees table problem
 
 -- the file and the place of a node of one of the terms, by the term's number and the node's
 abbrev pub located : List Sourced → ℕ → ℕ → Option (List ℕ × Place)
@@ -66,14 +71,15 @@ pub data Refuses (table : Table) (files : Files) (root : Option (List ℕ)) (nam
   has_clash : {clauses : List Sourced} {counts : Counts} {term first second n : ℕ} {pos : Pos} {t : Tree} {f : Sym} {file : List ℕ} {place : Place} → Flattens table files root name (Ok (clauses, counts)) → Gathers table [] (occurrences_of (terms_of clauses)) (Err (of_terms.ArityClash term pos first second)) → slice_get (terms_of clauses) term ≡ Some t → slice_get (flat t) pos.0 ≡ Some (App f n) → located clauses term pos.0 ≡ Some (file, place) → Refuses table files root name (fault.ArityClash file place (name_of table f) first second)
   has_too_many : {clauses : List Sourced} {counts : Counts} {term : ℕ} {pos : Pos} {file : List ℕ} {place : Place} → Flattens table files root name (Ok (clauses, counts)) → Gathers table [] (occurrences_of (terms_of clauses)) (Err (of_terms.TooMany term pos)) → located clauses term pos.0 ≡ Some (file, place) → Refuses table files root name (fault.Limit file place Symbols)
 
--- What a library may answer that tells its files or doesn't: the problem that it holds.
+-- What a library may answer that tells its files or doesn't: the problem that it holds, in this table and in each that it
+-- grows into.
 abbrev pub IsProblem : Table → Option Files → Option (List ℕ) → List ℕ → Problem → Type 0
 IsProblem table None root name problem = Unit {0}
-IsProblem table (Some files) root name problem = Holds table files root name problem
+IsProblem table (Some files) root name problem = (T : Table) → Grows table T → Holds T files root name problem
 
 -- And why there is none: a fault of the library only where its count rose; want of memory is free.
 abbrev pub IsLoadFault : Table → Option Files → ℕ → ℕ → Option (List ℕ) → List ℕ → LoadFault → Type 0
 IsLoadFault table holds before now root name (fault.ReadFault file) = Rose before now
 IsLoadFault table holds before now root name fault.NoMemory = Unit {0}
 IsLoadFault table None before now root name why = Unit {0}
-IsLoadFault table (Some files) before now root name why = Refuses table files root name why
+IsLoadFault table (Some files) before now root name why = (T : Table) → Grows table T → Refuses T files root name why

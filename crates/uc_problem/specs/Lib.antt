@@ -3,3 +3,4 @@ pub mod Loading
 pub mod Holds
 pub mod Fetching
 pub mod Parts
+pub mod Marks

@@ -97,5 +97,5 @@ module _ (Reads : List ℕ → Result (List Item) ClauseFault → Type 0) (files
 
   -- the problem file of this name: its flat list of clauses, or the refusal
   pub data LoadsProblem (name : List ℕ) : Loaded → Type 0 where
-    no_problem : content files name ≡ None → LoadsProblem name (Err (fault.Absent name None))
-    loads : {bytes : List ℕ} {loaded : Loaded} → content files name ≡ Some bytes → LoadsFile 0 name bytes (record { clauses = 0; files = 0 }) loaded → LoadsProblem name loaded
+    no_problem : held files name ≡ None → LoadsProblem name (Err (fault.Absent name None))
+    loads : {bytes : List ℕ} {loaded : Loaded} → held files name ≡ Some bytes → LoadsFile 0 name bytes (record { clauses = 0; files = 0 }) loaded → LoadsProblem name loaded

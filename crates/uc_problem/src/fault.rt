@@ -77,3 +77,24 @@ impl<T: Drop> From<AllocFailed<T>> for LoadFault {
         LoadFault::NoMemory
     }
 }
+
+/// Why a problem isn't encoded.
+#[derive(Clone, Copy, PartialEq, Eq, Debug, Drop, Error)]
+pub enum EncodeFault {
+    /// The goal clause of this number has a variable, and its two sides have more than 4,095 nodes together.
+    #[error("the goal is too large")]
+    GoalTooLarge(u32),
+    /// Memory is wanted.
+    #[error("out of memory")]
+    NoMemory,
+}
+
+impl From<AllocError> for EncodeFault {
+    ghost use Rattle.uc_problem.specs.declared.fault.EncodeFault.TheVariants as encode;
+
+    ghost from_gives = { λ _ e. e ≡ encode.NoMemory };
+
+    fn from(_: AllocError) -> Self {
+        EncodeFault::NoMemory
+    }
+}

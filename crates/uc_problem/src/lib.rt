@@ -6,12 +6,16 @@ mod counts;
 mod fault;
 mod fetch;
 mod files;
+mod loading;
+mod marking;
 mod problem;
 mod selection;
 
 pub use counts::Counts;
-pub use fault::LoadFault;
+pub use fault::{EncodeFault, LoadFault};
 pub use fetch::MAX_FILE;
+pub use loading::load;
+pub use marking::marks;
 pub use problem::{Encoded, Problem, Source};
 pub use uc_clause::Sourced;
 pub use uc_term::{Equation, Fresh, Signature};

@@ -1,11 +1,24 @@
 -- What the readers of a proof's parts answer.
-use Rattle.std.specs.Prelude.{ℕ, ◌≡◌, ◌≢◌, ◌<◌, Bool, true, false, List, length}
+use Rattle.std.specs.Prelude.{ℕ, ◌≡◌, ◌≢◌, ◌<◌, Bool, true, false, List, [], ◌∷◌, length, if◌then◌else◌}
+use Rattle.uc_term.specs.Table.{Table}
 use Rattle.uc_clause.specs.declared.token.Token.{Token}
 use Rattle.uc_clause.specs.declared.terminal.Terminal.TheVariants.{Comma, CloseSquare}
 use Rattle.uc_clause.specs.declared.grammar.stop.Why.TheVariants.{NoToken}
 use Rattle.uc_clause.specs.declared.grammar.stop.Stop.{Stop}
 use Rattle.uc_clause.specs.declared.grammar.stop.Stop.TheVariants.{At}
 use Rattle.uc_clause.specs.Terminals.{terminal_at}
+use Rattle.uc_clause.specs.Rules.{read}
+use Rattle.uc_clause.specs.Meaning.{Variables, with_names, Means, IsName}
+use Rattle.uc_tstp.specs.declared.drafts.StepDraft.{StepDraft}
+use Rattle.uc_tstp.specs.declared.drafts.SourceDraft.{SourceDraft}
+use Rattle.uc_tstp.specs.declared.drafts.SourceDraft.TheVariants as source
+use Rattle.uc_tstp.specs.declared.drafts.BodyDraft.{BodyDraft}
+use Rattle.uc_tstp.specs.declared.drafts.BodyDraft.TheVariants as body
+use Rattle.uc_tstp.specs.declared.drafts.Sort.{Sort}
+use Rattle.uc_tstp.specs.declared.drafts.Sort.TheVariants as sort
+use Rattle.uc_tstp.specs.Parse as parse
+use Rattle.uc_tstp.specs.Lines as lines
+use Rattle.uc_tstp.specs.Meaning.{body_variables, source_variables}
 
 module _ (bytes : List ℕ) (tokens : List Token) (at : ℕ) where
   -- a comma stands here, or the closing square bracket
@@ -18,3 +31,52 @@ module _ (bytes : List ℕ) (tokens : List Token) (at : ℕ) where
     pub is : e ≡ At NoToken at
     pub no_end : terminal_at bytes tokens at ≢ CloseSquare
     pub no_comma : terminal_at bytes tokens at ≢ Comma
+
+-- What the drafts of a line say: what its parse says, but that lines are named by tokens.
+module _ (bytes : List ℕ) (tokens : List Token) (table : Table) (seen : Variables) where
+  pub record SaysStep (s : parse.Step) (draft : StepDraft) : Type 0 where
+    pub by : draft.by ≡ s.by
+    pub way : draft.left_to_right ≡ s.left_to_right
+    pub path : draft.path ≡ s.path
+    pub to : Means bytes tokens table seen s.to draft.to
+
+  pub data SaySteps : List parse.Step → List StepDraft → Type 0 where
+    say_nothing : SaySteps [] []
+    say_more : {s : parse.Step} {ss : List parse.Step} {draft : StepDraft} {drafts : List StepDraft} → SaysStep s draft → SaySteps ss drafts → SaySteps (s ∷ ss) (draft ∷ drafts)
+
+  abbrev pub SaysSource : parse.Source → SourceDraft → Type 0
+  SaysSource (parse.from_file k) (source.File name) = IsName bytes tokens k name
+  SaysSource (parse.by_chain p ss ks) (source.Chain start steps parents) = Means bytes tokens table seen p start × SaySteps ss steps × (parents ≡ ks)
+  SaysSource (parse.by_reflexive ks) (source.Reflexive parents) = parents ≡ ks
+  SaysSource (parse.by_goal ks) (source.EncodeGoal parents) = parents ≡ ks
+  SaysSource (parse.by_refute ks) (source.Refute parents) = parents ≡ ks
+  SaysSource _ _ = ⊥
+
+  abbrev pub SaysBody : parse.Body → BodyDraft → Type 0
+  SaysBody (parse.says l) (body.Sides positive left right) = (positive ≡ l.positive) × Means bytes tokens table seen l.sides.left left × Means bytes tokens table seen l.sides.right right
+  SaysBody parse.falsum body.Falsum = Unit {0}
+  SaysBody _ _ = ⊥
+
+-- what a body is to the sources that may stand behind it
+abbrev pub sort_of : parse.Body → Sort
+sort_of (parse.says l) = if l.positive then sort.Equation else sort.Denial
+sort_of parse.falsum = sort.Falsum
+
+abbrev pub sort_of_draft : BodyDraft → Sort
+sort_of_draft (body.Sides positive left right) = if positive then sort.Equation else sort.Denial
+sort_of_draft body.Falsum = sort.Falsum
+
+module _ (bytes : List ℕ) (tokens : List Token) where
+  -- from a token on a body is read, up to another token, with the names of its variables put behind those seen so far
+  pub record ReadsBodyAt (from end : ℕ) (seen more_seen : Variables) (table : Table) (draft : BodyDraft) : Type 0 where
+    pub body : parse.Body
+    pub reads : lines.body bytes tokens from (read body end)
+    pub seen_is : more_seen ≡ with_names seen (body_variables bytes tokens body)
+    pub says : SaysBody bytes tokens table more_seen body draft
+
+  -- from a token on a source is read, up to another token, behind a body of this sort that begins at its first token
+  pub record ReadsSourceAt (b : parse.Body) (first from end : ℕ) (seen more_seen : Variables) (table : Table) (draft : SourceDraft) : Type 0 where
+    pub source : parse.Source
+    pub reads : lines.source bytes tokens b first from (read source end)
+    pub seen_is : more_seen ≡ with_names seen (source_variables bytes tokens source)
+    pub says : SaysSource bytes tokens table more_seen source draft

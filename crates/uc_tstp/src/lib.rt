@@ -3,12 +3,17 @@
 //! `chain`, `encode` and `refute`.
 #![tactic(auto)]
 
+mod bodies;
+mod drafts;
 mod fault;
 mod framing;
 mod lists;
+mod reading;
+mod sources;
 #[cfg(test)]
 mod tests;
 mod words;
 
 pub use fault::ProofFault;
 pub use framing::{Frame, MAX_PROOF, frame_of};
+pub use reading::read_proof;

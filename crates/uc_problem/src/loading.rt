@@ -1,0 +1,39 @@
+//! Loading a problem.
+
+ghost use Rattle.std.specs.Prelude.{◌≡◌, ◌≤◌, IfOk, IfErr};
+ghost use Rattle.std.specs.Option.{option_copied};
+ghost use Rattle.uc_term.specs.Table.{Grows};
+ghost use Rattle.uc_problem.specs.Holds.{IsProblem, IsLoadFault, Agrees};
+
+use crate::{LoadFault, Problem};
+use std::alloc::Global;
+use uc_edge::Library;
+use uc_term::Symbols;
+
+/// Loads the problem that the library has under a name: the clauses of the file with those of the files that it includes in
+/// place, which of them are axioms and which goals, and their signature.
+///
+/// A file is fetched and read whole, and then its items are taken in order. An include's file is looked for in the folder of
+/// the problem file and then in the root, where one is given, and under a name that begins with a slash as it stands. A
+/// selection keeps the clauses of the listed names in the file's order.
+///
+/// The first refusal in this order is answered: `Absent`, `ReadFault` where the library failed and its count of faults rose,
+/// `Clause` for a file that isn't read, `Limit` at the 10,001st clause and at the 257th included file, `TooDeep` at an include
+/// in a file that is nested 16 deep, `NoSuchName` at the first listed name that the file doesn't give, and at last
+/// `ArityClash` at the first name with two arities and `Limit` at the 60,001st symbol, whichever is first.
+pub fn load<L: Library>(
+    alloc: Global,
+    library: &mut L,
+    root: Option<&[u8]>,
+    name: &[u8],
+    symbols: &mut Symbols,
+) -> Result<Problem, LoadFault>
+    ensures problem { IfOk result (IsProblem symbols.new (L.holds library.old) (option_copied root.entry) name.now) }
+    ensures agrees { IfOk result (Agrees symbols.new) }
+    ensures refused { IfErr result (IsLoadFault symbols.new (L.holds library.old) (L.faults library.old) (L.faults library.new) (option_copied root.entry) name.now) }
+    ensures grows { Grows symbols.old symbols.new }
+    ensures same { L.holds library.new ≡ L.holds library.old }
+    ensures later { L.faults library.old ≤ L.faults library.new }
+{
+    Err(LoadFault::NoMemory)
+}
