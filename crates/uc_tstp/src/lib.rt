@@ -8,6 +8,7 @@ mod drafts;
 mod fault;
 mod framing;
 mod lists;
+mod names;
 mod reading;
 mod sources;
 #[cfg(test)]

@@ -1,0 +1,8 @@
+use Rattle.std.proofs.Common.{◌∙◌, ap}
+use Rattle.std.specs.List.{list_any}
+use Rattle.std.specs.Prelude.{bytes_eq}
+use Rattle.uc_tstp.proofs.Named.{any_of_names}
+use Rattle.uc_tstp.proofs.names.Names.contains.Goals as goal
+
+pub returns : goal.returns
+returns c = rw (← c.self.view_is) (c.contains.ensures ∙ any_of_names c.args.name.now c.self.inside.names.keys)
