@@ -2,10 +2,8 @@
 use Rattle.std.proofs.Common.{◌≡◌, ◌≢◌, ℕ, ◌+◌, Bool, true, false, List, [], ◌∷◌, ◌++◌, append_assoc, length, ◌<◌, Option, Some, None, refl, sym, ap, subst}
 use Rattle.uc_clause.specs.declared.token.Token.{Token}
 use Rattle.uc_clause.specs.declared.terminal.Terminal.TheVariants.{OpenSquare, CloseSquare, Comma}
-use Rattle.uc_clause.specs.declared.grammar.stop.Why.{Why}
 use Rattle.uc_clause.specs.declared.grammar.stop.Why.TheVariants.{NoToken}
 use Rattle.uc_clause.specs.declared.grammar.stop.Stop.{Stop}
-use Rattle.uc_clause.specs.declared.grammar.stop.Stop.TheVariants.{At}
 use Rattle.uc_clause.specs.Terminals.{terminal_at}
 use Rattle.uc_clause.specs.Rules.{Outcome, read, stop, Rule, mapped, pick, goes_on, stops_first, is_first, is_second, Stops}
 use Rattle.uc_clause.proofs.Ends.{some_other}

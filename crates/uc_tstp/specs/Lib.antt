@@ -3,4 +3,5 @@ pub mod Parse
 pub mod Lines
 pub mod Meaning
 pub mod Drafts
+pub mod Parts
 pub mod Reading

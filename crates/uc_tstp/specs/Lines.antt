@@ -24,8 +24,8 @@ use Rattle.uc_clause.specs.declared.grammar.stop.Why.{Why}
 use Rattle.uc_clause.specs.declared.grammar.stop.Why.TheVariants.{NoToken, NoRule, Repeated}
 use Rattle.uc_clause.specs.Bytes.{is_digit}
 use Rattle.uc_clause.specs.Terminals.{terminal_at, bytes_at}
-use Rattle.uc_clause.specs.Rules.{Outcome, read, stop, Rule, mapped, Then, ◌>>=◌, gives, here, pick, the, Choice}
-use Rattle.uc_clause.specs.Parse.{Parse, Literal}
+use Rattle.uc_clause.specs.Rules.{Outcome, read, stop, Rule, mapped, ◌>>=◌, gives, here, pick, the, Choice}
+use Rattle.uc_clause.specs.Parse.{Literal}
 use Rattle.uc_clause.specs.Items as items
 use Rattle.uc_tstp.specs.declared.words.Inference.{Inference}
 use Rattle.uc_tstp.specs.declared.words.Inference.TheVariants.{Chain, Encode, Refute}

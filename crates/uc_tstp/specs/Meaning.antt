@@ -1,7 +1,7 @@
 -- What the parse of a proof says in a table of symbols.
 use Rattle.std.specs.Prelude.{ℕ, ◌≡◌, true, List, [], ◌∷◌, ◌++◌, map, slice_get, Some}
 use Rattle.std.specs.List.{flat_map}
-use Rattle.uc_term.specs.Tree.{Tree, var}
+use Rattle.uc_term.specs.Tree.{var}
 use Rattle.uc_term.specs.Table.{Table}
 use Rattle.uc_clause.specs.declared.token.Token.{Token}
 use Rattle.uc_clause.specs.Terminals.{bytes_at}

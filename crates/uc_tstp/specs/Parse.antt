@@ -1,5 +1,5 @@
 -- What the grammar makes of the tokens of a proof: lines whose leaves are the numbers of tokens.
-use Rattle.std.specs.Prelude.{ℕ, Bool, true, false, List, [], ◌∷◌, ◌++◌, map}
+use Rattle.std.specs.Prelude.{ℕ, Bool, List, [], ◌++◌, map}
 use Rattle.std.specs.List.{flat_map}
 use Rattle.uc_clause.specs.Parse.{Parse, Literal}
 

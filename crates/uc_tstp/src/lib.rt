@@ -11,6 +11,7 @@ mod lists;
 mod names;
 mod reading;
 mod sources;
+mod steps;
 #[cfg(test)]
 mod tests;
 mod words;

@@ -1,4 +1,4 @@
-use Rattle.std.proofs.Common.{◌+◌, ◌-◌, ◌≤◌, length}
+use Rattle.std.proofs.Common.{◌+◌, ◌-◌, length}
 use Rattle.uc_tstp.specs.Lines.{number}
 use Rattle.uc_tstp.proofs.Members.{Ahead}
 use Rattle.uc_tstp.proofs.lists.numbers.Given as goal

@@ -1,4 +1,4 @@
-use Rattle.std.proofs.Common.{sym, ◌∙◌, arith}
+use Rattle.std.proofs.Common.{sym, ◌∙◌}
 use Rattle.uc_tstp.proofs.Numbers.{path_number_too_big}
 use Rattle.uc_tstp.proofs.words.path_number.Goals as goal
 
