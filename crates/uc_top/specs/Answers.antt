@@ -1,0 +1,105 @@
+-- What the program answers: its status and its text, for the words of the command line and the files of a library.
+use Rattle.std.specs.Prelude.{ℕ, ◌≡◌, ◌+◌, List, [], ◌∷◌, take, codes, slice_get, unwrap_or, Option, Some, None, Ok, Err}
+use Rattle.uc_term.specs.declared.fresh.Fresh.{Fresh}
+use Rattle.uc_term.specs.Table.{Table}
+use Rattle.uc_edge.specs.Files.{Files}
+use Rattle.uc_edge.specs.Faults.{Rose}
+use Rattle.uc_edge.specs.declared.library.Fetched.{Fetched}
+use Rattle.uc_edge.specs.declared.library.Fetched.TheVariants.{Found, Absent, Failed}
+use Rattle.uc_clause.specs.declared.token.Place.{Place}
+use Rattle.uc_clause.specs.declared.clause.Clause as read
+use Rattle.uc_clause.specs.declared.clause.Sourced.{Sourced}
+use Rattle.uc_clause.specs.declared.fault.ClauseFault.TheVariants as clause
+use Rattle.uc_clause.specs.declared.fault.What.TheVariants.{Nodes}
+use Rattle.uc_problem.specs.declared.fault.LoadFault.{LoadFault}
+use Rattle.uc_problem.specs.declared.fault.LoadFault.TheVariants as load
+use Rattle.uc_problem.specs.declared.fault.EncodeFault.TheVariants.{GoalTooLarge}
+use Rattle.uc_problem.specs.declared.problem.Problem.{Problem}
+use Rattle.uc_problem.specs.Loading.{held}
+use Rattle.uc_problem.specs.Holds.{Holds, Refuses}
+use Rattle.uc_problem.specs.Marks.{Marks}
+use Rattle.uc_tstp.specs.declared.fault.ProofFault.{ProofFault}
+use Rattle.uc_tstp.specs.Framing.{max_proof}
+use Rattle.uc_tstp.specs.Reading.{ReadsProof}
+use Rattle.uc_check.specs.declared.checker.Checked.{Checked}
+use Rattle.uc_check.specs.declared.checker.Checked.TheVariants.{Accepted, Rejected}
+use Rattle.uc_check.specs.declared.proof.Proof.{Proof}
+use Rattle.uc_check.specs.Checks.{IsChecked}
+use Rattle.uc_words.specs.declared.command.Command.{Command}
+use Rattle.uc_words.specs.declared.command.Verb.{Verb}
+use Rattle.uc_words.specs.declared.command.Verb.TheVariants as verb
+use Rattle.uc_words.specs.Reads.{Reads}
+use Rattle.uc_top.specs.Lines.{located, about_file, spaced, what_word, load_line, proof_line, checked_line, usage_line}
+
+-- this holds of the library's files, where it tells them
+abbrev pub WhereTold : Option Files → (Files → Type 0) → Type 0
+WhereTold None P = Unit {0}
+WhereTold (Some files) P = P files
+
+-- the status of a refusal of loading: a fault of the library, want of memory, or what the files say
+abbrev pub load_status : LoadFault → ℕ
+load_status (load.ReadFault file) = 5
+load_status load.NoMemory = 7
+load_status (load.Clause file clause.NoMemory) = 7
+load_status other = 3
+
+-- what a fetch answers of the proof file of this name: its first bytes, as many as are asked for; that there is none; or a failure,
+-- which comes only where the count of faults rose
+abbrev pub IsProofFetched : Option Files → ℕ → ℕ → List ℕ → Fetched → Type 0
+IsProofFetched holds before now name (Found bytes) = WhereTold holds (λ files. (text : List ℕ) × (held files name ≡ Some text) × (bytes ≡ take (max_proof + 1) text))
+IsProofFetched holds before now name Absent = WhereTold holds (λ files. held files name ≡ None)
+IsProofFetched holds before now name Failed = Rose before now
+
+-- where the first node of a clause's left side stands; a clause without places stands where its item does
+abbrev pub first_node : read.Clause → Place
+first_node c = unwrap_or (slice_get c.places 0) c.place
+
+-- the line of a goal that is too large to be encoded
+abbrev pub large_line : Sourced → List ℕ
+large_line s = located s.file (first_node s.clause) (codes "Limit") (spaced (what_word Nodes))
+
+abbrev pub checked_status : Checked → ℕ
+checked_status Accepted = 0
+checked_status (Rejected line cause) = 1
+
+-- the commands that are built
+abbrev pub IsBuilt : Verb → Type 0
+IsBuilt verb.Check = Unit {0}
+IsBuilt other = ⊥
+
+-- Symbols are those of this table.
+module _ (table : Table) where
+  -- the answer to `check` for the clauses and the encoding's symbols of a problem and for the text of a proof file of this name
+  module _ (clauses : List Sourced) (marks : Option Fresh) (name text : List ℕ) where
+    pub data TextAnswers : ℕ → List ℕ → Type 0 where
+      is_not_read : {why : ProofFault} → ReadsProof table text (Err why) → TextAnswers 3 (proof_line name why)
+      is_checked : {proof : Proof} {answer : Checked} → ReadsProof table text (Ok proof) → IsChecked clauses marks proof.lines answer → TextAnswers (checked_status answer) (checked_line proof.lines answer)
+
+  -- The library's files are these, where it tells them, and its count of faults was and is this.
+  module _ (holds : Option Files) (before now : ℕ) where
+    -- the answer for the proof file of this name
+    module _ (clauses : List Sourced) (marks : Option Fresh) (name : List ℕ) where
+      pub data ProofAnswers : ℕ → List ℕ → Type 0 where
+        is_absent : WhereTold holds (λ files. held files name ≡ None) → ProofAnswers 3 (about_file name (codes "Absent"))
+        isnt_fetched : Rose before now → ProofAnswers 5 (about_file name (codes "ReadFault"))
+        is_found : {text : List ℕ} {status : ℕ} {answer : List ℕ} → WhereTold holds (λ files. held files name ≡ Some text) → TextAnswers clauses marks name text status answer → ProofAnswers status answer
+
+    -- the answer for a problem and the proof file of this name
+    module _ (problem : Problem) (proof : List ℕ) where
+      pub data ProblemAnswers : ℕ → List ℕ → Type 0 where
+        has_large_goal : {number : ℕ} {goal : Sourced} → Marks table problem (Err (GoalTooLarge number)) → slice_get problem.clauses number ≡ Some goal → ProblemAnswers 3 (large_line goal)
+        is_marked : {marks : Option Fresh} {status : ℕ} {answer : List ℕ} → Marks table problem (Ok marks) → ProofAnswers problem.clauses marks proof status answer → ProblemAnswers status answer
+
+    -- the answer to `check` for the problem file and the proof file of these names, with this root
+    module _ (root : Option (List ℕ)) (name proof : List ℕ) where
+      pub data CheckAnswers : ℕ → List ℕ → Type 0 where
+        fetch_fails : (file : List ℕ) → Rose before now → CheckAnswers 5 (about_file file (codes "ReadFault"))
+        is_refused : (why : LoadFault) → WhereTold holds (λ files. Refuses table files root name why) → load_status why ≡ 3 → CheckAnswers 3 (load_line why)
+        is_loaded : {problem : Problem} {status : ℕ} {answer : List ℕ} → WhereTold holds (λ files. Holds table files root name problem) → ProblemAnswers problem proof status answer → CheckAnswers status answer
+
+    -- the answer to the words of a command line; each command that is built has a case
+    module _ (words : List (List ℕ)) where
+      pub data Answers : ℕ → List ℕ → Type 0 where
+        has_no_reading : ((command : Command) → Reads words command → ⊥) → Answers 4 usage_line
+        isnt_built : {command : Command} → Reads words command → (IsBuilt command.verb → ⊥) → Answers 4 usage_line
+        checks : {command : Command} {name proof : List ℕ} {status : ℕ} {answer : List ℕ} → Reads words command → command.verb ≡ verb.Check → command.positionals ≡ name ∷ proof ∷ [] → CheckAnswers command.root name proof status answer → Answers status answer

@@ -1,0 +1,61 @@
+-- What a run of the program does.
+use Rattle.std.specs.Prelude.{ℕ, ◌≡◌, List, [], ◌∷◌, length, Option, Some, Ok}
+use Rattle.uc_term.specs.declared.fresh.Fresh.{Fresh}
+use Rattle.uc_term.specs.Table.{Table, IsDistinct}
+use Rattle.uc_term.specs.Conversion.{SomeFollows}
+use Rattle.uc_edge.specs.Files.{Files}
+use Rattle.uc_problem.specs.declared.problem.Problem.{Problem}
+use Rattle.uc_problem.specs.Loading.{held}
+use Rattle.uc_problem.specs.Holds.{Holds}
+use Rattle.uc_problem.specs.Marks.{Marks}
+use Rattle.uc_tstp.specs.Reading.{ReadsProof}
+use Rattle.uc_check.specs.declared.proof.Proof.{Proof}
+use Rattle.uc_check.specs.Checks.{AreRightBefore, EndsInRefutation}
+use Rattle.uc_check.specs.Clauses.{axioms_of, goals_of}
+use Rattle.uc_words.specs.declared.command.Command.{Command}
+use Rattle.uc_words.specs.declared.command.Verb.TheVariants.{Check}
+use Rattle.uc_words.specs.Reads.{Reads}
+use Rattle.uc_top.specs.Lines.{memory_line}
+use Rattle.uc_top.specs.Told.{IsTold}
+use Rattle.uc_top.specs.Answers.{Answers}
+
+-- An answer to these words, in some table whose symbols are all different; or want of memory, which is free. The library's files
+-- are these, where it tells them, and its count of faults was and is this.
+pub data MayAnswer (holds : Option Files) (before now : ℕ) (words : List (List ℕ)) : ℕ → List ℕ → Type 0 where
+  is_answer : {table : Table} {status : ℕ} {text : List ℕ} → IsDistinct table → Answers table holds before now words status text → MayAnswer holds before now words status text
+  wants_memory : MayAnswer holds before now words 7 memory_line
+
+-- The sink is told such an answer, whole or up to a write that failed. It had and has this, where it tells that, and its count of
+-- faults was and is this.
+pub record IsRun (holds : Option Files) (fetch_before fetch_now : ℕ) (words : List (List ℕ)) (old new : Option (List ℕ)) (write_before write_now : ℕ) (result : ℕ) : Type 0 where
+  pub status : ℕ
+  pub text : List ℕ
+  pub answer : MayAnswer holds fetch_before fetch_now words status text
+  pub told : IsTold old new write_before write_now text status result
+
+-- These files have a problem under this name, and under the other a proof of it: each line is right, and the last one refutes a
+-- goal. So one of the problem's goals follows from its axioms.
+pub record HasProof (table : Table) (files : Files) (root : Option (List ℕ)) (name proof_name : List ℕ) : Type 0 where
+  pub problem : Problem
+  pub holds : Holds table files root name problem
+  pub marks : Option Fresh
+  pub marked : Marks table problem (Ok marks)
+  pub text : List ℕ
+  pub has_text : held files proof_name ≡ Some text
+  pub proof : Proof
+  pub reads : ReadsProof table text (Ok proof)
+  pub are_right : AreRightBefore problem.clauses marks proof.lines (length proof.lines)
+  pub refutes : EndsInRefutation proof.lines
+  pub follows : SomeFollows (axioms_of problem.clauses) (goals_of problem.clauses)
+
+-- the words check a problem file and a proof file that these files have, with a proof in it
+pub record IsCertified (files : Files) (words : List (List ℕ)) : Type 0 where
+  pub command : Command
+  pub reads : Reads words command
+  pub is_check : command.verb ≡ Check
+  pub name : List ℕ
+  pub proof_name : List ℕ
+  pub names : command.positionals ≡ name ∷ proof_name ∷ []
+  pub table : Table
+  pub distinct : IsDistinct table
+  pub has_proof : HasProof table files command.root name proof_name
