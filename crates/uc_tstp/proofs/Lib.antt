@@ -5,3 +5,5 @@ pub mod Named
 pub mod BodyReading
 pub mod StepReading
 pub mod StepEnds
+pub mod LineParts
+pub mod LineLoop

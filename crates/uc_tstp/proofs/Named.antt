@@ -1,12 +1,9 @@
 -- The names of lines, as a set of vectors holds them.
-use Rattle.std.proofs.Common.{◌≡◌, ℕ, ◌+◌, List, [], ◌∷◌, Bool, true, false, Option, Some, None, refl, sym, ap, ◌∙◌}
-use Rattle.std.specs.Prelude.{map, length, slice_get, cond, nat_lt, not, ◌||◌, bytes_eq, Vec, position}
+use Rattle.std.proofs.Common.{◌≡◌, ℕ, ◌+◌, List, [], ◌∷◌, Some, refl, sym, ap, ◌∙◌}
+use Rattle.std.specs.Prelude.{cond, ◌||◌, bytes_eq, Vec, position}
 use Rattle.std.specs.List.{list_any, position_from}
-use Rattle.std.specs.Cmp.Lexicographic.{pointwise, bytes_decides}
 use Rattle.std.proofs.lemmas.Iterator.Adapters.{position_from-zero}
-use Rattle.std.proofs.lemmas.List.Quantifiers.{position-Some}
 use Rattle.std.specs.declared.alloc.Global.{Global}
-use Rattle.uc_clause.specs.Meaning.{Variables, with_name}
 use Rattle.uc_clause.proofs.Seen.{names_of}
 
 pub any_of_names : (b : List ℕ) (ks : List (Vec ℕ Global)) → list_any (λ k. bytes_eq b k.items) ks ≡ list_any (bytes_eq b) (names_of ks)

@@ -14,11 +14,12 @@ use Rattle.uc_tstp.specs.declared.drafts.SourceDraft.{SourceDraft}
 use Rattle.uc_tstp.specs.declared.drafts.SourceDraft.TheVariants as source
 use Rattle.uc_tstp.specs.declared.drafts.BodyDraft.{BodyDraft}
 use Rattle.uc_tstp.specs.declared.drafts.BodyDraft.TheVariants as body
+use Rattle.uc_tstp.specs.declared.drafts.LineDraft.{LineDraft}
 use Rattle.uc_tstp.specs.declared.drafts.Sort.{Sort}
 use Rattle.uc_tstp.specs.declared.drafts.Sort.TheVariants as sort
 use Rattle.uc_tstp.specs.Parse as parse
 use Rattle.uc_tstp.specs.Lines as lines
-use Rattle.uc_tstp.specs.Meaning.{body_variables, source_variables}
+use Rattle.uc_tstp.specs.Meaning.{names_of, variables_of, body_variables, source_variables}
 
 module _ (bytes : List ℕ) (tokens : List Token) (at : ℕ) where
   -- a comma stands here, or the closing square bracket
@@ -80,3 +81,28 @@ module _ (bytes : List ℕ) (tokens : List Token) where
     pub reads : lines.source bytes tokens b first from (read source end)
     pub seen_is : more_seen ≡ with_names seen (source_variables bytes tokens source)
     pub says : SaysSource bytes tokens table more_seen source draft
+
+module _ (bytes : List ℕ) (tokens : List Token) where
+  -- a line's draft says its parse, with the variables of body and source numbered together
+  pub record SaysLine (table : Table) (l : parse.Line) (draft : LineDraft) : Type 0 where
+    pub name : draft.name ≡ l.name
+    pub body : SaysBody bytes tokens table (variables_of bytes tokens l) l.body draft.body
+    pub source : SaysSource bytes tokens table (variables_of bytes tokens l) l.source draft.source
+
+  pub data SayLines (table : Table) : List parse.Line → List LineDraft → Type 0 where
+    say_no_line : SayLines table [] []
+    say_line : {l : parse.Line} {ls : List parse.Line} {draft : LineDraft} {drafts : List LineDraft} → SaysLine table l draft → SayLines table ls drafts → SayLines table (l ∷ ls) (draft ∷ drafts)
+
+  -- behind lines of these names a line is read from a token on, up to another token
+  pub record ReadsLineAt (earlier : List (List ℕ)) (from end : ℕ) (table : Table) (draft : LineDraft) : Type 0 where
+    pub line : parse.Line
+    pub reads : lines.line bytes tokens earlier from (read line end)
+    pub says : SaysLine table line draft
+
+  -- from the first token to the last all is lines, of these names
+  pub record AreLines (table : Table) (names : List (List ℕ)) (drafts : List LineDraft) : Type 0 where
+    pub parses : List parse.Line
+    pub end : ℕ
+    pub reads : lines.LinesAt bytes tokens [] 0 (read parses end)
+    pub names_are : names ≡ names_of bytes tokens parses
+    pub say : SayLines table parses drafts

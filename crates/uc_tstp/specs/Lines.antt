@@ -277,6 +277,18 @@ module _ (bytes : List ℕ) (tokens : List Token) where
   abbrev pub source : Body → ℕ → Rule Source
   source b first at outcome = SourceAt b first at outcome
 
+  -- what stands behind the role of the line of this name
+  abbrev pub rest_of_line : ℕ → Rule Line
+  rest_of_line name = do
+    first ← here
+    body ← body
+    _ ← token Comma
+    source ← source body first
+    _ ← token Close
+    _ ← token Dot
+    gives (record { name = name; body = body; source = source })
+
+  -- a line, behind lines of these names
   abbrev pub line : List (List ℕ) → Rule Line
   line earlier = do
     _ ← word (codes "cnf")
@@ -285,13 +297,7 @@ module _ (bytes : List ℕ) (tokens : List Token) where
     _ ← token Comma
     _ ← lower
     _ ← token Comma
-    first ← here
-    body ← body
-    _ ← token Comma
-    source ← source body first
-    _ ← token Close
-    _ ← token Dot
-    gives (record { name = name; body = body; source = source })
+    rest_of_line name
 
   -- lines up to the end of the tokens, behind lines of these names
   pub data LinesAt : List (List ℕ) → ℕ → Outcome (List Line) → Type 0 where

@@ -1,5 +1,8 @@
 //! Lines while their proof is read: other lines are named by the numbers of tokens until all names are known.
 
+ghost use Rattle.std.specs.Prelude.{◌≡◌};
+ghost use Rattle.uc_tstp.specs.Drafts.{sort_of_draft};
+
 use uc_clause::Name;
 use uc_term::{Seq, Term};
 
@@ -49,4 +52,34 @@ pub(crate) enum Sort {
     Equation,
     Denial,
     Falsum,
+}
+
+impl BodyDraft {
+    /// What the body is to the sources that may stand behind it.
+    pub(crate) fn sort(&self) -> Sort
+        ensures { result ≡ sort_of_draft self.now }
+    {
+        match self {
+            BodyDraft::Sides {
+                positive,
+                left: _,
+                right: _,
+            } => {
+                if *positive {
+                    Sort::Equation
+                } else {
+                    Sort::Denial
+                }
+            }
+            BodyDraft::Falsum => Sort::Falsum,
+        }
+    }
+}
+
+/// A line, by the token of its name.
+#[derive(Drop)]
+pub(crate) struct LineDraft {
+    pub name: usize,
+    pub body: BodyDraft,
+    pub source: SourceDraft,
 }

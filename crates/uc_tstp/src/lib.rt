@@ -7,6 +7,7 @@ mod bodies;
 mod drafts;
 mod fault;
 mod framing;
+mod lines;
 mod lists;
 mod names;
 mod reading;

@@ -38,6 +38,7 @@ impl Names {
     /// read; past it the answer is that of want of memory, which leaves the names as they were.
     pub(crate) fn insert(&mut self, alloc: Global, name: &[u8]) -> Result<(), AllocError>
         ensures ok { IfOk result (λ _. self.new ≡ with_name self.old name.now) }
+        ensures small { IfOk result (λ _. length self.new < 2 ^ 31) }
         ensures err { OnErr result (self.new ≡ self.old) }
     {
         if self.names.len() >= MOST {

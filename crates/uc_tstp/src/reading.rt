@@ -19,11 +19,7 @@ use uc_term::Symbols;
 /// name that no line has, line by line, in a chain its steps before its parents.
 ///
 /// Symbols are interned when their arguments are closed; after a refusal the table may have grown, and only grown.
-pub fn read_proof(
-    alloc: Global,
-    bytes: &[u8],
-    symbols: &mut Symbols,
-) -> Result<Proof, ProofFault>
+pub fn read_proof(alloc: Global, bytes: &[u8], symbols: &mut Symbols) -> Result<Proof, ProofFault>
     ensures reading { IsReading symbols.new bytes.now result }
     ensures few { IfOk result (λ proof. length proof.lines < 2 ^ 31) }
     ensures grows { Grows symbols.old symbols.new }

@@ -1,6 +1,4 @@
-use Rattle.std.proofs.Common.{◌∙◌, ap}
-use Rattle.std.specs.List.{list_any}
-use Rattle.std.specs.Prelude.{bytes_eq}
+use Rattle.std.proofs.Common.{◌∙◌}
 use Rattle.uc_tstp.proofs.Named.{any_of_names}
 use Rattle.uc_tstp.proofs.names.Names.contains.Goals as goal
 

@@ -1,0 +1,119 @@
+-- How lines are gathered.
+use Rattle.std.proofs.Common.{◌≡◌, ℕ, ◌+◌, Bool, true, false, List, [], ◌∷◌, ◌++◌, length, length-append, refl, sym, ap, ◌∙◌, subst, arith, append-nil}
+use Rattle.std.specs.Prelude.{◌≢◌, ◌||◌, bytes_eq}
+use Rattle.std.specs.List.{list_any}
+use Rattle.std.proofs.lemmas.List.{map-append}
+use Rattle.std.proofs.lemmas.List.Folds.{list_any-append}
+use Rattle.uc_term.specs.Table.{Table, Grows}
+use Rattle.uc_clause.specs.declared.token.Token.{Token}
+use Rattle.uc_clause.specs.declared.terminal.Terminal.TheVariants.{End}
+use Rattle.uc_clause.specs.declared.grammar.stop.Stop.{Stop}
+use Rattle.uc_clause.specs.Terminals.{terminal_at, bytes_at}
+use Rattle.uc_clause.specs.Rules.{Outcome, read, stop, mapped, goes_on, stops_first, Stops}
+use Rattle.uc_clause.specs.Meaning.{Variables, with_name}
+use Rattle.uc_clause.proofs.Sequences.{passes}
+use Rattle.uc_clause.proofs.Lists.{after, after_none, after_one}
+use Rattle.uc_clause.proofs.Means.{means_grows, extends_not}
+use Rattle.uc_tstp.specs.declared.drafts.StepDraft.{StepDraft}
+use Rattle.uc_tstp.specs.declared.drafts.SourceDraft.{SourceDraft}
+use Rattle.uc_tstp.specs.declared.drafts.SourceDraft.TheVariants as draft
+use Rattle.uc_tstp.specs.declared.drafts.LineDraft.{LineDraft}
+use Rattle.uc_tstp.specs.Parse.{Source, from_file, by_chain, by_reflexive, by_goal, by_refute, Step, Line}
+use Rattle.uc_tstp.specs.Lines.{LineName, is_new, is_repeated, is_no_line_name, line, LinesAt, is_no_line, has_line, stops_in_line}
+use Rattle.uc_tstp.specs.Meaning.{names_of, variables_of}
+use Rattle.uc_tstp.specs.Drafts.{SaySteps, say_nothing, say_more, SaysSource, SaysLine, SayLines, say_no_line, say_line, ReadsLineAt, AreLines}
+use Rattle.uc_tstp.proofs.LineParts.{body_grows}
+
+-- the same names, in whatever order
+abbrev pub HaveSame : List (List ℕ) → List (List ℕ) → Type 0
+HaveSame some others = (x : List ℕ) → list_any (bytes_eq x) some ≡ list_any (bytes_eq x) others
+
+or_turned : (a b : Bool) → (a || b) ≡ (b || (a || false))
+or_turned true true = refl
+or_turned true false = refl
+or_turned false true = refl
+or_turned false false = refl
+
+have_more : (some others : List (List ℕ)) (n : List ℕ) → HaveSame some others → HaveSame (n ∷ some) (others ++ n ∷ [])
+have_more some others n same x = ap (λ r. bytes_eq x n || r) (same x) ∙ or_turned (bytes_eq x n) (list_any (bytes_eq x) others) ∙ sym (list_any-append (bytes_eq x) others (n ∷ []))
+
+module _ (bytes : List ℕ) (tokens : List Token) where
+  module _ (some others : List (List ℕ)) (same : HaveSame some others) where
+    same_name : {at : ℕ} {o : Outcome ℕ} → LineName bytes tokens others at o → LineName bytes tokens some at o
+    same_name {at = at} (is_new t n) = is_new t (same (bytes_at bytes tokens at) ∙ n)
+    same_name {at = at} (is_repeated t n) = is_repeated t (same (bytes_at bytes tokens at) ∙ n)
+    same_name (is_no_line_name n) = is_no_line_name n
+
+    same_line : {at : ℕ} {o : Outcome Line} → line bytes tokens others at o → line bytes tokens some at o
+    same_line (stops_first w) = stops_first w
+    same_line (goes_on w (stops_first p)) = goes_on w (stops_first p)
+    same_line (goes_on w (goes_on p (stops_first n))) = goes_on w (goes_on p (stops_first (same_name n)))
+    same_line (goes_on w (goes_on p (goes_on n rest))) = goes_on w (goes_on p (goes_on (same_name n) rest))
+
+  module _ (old new : Table) (grows : Grows old new) where
+    steps_grow : {seen : Variables} {ss : List Step} {ds : List StepDraft} → SaySteps bytes tokens old seen ss ds → SaySteps bytes tokens new seen ss ds
+    steps_grow say_nothing = say_nothing
+    steps_grow {seen = seen} (say_more s all) = say_more (record { by = s.by; way = s.way; path = s.path; to = means_grows bytes tokens old new seen seen grows (extends_not seen) s.to }) (steps_grow all)
+
+    source_grows : (seen : Variables) (s : Source) (d : SourceDraft) → SaysSource bytes tokens old seen s d → SaysSource bytes tokens new seen s d
+    source_grows seen (from_file k) (draft.File name) h = h
+    source_grows seen (by_chain p ss ks) (draft.Chain start steps parents) h = (means_grows bytes tokens old new seen seen grows (extends_not seen) h.0, steps_grow h.1, h.2)
+    source_grows seen (by_reflexive ks) (draft.Reflexive parents) h = h
+    source_grows seen (by_goal ks) (draft.EncodeGoal parents) h = h
+    source_grows seen (by_refute ks) (draft.Refute parents) h = h
+    source_grows seen s d h = elim h [ ]
+
+    lines_grow : {ls : List Line} {ds : List LineDraft} → SayLines bytes tokens old ls ds → SayLines bytes tokens new ls ds
+    lines_grow say_no_line = say_no_line
+    lines_grow (say_line {l = l} {draft = d} s all) = say_line (record { name = s.name; body = body_grows bytes tokens old new (variables_of bytes tokens l) (variables_of bytes tokens l) grows (extends_not (variables_of bytes tokens l)) l.body d.body s.body; source = source_grows (variables_of bytes tokens l) l.source d.source s.source }) (lines_grow all)
+
+  lines_snoc : {table : Table} {ls : List Line} {ds : List LineDraft} (l : Line) (d : LineDraft) → SayLines bytes tokens table ls ds → SaysLine bytes tokens table l d → SayLines bytes tokens table (ls ++ l ∷ []) (ds ++ d ∷ [])
+  lines_snoc l d say_no_line s = say_line s say_no_line
+  lines_snoc l d (say_line r all) s = say_line r (lines_snoc l d all s)
+
+  -- some lines are read, and with what the rest comes to all comes to
+  pub record Gathered (table : Table) (names : List (List ℕ)) (drafts : List LineDraft) (at : ℕ) : Type 0 where
+    pub parses : List Line
+    pub earlier : List (List ℕ)
+    pub same : HaveSame earlier names
+    pub names_are : names ≡ names_of bytes tokens parses
+    pub say : SayLines bytes tokens table parses drafts
+    pub comes_to : (o : Outcome (List Line)) → LinesAt bytes tokens earlier at o → LinesAt bytes tokens [] 0 (after parses o)
+
+  pub gathered_none : (table : Table) → Gathered table [] [] 0
+  gathered_none table = record { parses = []; earlier = []; same = λ x. refl; names_are = refl; say = say_no_line; comes_to = λ o rest. rw (after_none o) rest }
+
+  module _ (table : Table) (names : List (List ℕ)) (drafts : List LineDraft) (at : ℕ) (g : Gathered table names drafts at) where
+    pub gathered_all : terminal_at bytes tokens at ≡ End → AreLines bytes tokens table names drafts
+    gathered_all e = record {
+      parses = g.parses;
+      end = at;
+      reads = subst (λ ls. LinesAt bytes tokens [] 0 (read ls at)) (append-nil g.parses) (g.comes_to (read [] at) (is_no_line e));
+      names_are = g.names_are;
+      say = g.say;
+    }
+
+    module _ (more : terminal_at bytes tokens at ≢ End) where
+      pub line_stops : (e : Stop) → Stops (line bytes tokens names at) e → Stops (LinesAt bytes tokens [] 0) e
+      line_stops e h = passes (line bytes tokens names at) (LinesAt bytes tokens [] 0) e (λ why k s. g.comes_to (stop why k) (stops_in_line more (same_line g.earlier names g.same s))) h
+
+      pub gathered_more : (new : Table) (d : LineDraft) (end : ℕ) (more_names : List (List ℕ)) → Grows table new → ReadsLineAt bytes tokens names at end new d → more_names ≡ names ++ bytes_at bytes tokens d.name ∷ [] → Gathered new more_names (drafts ++ d ∷ []) end
+      gathered_more new d end more_names grows r e = record {
+        parses = g.parses ++ r.line ∷ [];
+        earlier = bytes_at bytes tokens r.line.name ∷ g.earlier;
+        same = rw (e, r.says.name) (have_more g.earlier names (bytes_at bytes tokens r.line.name) g.same);
+        names_are = e ∙ ap (λ k. names ++ bytes_at bytes tokens k ∷ []) r.says.name ∙ ap (λ ns. ns ++ bytes_at bytes tokens r.line.name ∷ []) g.names_are ∙ sym (map-append (λ (l : Line). bytes_at bytes tokens l.name) g.parses (r.line ∷ []));
+        say = lines_snoc r.line d (lines_grow table new grows g.say) r.says;
+        comes_to = λ o rest. rw (after_one g.parses r.line o) (g.comes_to (mapped (λ ls. r.line ∷ ls) o) (has_line more (same_line g.earlier names g.same r.reads) rest));
+      }
+
+-- a new name makes one name more
+pub new_name : (names : List (List ℕ)) (x : List ℕ) → list_any (bytes_eq x) names ≡ false → with_name names x ≡ names ++ x ∷ []
+new_name names x e = rw e refl
+
+pub one_name_more : (names more_names : List (List ℕ)) (x : List ℕ) → more_names ≡ names ++ x ∷ [] → length more_names ≡ length names + 1
+one_name_more names more_names x e = rw e (length-append names (x ∷ []))
+
+pub as_many : {bytes : List ℕ} {tokens : List Token} {table : Table} {ls : List Line} {ds : List LineDraft} → SayLines bytes tokens table ls ds → length ds ≡ length (names_of bytes tokens ls)
+as_many say_no_line = refl
+as_many (say_line s all) = omega (arith, as_many all)
