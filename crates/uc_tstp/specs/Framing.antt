@@ -1,5 +1,5 @@
 -- The part of a text in which a proof stands: between a start line and the first end line behind it.
-use Rattle.std.specs.Prelude.{ℕ, ◌≡◌, ◌<◌, ◌≤◌, ◌+◌, ◌&&◌, Bool, true, false, List, length, take, drop, codes, nat_lt, nat_eq, bytes_eq, slice_range, Option, Some, None, Result, Ok, Err, if◌then◌else◌}
+use Rattle.std.specs.Prelude.{ℕ, ◌≡◌, ◌<◌, ◌≤◌, ◌+◌, ◌&&◌, Bool, true, false, List, length, drop, codes, nat_lt, nat_eq, bytes_eq, slice_range, Option, Some, None, Result, Ok, Err, if◌then◌else◌}
 use Rattle.std.specs.List.{starts_with, prefix_len}
 use Rattle.uc_clause.specs.declared.token.Place.{Place}
 use Rattle.uc_clause.specs.declared.fault.What.TheVariants.{Bytes}
@@ -60,10 +60,14 @@ first_place = record { line = 1; column = 1 }
 abbrev pub max_proof : ℕ
 max_proof = 268435456
 
--- the frame of a text, or why it has none
+-- the frame of a text, however long, or why it has none
 pub data Framed (text : List ℕ) : Result Frame ProofFault → Type 0 where
-  too_long : max_proof < length text → Framed text (Err (Limit Bytes first_place))
-  no_start : length text ≤ max_proof → FirstLine (is_border Start) text 0 None → Framed text (Err (Syntax (place_of text (length text))))
-  no_end : {start : Span} → length text ≤ max_proof → FirstLine (is_border Start) text 0 (Some start) → FirstLine (is_border End) text (start.feed + 1) None → Framed text (Err Truncated)
-  other_name : {start end : Span} → length text ≤ max_proof → FirstLine (is_border Start) text 0 (Some start) → FirstLine (is_border End) text (start.feed + 1) (Some end) → is_same_name text start end ≡ false → Framed text (Err (Syntax (place_of text end.first)))
-  framed : {start end : Span} → length text ≤ max_proof → FirstLine (is_border Start) text 0 (Some start) → FirstLine (is_border End) text (start.feed + 1) (Some end) → is_same_name text start end ≡ true → Framed text (Ok (record { from = start.feed + 1; to = end.first }))
+  no_start : FirstLine (is_border Start) text 0 None → Framed text (Err (Syntax (place_of text (length text))))
+  no_end : {start : Span} → FirstLine (is_border Start) text 0 (Some start) → FirstLine (is_border End) text (start.feed + 1) None → Framed text (Err Truncated)
+  other_name : {start end : Span} → FirstLine (is_border Start) text 0 (Some start) → FirstLine (is_border End) text (start.feed + 1) (Some end) → is_same_name text start end ≡ false → Framed text (Err (Syntax (place_of text end.first)))
+  framed : {start end : Span} → FirstLine (is_border Start) text 0 (Some start) → FirstLine (is_border End) text (start.feed + 1) (Some end) → is_same_name text start end ≡ true → Framed text (Ok (record { from = start.feed + 1; to = end.first }))
+
+-- the same of a text that isn't too long; a longer one is refused at its first byte
+abbrev pub IsFrame : List ℕ → Result Frame ProofFault → Type 0
+IsFrame text (Err (Limit what place)) = (max_proof < length text) × (what ≡ Bytes) × (place ≡ first_place)
+IsFrame text answer = (length text ≤ max_proof) × Framed text answer

@@ -1,5 +1,5 @@
--- What a text reads as: a proof, or why not.
-use Rattle.std.specs.Prelude.{ℕ, ◌≡◌, ◌+◌, List, [], ◌∷◌, length, bytes_eq, slice_range, slice_get, Option, Some, None, Result, Ok, Err, if◌then◌else◌}
+-- What a text reads as: a proof, or why not. The reading itself has no limit on the text's length.
+use Rattle.std.specs.Prelude.{ℕ, ◌≡◌, ◌<◌, ◌≤◌, ◌+◌, List, [], ◌∷◌, length, bytes_eq, slice_range, slice_get, Option, Some, None, Result, Ok, Err, if◌then◌else◌}
 use Rattle.std.specs.List.{list_any}
 use Rattle.uc_term.specs.Table.{Table}
 use Rattle.uc_clause.specs.declared.token.Token.{Token}
@@ -14,7 +14,7 @@ use Rattle.uc_check.specs.declared.proof.Proof.{Proof}
 use Rattle.uc_tstp.specs.declared.fault.ProofFault.{ProofFault}
 use Rattle.uc_tstp.specs.declared.fault.ProofFault.TheVariants.{Syntax, UnknownRule, UnknownName, RepeatedName, Limit, NoMemory}
 use Rattle.uc_tstp.specs.declared.framing.Frame.{Frame}
-use Rattle.uc_tstp.specs.Framing.{Framed}
+use Rattle.uc_tstp.specs.Framing.{Framed, max_proof, first_place}
 use Rattle.uc_tstp.specs.Parse as parse
 use Rattle.uc_tstp.specs.Lines.{LinesAt}
 use Rattle.uc_tstp.specs.Meaning.{names_of, MeanLines}
@@ -52,8 +52,8 @@ module _ (table : Table) (text : List ℕ) where
     no_name : {frame : Frame} {tokens : List Token} {lines : List parse.Line} {end k : ℕ} → Framed text (Ok frame) → Cut (inside text frame) 0 (Ok tokens) → LinesAt (inside text frame) tokens [] 0 (read lines end) → first_unknown (inside text frame) tokens (names_of (inside text frame) tokens lines) (parse.all_mentions lines) ≡ Some k → ReadsProof (Err (UnknownName (place_in text frame tokens k)))
     reads : {frame : Frame} {tokens : List Token} {lines : List parse.Line} {end : ℕ} {proof : Proof} → Framed text (Ok frame) → Cut (inside text frame) 0 (Ok tokens) → LinesAt (inside text frame) tokens [] 0 (read lines end) → first_unknown (inside text frame) tokens (names_of (inside text frame) tokens lines) (parse.all_mentions lines) ≡ None → MeanLines (inside text frame) tokens table (names_of (inside text frame) tokens lines) lines proof.lines → ReadsProof (Ok proof)
 
--- want of memory is the one free answer
+-- the same of a text that isn't too long; a longer one is refused at its first byte, and want of memory is the one free answer
 abbrev pub IsReading : Table → List ℕ → Result Proof ProofFault → Type 0
-IsReading table text (Ok proof) = ReadsProof table text (Ok proof)
 IsReading table text (Err NoMemory) = Unit {0}
-IsReading table text (Err why) = ReadsProof table text (Err why)
+IsReading table text (Err (Limit what.Bytes place)) = (max_proof < length text) × (place ≡ first_place)
+IsReading table text answer = (length text ≤ max_proof) × ReadsProof table text answer

@@ -3,7 +3,7 @@
 ghost use Rattle.std.specs.Prelude.{◌≡◌, ◌<◌, ◌≤◌, ◌+◌, ◌-◌, ◌^◌, length, take, drop, IfSome, IfOk, Some, true, false, MatchBool};
 ghost use Rattle.std.specs.List.{prefix_len};
 ghost use Rattle.uc_clause.specs.Bytes.{in_line};
-ghost use Rattle.uc_tstp.specs.Framing.{line_length, is_border, FirstLine, Framed, is_same_name};
+ghost use Rattle.uc_tstp.specs.Framing.{line_length, is_border, FirstLine, IsFrame, is_same_name};
 
 use crate::ProofFault;
 use uc_clause::{Place, What, place_behind};
@@ -104,13 +104,13 @@ fn is_same_name(text: &[u8], start: Span, end: Span) -> bool
     behind(end, END.len()) == behind(start, START.len())
 }
 
-/// Where the lines of a proof stand in a text of fewer than 2^31 bytes.
+/// Where the lines of a proof stand in a text.
 ///
 /// The refusals, in this order: `Limit` at 1:1 past 268,435,456 bytes; `Syntax` at the end of a text without a start line;
 /// `Truncated` where no end line stands behind the start line; `Syntax` at an end line with another name. It takes no
 /// memory, and looks at each byte once, and at those before a refusal twice.
 pub fn frame_of(text: &[u8]) -> Result<Frame, ProofFault>
-    ensures framed { Framed text.now result }
+    ensures framed { IsFrame text.now result }
     ensures within { IfOk result (λ f. (f.from ≤ f.to) × (f.to ≤ length text.now) × (length text.now ≤ MAX_PROOF)) }
 {
     if text.len() > MAX_PROOF {
