@@ -3,3 +3,8 @@ pub mod Fetches
 pub mod Later
 pub mod Items
 pub mod Includes
+pub mod Sound
+pub mod Growth
+pub mod Occurring
+pub mod Problems
+pub mod Sides

@@ -3,4 +3,6 @@ pub mod Loading
 pub mod Holds
 pub mod Fetching
 pub mod Parts
+pub mod Sound
+pub mod Assembly
 pub mod Marks

@@ -1,5 +1,5 @@
 -- When a problem is encoded, and by which symbols.
-use Rattle.std.specs.Prelude.{ℕ, ◌≡◌, ◌+◌, ◌&&◌, ◌||◌, Bool, true, false, List, codes, nat_lt, position, Option, Some, None, Result, Ok, Err, if◌then◌else◌}
+use Rattle.std.specs.Prelude.{◌≡◌, ◌+◌, ◌&&◌, ◌||◌, Bool, true, false, codes, nat_lt, position, Option, Some, None, Result, Ok, Err, if◌then◌else◌}
 use Rattle.std.specs.List.{list_any}
 use Rattle.uc_term.specs.Tree.{nodes}
 use Rattle.uc_term.specs.Table.{Table, Grows}

@@ -40,7 +40,7 @@ pub(crate) fn fetch_first<L: Library>(
 }
 
 // A file of this name, if the library has it.
-fn fetch_text<L: Library>(
+pub(crate) fn fetch_text<L: Library>(
     alloc: Global,
     library: &mut L,
     name: &Text,

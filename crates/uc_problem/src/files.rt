@@ -1,12 +1,13 @@
 //! Loading files with the files that they include.
 
-ghost use Rattle.std.specs.Prelude.{◌≡◌, ◌≤◌, List, ℕ};
+ghost use Rattle.std.specs.Prelude.{◌≡◌, ◌≤◌, List, ℕ, IfOk};
 ghost use Rattle.std.specs.Option.{option_copied};
 ghost use Rattle.uc_term.specs.Table.{Grows};
 ghost use Rattle.uc_problem.specs.Fetching.{cut};
 ghost use Rattle.uc_problem.specs.Holds.{ReadsAs};
 ghost use Rattle.uc_problem.specs.Loading.{LoadsFile};
 ghost use Rattle.uc_problem.specs.Parts.{IsPart, ItemComesTo, IsNotRead, IsTaken, IsSelection};
+ghost use Rattle.uc_problem.specs.Sound.{IsSoundItem, IsSoundPart};
 
 use crate::candidates::candidates;
 use crate::fetch::fetch_first;
@@ -43,6 +44,7 @@ pub(crate) fn load_file<L: Library>(
     depth: u32,
 ) -> Result<Seq<Sourced>, LoadFault>
     ensures part { IsPart (L.holds library.old) (L.faults library.old) (L.faults library.new) symbols.new counts.new (λ files T loaded. (whole : List ℕ) → bytes.now ≡ cut whole → LoadsFile (ReadsAs T) files search.entry.folder.now (option_copied search.entry.root) depth name.now whole counts.old loaded) result }
+    ensures sound { IfOk result (IsSoundPart symbols.new counts.old counts.new) }
     ensures grows { Grows symbols.old symbols.new }
     ensures same { L.holds library.new ≡ L.holds library.old }
     ensures later { L.faults library.old ≤ L.faults library.new }
@@ -85,6 +87,7 @@ fn load_item<L: Library>(
     item: Item,
 ) -> Result<Seq<Sourced>, LoadFault>
     ensures part { IsPart (L.holds library.old) (L.faults library.old) (L.faults library.new) symbols.new counts.new (ItemComesTo search.entry.folder.now (option_copied search.entry.root) depth name.now counts.old item) result }
+    ensures sound { IsSoundItem symbols.old item → IfOk result (IsSoundPart symbols.new counts.old counts.new) }
     ensures grows { Grows symbols.old symbols.new }
     ensures same { L.holds library.new ≡ L.holds library.old }
     ensures later { L.faults library.old ≤ L.faults library.new }
@@ -137,6 +140,7 @@ fn load_include<L: Library>(
     include: &Include,
 ) -> Result<Seq<Sourced>, LoadFault>
     ensures part { IsPart (L.holds library.old) (L.faults library.old) (L.faults library.new) symbols.new counts.new (ItemComesTo search.entry.folder.now (option_copied search.entry.root) depth name.now counts.old (Item.Include include.now)) result }
+    ensures sound { IfOk result (IsSoundPart symbols.new counts.old counts.new) }
     ensures grows { Grows symbols.old symbols.new }
     ensures same { L.holds library.new ≡ L.holds library.old }
     ensures later { L.faults library.old ≤ L.faults library.new }

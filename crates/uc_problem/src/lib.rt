@@ -1,12 +1,14 @@
 //! Problems: loading from a library with includes and selections, the signature, and the encoding of goals with variables.
 #![tactic(auto)]
 
+mod assembly;
 mod candidates;
 mod counts;
 mod fault;
 mod fetch;
 mod files;
 mod loading;
+mod locating;
 mod marking;
 mod problem;
 mod selection;

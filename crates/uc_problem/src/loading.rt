@@ -4,11 +4,17 @@ ghost use Rattle.std.specs.Prelude.{◌≡◌, ◌≤◌, IfOk, IfErr};
 ghost use Rattle.std.specs.Option.{option_copied};
 ghost use Rattle.uc_term.specs.Table.{Grows};
 ghost use Rattle.uc_problem.specs.Holds.{IsProblem, IsLoadFault, Agrees};
+ghost use Rattle.uc_problem.specs.Assembly.{IsFlat, AreSoundFew};
 
-use crate::{LoadFault, Problem};
+use crate::assembly::assemble;
+use crate::candidates::folder_of;
+use crate::fetch::fetch_text;
+use crate::files::{Search, load_file};
+use crate::{Counts, LoadFault, Problem};
 use std::alloc::Global;
+use uc_clause::Sourced;
 use uc_edge::Library;
-use uc_term::Symbols;
+use uc_term::{Seq, Symbols, Text};
 
 /// Loads the problem that the library has under a name: the clauses of the file with those of the files that it includes in
 /// place, which of them are axioms and which goals, and their signature.
@@ -35,5 +41,44 @@ pub fn load<L: Library>(
     ensures same { L.holds library.new ≡ L.holds library.old }
     ensures later { L.faults library.old ≤ L.faults library.new }
 {
-    Err(LoadFault::NoMemory)
+    let clauses = flat_clauses(alloc, library, root, name, symbols)?;
+    assemble(alloc, clauses, symbols)
+}
+
+// The clauses of the problem in flat order.
+fn flat_clauses<L: Library>(
+    alloc: Global,
+    library: &mut L,
+    root: Option<&[u8]>,
+    name: &[u8],
+    symbols: &mut Symbols,
+) -> Result<Seq<Sourced>, LoadFault>
+    ensures flat { IsFlat symbols.new (L.holds library.old) (L.faults library.old) (L.faults library.new) (option_copied root.entry) name.now result }
+    ensures sound { IfOk result (AreSoundFew symbols.new) }
+    ensures grows { Grows symbols.old symbols.new }
+    ensures same { L.holds library.new ≡ L.holds library.old }
+    ensures later { L.faults library.old ≤ L.faults library.new }
+{
+    let file = Text::from_bytes(alloc, name)?;
+    let Some(bytes) = fetch_text(alloc, library, &file)? else {
+        return Err(LoadFault::Absent { file, from: None });
+    };
+    let search = Search {
+        folder: folder_of(name),
+        root,
+    };
+    let mut counts = Counts {
+        clauses: 0,
+        files: 0,
+    };
+    load_file(
+        alloc,
+        library,
+        search,
+        symbols,
+        &mut counts,
+        &file,
+        bytes.as_bytes(),
+        0,
+    )
 }

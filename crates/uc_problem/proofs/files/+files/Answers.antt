@@ -6,9 +6,10 @@ use Rattle.uc_problem.specs.Fetching.{cut}
 use Rattle.uc_problem.specs.Loading.{LoadsFile}
 use Rattle.uc_problem.specs.Holds.{ReadsAs}
 use Rattle.uc_problem.specs.Parts.{ItemComesTo}
-use Rattle.uc_problem.proofs.Later.{Grows-trans}
-use Rattle.uc_problem.proofs.Items.{go_on, end, stop, unread, none_left, same_part}
+use Rattle.uc_problem.proofs.Later.{Grows-refl, Grows-trans}
+use Rattle.uc_problem.proofs.Items.{begin, go_on, end, stop, unread, none_left, same_part}
 use Rattle.uc_problem.proofs.Includes.{taken, deep, many, missing_of, held_of_names, inside_stops, chosen}
+use Rattle.uc_problem.proofs.Sound.{none_sound, file_sound, go_on_sound, items_later, taken_sound, selected_sound}
 use Rattle.uc_problem.proofs.files.+files.Goals as goal
 
 pub load_file-returns-in-Err-clause-part : goal.load_file-returns-in-Err-clause-part
@@ -24,6 +25,16 @@ load_file-returns-in_err-more-clause-part g t c =
     (rw c.in-Some.ensures.steps.0 at c.loop-item.invariant.left)
     (same_part (λ _ files T loaded. ItemComesTo c.args.search.folder.now (option_copied c.args.search.root) c.args.depth c.args.name.now c.loop-item.counts c.in-Some.item files T loaded) (g.L.Library.holds c.loop-item.library) (g.L.Library.holds c.args.library.now) [] [] (g.L.Library.faults c.loop-item.library) (g.L.Library.faults c.load_item.new.library) c.load_item.new.symbols c.load_item.new.counts (Err c.in_err-more.field-0.0) c.loop-item.invariant.same refl c.in_err-more.ensures.part))
 
+pub load_file-loop-item-init : goal.load_file-loop-item-init
+load_file-loop-item-init g t c = record {
+  same = refl;
+  later = omega arith;
+  grows = Grows-refl c.read_items.new.symbols;
+  left = rw c.new-clauses.ensures (begin (g.L.Library.holds c.args.library.now) c.args.search.folder.now (option_copied c.args.search.root) c.args.depth c.args.name.now c.args.counts.now c.into_iter-item-iterator.result.rest.items c.read_items.new.symbols);
+  sound = rw c.new-clauses.ensures (none_sound c.read_items.new.symbols c.args.counts.now c.args.counts.now refl);
+  rest = file_sound c.args.bytes.now c.read_items.new.symbols c.into_iter-item-iterator.result.rest.items (rw (c.into_iter-item-iterator.ensures.into_iter_gives.0, c.into_vec-item-items.ensures) c.in-Ok.ensures.reads);
+}
+
 pub load_file-loop-item-preserved : goal.load_file-loop-item-preserved
 load_file-loop-item-preserved g t c = record {
   same = c.in_ok-more.ensures.same ∙ c.loop-item.invariant.same;
@@ -32,6 +43,9 @@ load_file-loop-item-preserved g t c = record {
   left = rw c.in_ok-append.ensures.ok (go_on (g.L.Library.holds c.args.library.now) c.args.search.folder.now (option_copied c.args.search.root) c.args.depth c.args.name.now c.args.counts.now c.into_iter-item-iterator.result.rest.items c.loop-item.symbols c.load_item.new.symbols (g.L.Library.faults c.loop-item.library) (g.L.Library.faults c.load_item.new.library) c.loop-item.counts c.load_item.new.counts c.loop-item.clauses c.in_ok-more.more c.in-Some.item c.next.new.self.rest.items c.in_ok-more.ensures.grows
       (rw c.in-Some.ensures.steps.0 at c.loop-item.invariant.left)
       (rw c.loop-item.invariant.same at c.in_ok-more.ensures.part));
+  sound = rw c.in_ok-append.ensures.ok (go_on_sound c.loop-item.symbols c.load_item.new.symbols c.args.counts.now c.loop-item.counts c.load_item.new.counts c.loop-item.clauses c.in_ok-more.more c.in_ok-more.ensures.grows c.loop-item.invariant.sound
+      (c.in_ok-more.ensures.sound (rw c.in-Some.ensures.steps.0 at c.loop-item.invariant.rest).0));
+  rest = items_later c.loop-item.symbols c.load_item.new.symbols c.in_ok-more.ensures.grows c.next.new.self.rest.items (rw c.in-Some.ensures.steps.0 at c.loop-item.invariant.rest).1;
 }
 
 pub load_file-returns-clause-part : goal.load_file-returns-clause-part
@@ -70,3 +84,9 @@ load_include-returns-clause-part g t c =
 
 pub load_item-returns-in-Clause-clause-part : goal.load_item-returns-in-Clause-clause-part
 load_item-returns-in-Clause-clause-part g t c = rw c.in-Clause.is (taken (g.L.Library.holds c.args.library.now) c.args.search.folder.now (option_copied c.args.search.root) c.args.depth c.args.name.now c.args.counts.now c.in-Clause.clause c.args.symbols.now (g.L.Library.faults c.args.library.now) (g.L.Library.faults c.args.library.now) c.take_clause.new.counts c.take_clause.result c.take_clause.ensures)
+
+pub load_include-returns-clause-sound : goal.load_include-returns-clause-sound
+load_include-returns-clause-sound g t c = selected_sound c.load_file.new.symbols c.args.counts.now c.load_file.new.counts c.args.name.now c.args.include.now c.in_ok-given.given c.select.result c.in_ok-given.ensures.sound c.select.ensures
+
+pub load_item-returns-in-Clause-clause-sound : goal.load_item-returns-in-Clause-clause-sound
+load_item-returns-in-Clause-clause-sound g t c = λ h. taken_sound c.args.symbols.now c.args.counts.now c.take_clause.new.counts c.args.name.now c.in-Clause.clause c.take_clause.result (rw c.in-Clause.is at h) c.take_clause.ensures

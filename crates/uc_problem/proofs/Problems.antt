@@ -1,0 +1,119 @@
+-- A problem of clauses that were loaded is the problem that the library holds.
+use Rattle.std.proofs.Common.{◌≡◌, ℕ, ◌≤◌, List, [], true, false, Option, Some, None, Result, Ok, Err, IfOk, IfErr, sym, ap, ◌∙◌, subst}
+use Rattle.uc_term.specs.declared.node.Sym.{Sym}
+use Rattle.uc_term.specs.declared.node.Pos.{Pos}
+use Rattle.uc_term.specs.declared.fault.TermFault.{TermFault}
+use Rattle.uc_term.specs.declared.fault.TermFault.TheVariants as of_terms
+use Rattle.uc_term.specs.Tree.{Tree}
+use Rattle.uc_term.specs.Table.{Table, Grows, name_of}
+use Rattle.uc_term.specs.Gathering.{AreOf}
+use Rattle.uc_term.specs.Signatures.{Gathers, occurrences_of, IsSignatureOf, IsSignatureFault}
+use Rattle.uc_term.proofs.Grown.{name-grows}
+use Rattle.uc_edge.specs.Files.{Files}
+use Rattle.uc_clause.specs.declared.token.Place.{Place}
+use Rattle.uc_clause.specs.declared.clause.Sourced.{Sourced}
+use Rattle.uc_problem.specs.declared.counts.Counts.{Counts}
+use Rattle.uc_problem.specs.declared.problem.Problem.{Problem}
+use Rattle.uc_problem.specs.declared.fault.LoadFault.{LoadFault}
+use Rattle.uc_problem.specs.declared.fault.LoadFault.TheVariants as fault
+use Rattle.uc_problem.specs.Candidates.{folder_of}
+use Rattle.uc_problem.specs.Fetching.{cut, IsAnswer}
+use Rattle.uc_problem.specs.Holds.{ReadsAs, Flattens, Agrees, Refuses, has_clash as clash_held, has_too_many, is_not_flat, IsProblem, IsLoadFault, terms_of, numbers_of, located}
+use Rattle.uc_problem.specs.Loading.{Loaded, LoadsFile, no_problem, loads}
+use Rattle.uc_problem.specs.Parts.{IsPart}
+use Rattle.uc_problem.specs.Sound.{AreSound}
+use Rattle.uc_problem.specs.Assembly.{IsFlat, StandsAt, HasNoSignature, clashes, is_too_many, wants_memory}
+use Rattle.uc_problem.proofs.Later.{Grows-trans}
+use Rattle.uc_problem.proofs.Items.{later_rise}
+use Rattle.uc_problem.proofs.Sound.{terms_sound}
+use Rattle.uc_problem.proofs.Sides.{has_symbol}
+use Rattle.uc_problem.proofs.Growth.{agrees_later, all_gathers_later}
+
+module _ (root : Option (List ℕ)) (name : List ℕ) (t u : Table) (grows : Grows t u) where
+  pub is_problem : (holds : Option Files) (before now : ℕ) (clauses : List Sourced) (problem : Problem) → IsFlat t holds before now root name (Ok clauses) → problem.clauses ≡ clauses → Agrees u problem → IsProblem u holds root name problem
+  is_problem None before now clauses problem f e a = tt
+  is_problem (Some files) before now clauses problem f e a = λ T g.
+      let flat = f T (Grows-trans t u T grows g) in
+      record { counts = flat.0; flat = subst (λ (ss : List Sourced). Flattens T files root name (Ok (ss, flat.0))) (sym e) flat.1; agrees = agrees_later u T g problem a }
+
+  module _ (clauses : List Sourced) (sound : AreSound u clauses) where
+    pub is_refused : (holds : Option Files) (first before now last : ℕ) (why : LoadFault) → IsFlat t holds first before root name (Ok clauses) → HasNoSignature u clauses why → IsLoadFault u holds now last root name why
+    is_refused holds first before now last _ f wants_memory = tt
+    is_refused None first before now last _ f (clashes g s l) = tt
+    is_refused None first before now last _ f (is_too_many g l) = tt
+    is_refused (Some files) first before now last _ f (clashes {term = term} {first = a} {second = b} {pos = pos} {f = h} {file = file} {place = place} g s l) = λ T k.
+        let flat = f T (Grows-trans t u T grows k) in
+        subst (λ (n : List ℕ). Refuses T files root name (fault.ArityClash file place n a b)) (name-grows u T k h (has_symbol u clauses term pos h sound s))
+        (clash_held flat.1 (all_gathers_later u T k (terms_of clauses) (Err (of_terms.ArityClash term pos a b)) (terms_sound u clauses sound) g) s.tree_at s.node_at l)
+    is_refused (Some files) first before now last _ f (is_too_many {term = term} {pos = pos} g l) = λ T k.
+        let flat = f T (Grows-trans t u T grows k) in
+        has_too_many flat.1 (all_gathers_later u T k (terms_of clauses) (Err (of_terms.TooMany term pos)) (terms_sound u clauses sound) g) l
+
+    pub refused_by : (holds : Option Files) (first before now last : ℕ) (r : Result Problem LoadFault) → IsFlat t holds first before root name (Ok clauses) → IfErr r (HasNoSignature u clauses) → IfErr r (IsLoadFault u holds now last root name)
+    refused_by holds first before now last (Ok p) f h = tt
+    refused_by holds first before now last (Err e) f h = is_refused holds first before now last e f h
+
+  pub answered_by : (holds : Option Files) (before now : ℕ) (clauses : List Sourced) (r : Result Problem LoadFault) → IsFlat t holds before now root name (Ok clauses) → IfOk r (λ problem. problem.clauses ≡ clauses) → IfOk r (Agrees u) → IfOk r (IsProblem u holds root name)
+  answered_by holds before now clauses (Ok p) f e a = is_problem holds before now clauses p f e a
+  answered_by holds before now clauses (Err e) f h a = tt
+
+module _ (root : Option (List ℕ)) (name : List ℕ) where
+  -- a problem file that isn't there
+  absent_file : (holds : Option Files) (t : Table) (before now : ℕ) → IsAnswer holds before now name (Ok None) → IsLoadFault t holds before now root name (fault.Absent name None)
+  absent_file None t before now a = tt
+  absent_file (Some files) t before now a = λ T g. is_not_flat (no_problem a)
+
+  pub no_file : (holds : Option Files) (t : Table) (before now : ℕ) (file : List ℕ) (answer : Option (List ℕ)) → file ≡ name → answer ≡ None → IsAnswer holds before now file (Ok answer) → IsLoadFault t holds before now root name (fault.Absent file None)
+  no_file holds t before now file answer e q a =
+      subst (λ (n : List ℕ). IsLoadFault t holds before now root name (fault.Absent n None)) (sym e)
+      (absent_file holds t before now (subst (λ (r : Option (List ℕ)). IsAnswer holds before now name (Ok r)) q (subst (λ (n : List ℕ). IsAnswer holds before now n (Ok answer)) e a)))
+
+  -- what a problem file with these bytes comes to
+  abbrev pub FileIs : List ℕ → Files → Table → Loaded → Type 0
+  FileIs bytes files T loaded = (whole : List ℕ) → bytes ≡ cut whole → LoadsFile (ReadsAs T) files (folder_of name) root 0 name whole (record { clauses = 0; files = 0 }) loaded
+
+  pub of_file : (holds : Option Files) (first before now : ℕ) (t : Table) (bytes : List ℕ) (counts : Counts) (r : Result (List Sourced) LoadFault) → first ≤ before → IsAnswer holds first before name (Ok (Some bytes)) → IsPart holds before now t counts (FileIs bytes) r → IsFlat t holds first now root name r
+  of_file None first before now t bytes counts (Ok clauses) h a p = tt
+  of_file (Some files) first before now t bytes counts (Ok clauses) h a p = λ T g. (counts, loads a.1 (p T g a.0 a.2))
+  of_file holds first before now t bytes counts (Err (fault.ReadFault file)) h a p = later_rise first before now h p
+  of_file holds first before now t bytes counts (Err fault.NoMemory) h a p = tt
+  of_file None first before now t bytes counts (Err (fault.Absent file from)) h a p = tt
+  of_file (Some files) first before now t bytes counts (Err (fault.Absent file from)) h a p = λ T g. is_not_flat (loads a.1 (p T g a.0 a.2))
+  of_file None first before now t bytes counts (Err (fault.TooDeep file place)) h a p = tt
+  of_file (Some files) first before now t bytes counts (Err (fault.TooDeep file place)) h a p = λ T g. is_not_flat (loads a.1 (p T g a.0 a.2))
+  of_file None first before now t bytes counts (Err (fault.NoSuchName file place n)) h a p = tt
+  of_file (Some files) first before now t bytes counts (Err (fault.NoSuchName file place n)) h a p = λ T g. is_not_flat (loads a.1 (p T g a.0 a.2))
+  of_file None first before now t bytes counts (Err (fault.ArityClash file place n one two)) h a p = tt
+  of_file (Some files) first before now t bytes counts (Err (fault.ArityClash file place n one two)) h a p = λ T g. is_not_flat (loads a.1 (p T g a.0 a.2))
+  of_file None first before now t bytes counts (Err (fault.Limit file place what)) h a p = tt
+  of_file (Some files) first before now t bytes counts (Err (fault.Limit file place what)) h a p = λ T g. is_not_flat (loads a.1 (p T g a.0 a.2))
+  of_file None first before now t bytes counts (Err (fault.Clause file why)) h a p = tt
+  of_file (Some files) first before now t bytes counts (Err (fault.Clause file why)) h a p = λ T g. is_not_flat (loads a.1 (p T g a.0 a.2))
+
+  pub of_fetched : (holds : Option Files) (first before now : ℕ) (t : Table) (file folder bytes shown : List ℕ) (answer : Option (List ℕ)) (counts : Counts) (r : Result (List Sourced) LoadFault) → first ≤ before → file ≡ name → folder ≡ folder_of name → shown ≡ bytes → answer ≡ Some bytes → IsAnswer holds first before file (Ok answer) → IsPart holds before now t counts (λ files T loaded. (whole : List ℕ) → shown ≡ cut whole → LoadsFile (ReadsAs T) files folder root 0 file whole (record { clauses = 0; files = 0 }) loaded) r → IsFlat t holds first now root name r
+  of_fetched holds first before now t file folder bytes shown answer counts r h e f s q a p =
+      of_file holds first before now t bytes counts r h
+      (subst (λ (x : Option (List ℕ)). IsAnswer holds first before name (Ok x)) q (subst (λ (n : List ℕ). IsAnswer holds first before n (Ok answer)) e a))
+      (rw (e, f, s) at p)
+
+-- faults of a signature stay in every later table
+pub fault_later : (t u : Table) (ts : List Tree) (e : TermFault) → Grows t u → AreOf t ts → IsSignatureFault t ts e → IsSignatureFault u ts e
+fault_later t u ts of_terms.NoMemory g of h = tt
+fault_later t u ts of_terms.TooLarge g of h = all_gathers_later t u g ts (Err of_terms.TooLarge) of h
+fault_later t u ts of_terms.NoSuchPosition g of h = all_gathers_later t u g ts (Err of_terms.NoSuchPosition) of h
+fault_later t u ts (of_terms.ArityClash a b c d) g of h = all_gathers_later t u g ts (Err (of_terms.ArityClash a b c d)) of h
+fault_later t u ts (of_terms.TooMany a b) g of h = all_gathers_later t u g ts (Err (of_terms.TooMany a b)) of h
+
+-- the clauses have no signature, as the code finds it
+pub has_clash : (table : Table) (clauses : List Sourced) (term first second : ℕ) (pos : Pos) (f : Sym) (file name shown : List ℕ) (place : Place) → Gathers table [] (occurrences_of (terms_of clauses)) (Err (of_terms.ArityClash term pos first second)) → StandsAt clauses term pos f → located clauses term pos.0 ≡ Some (file, place) → name ≡ shown → shown ≡ name_of table f → HasNoSignature table clauses (fault.ArityClash file place name first second)
+has_clash table clauses term first second pos f file name shown place g s l e q = rw (e, q) (clashes g s l)
+
+-- a problem's parts agree
+pub agree : (table : Table) (clauses : List Sourced) (problem : Problem) → AreSound table clauses → problem.clauses ≡ clauses → problem.axioms ≡ numbers_of true 0 clauses → problem.goals ≡ numbers_of false 0 clauses → IsSignatureOf table (terms_of clauses) problem.signature → problem.conjecture ≡ None → Agrees table problem
+agree table clauses problem sound c a g s n = record {
+  axioms = a ∙ ap (numbers_of true 0) (sym c);
+  goals = g ∙ ap (numbers_of false 0) (sym c);
+  over = subst (λ (ss : List Sourced). AreOf table (terms_of ss)) (sym c) (terms_sound table clauses sound);
+  signature = subst (λ (ss : List Sourced). IsSignatureOf table (terms_of ss) problem.signature) (sym c) s;
+  conjecture = n;
+}

@@ -1,0 +1,33 @@
+use Rattle.std.proofs.Common.{length, ap, ◌∙◌, arith}
+use Rattle.std.proofs.lemmas.Result.{err_from_is_err_and}
+use Rattle.uc_problem.specs.Holds.{terms_of}
+use Rattle.uc_problem.specs.Assembly.{wants_memory}
+use Rattle.uc_problem.proofs.Sound.{are_sound_later, terms_sound}
+use Rattle.uc_problem.proofs.Sides.{length_terms}
+use Rattle.uc_problem.proofs.Problems.{fault_later}
+use Rattle.uc_problem.proofs.assembly.signature_of.Goals as goal
+
+pub returns-in_err-terms-clause-refused : goal.returns-in_err-terms-clause-refused
+returns-in_err-terms-clause-refused c =
+    let p = err_from_is_err_and c.from_residual.result c.from_residual.ensures.1 in
+    rw (p.1, p.2) wants_memory
+
+pub of-requires-clause-of : goal.of-requires-clause-of
+of-requires-clause-of c = rw (c.as_slice.ensures.value, c.in_ok-terms.ensures) (terms_sound c.args.symbols.now c.args.clauses.now c.requires.sound)
+
+pub of-requires-clause-few : goal.of-requires-clause-few
+of-requires-clause-few c = omega (arith, ap length (c.as_slice.ensures.value ∙ c.in_ok-terms.ensures), length_terms c.args.clauses.now, c.requires.few)
+
+pub refusal-requires-clause-sound : goal.refusal-requires-clause-sound
+refusal-requires-clause-sound c = are_sound_later c.args.symbols.now c.of.new.symbols c.in-Err.ensures.grows c.args.clauses.now c.requires.sound
+
+pub refusal-requires-clause-fault : goal.refusal-requires-clause-fault
+refusal-requires-clause-fault c =
+    fault_later c.args.symbols.now c.of.new.symbols (terms_of c.args.clauses.now) c.in-Err.fault c.in-Err.ensures.grows (terms_sound c.args.symbols.now c.args.clauses.now c.requires.sound)
+    (rw (c.as_slice.ensures.value, c.in_ok-terms.ensures) at c.in-Err.ensures.err)
+
+pub returns-in_err-refusal-in-Err-clause-refused :
+    goal.returns-in_err-refusal-in-Err-clause-refused
+returns-in_err-refusal-in-Err-clause-refused c =
+    let p = err_from_is_err_and c.from_residual-in_err-refusal-in-Err.result c.from_residual-in_err-refusal-in-Err.ensures.1 in
+    rw (p.1, p.2) wants_memory

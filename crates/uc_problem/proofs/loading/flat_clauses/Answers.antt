@@ -1,0 +1,12 @@
+use Rattle.std.specs.Option.{option_copied}
+use Rattle.uc_problem.proofs.Problems.{no_file, of_fetched}
+use Rattle.uc_problem.proofs.loading.flat_clauses.Goals as goal
+
+pub returns-in_default-clause-flat : goal.returns-in_default-clause-flat
+returns-in_default-clause-flat g c =
+    no_file (option_copied c.args.root) c.args.name.now (g.L.Library.holds c.args.library.now) c.args.symbols.now (g.L.Library.faults c.args.library.now) (g.L.Library.faults c.fetch_text.new.library) c.in_ok-file.file c.in_ok-bytes.field-0 c.in_ok-file.ensures c.in_default.is c.in_ok-bytes.ensures.answer
+
+pub returns-clause-flat : goal.returns-clause-flat
+returns-clause-flat g c =
+    of_fetched (option_copied c.args.root) c.args.name.now (g.L.Library.holds c.args.library.now) (g.L.Library.faults c.args.library.now) (g.L.Library.faults c.fetch_text.new.library) (g.L.Library.faults c.load_file.new.library) c.load_file.new.symbols c.in_ok-file.file c.folder_of.result.now c.in-Some.bytes c.as_bytes.result.now c.in_ok-bytes.field-0 c.load_file.new.counts c.load_file.result
+    c.in_ok-bytes.ensures.later c.in_ok-file.ensures c.folder_of.ensures c.as_bytes.ensures c.in-Some.is c.in_ok-bytes.ensures.answer (rw c.in_ok-bytes.ensures.same at c.load_file.ensures.part)
