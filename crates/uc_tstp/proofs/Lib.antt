@@ -7,3 +7,4 @@ pub mod StepReading
 pub mod StepEnds
 pub mod LineParts
 pub mod LineLoop
+pub mod SourceReading

@@ -1,6 +1,6 @@
 use Rattle.std.proofs.Common.{arith}
 use Rattle.std.proofs.lemmas.Result.{err_from_is_err_and}
-use Rattle.uc_clause.specs.Terminals.{terminal_at, bytes_at}
+use Rattle.uc_clause.specs.Terminals.{terminal_at}
 use Rattle.uc_tstp.specs.Lines.{lower, lower_by}
 use Rattle.uc_tstp.proofs.Members.{ahead_on, ahead_more, ahead_stops, ahead_behind, next_within, picked_ahead}
 use Rattle.uc_tstp.proofs.lists.lowers.Goals as goal

@@ -1,4 +1,4 @@
-use Rattle.std.proofs.Common.{◌+◌, ◌-◌, ◌≤◌, length}
+use Rattle.std.proofs.Common.{◌+◌, ◌-◌, length}
 use Rattle.uc_tstp.specs.Lines.{lower}
 use Rattle.uc_tstp.proofs.Members.{Ahead}
 use Rattle.uc_tstp.proofs.lists.lowers.Given as goal
