@@ -1,5 +1,10 @@
 //! The program as one call, from the words of its command line to its answer and status.
 #![tactic(auto)]
 
+mod checking;
 mod lines;
 mod output;
+mod program;
+
+pub use output::tell_memory_out;
+pub use program::run;

@@ -1,11 +1,12 @@
 //! Writing an answer.
 
-ghost use Rattle.std.specs.Prelude.{◌≡◌, ◌≤◌, ℕ, List};
+ghost use Rattle.std.specs.Prelude.{◌≡◌, ◌≤◌, ℕ, List, IfOk};
 ghost use Rattle.std.specs.List.{flat_map};
 ghost use Rattle.uc_edge.specs.Pieces.{IsPut};
 ghost use Rattle.uc_top.specs.Lines.{joined, memory_line};
 ghost use Rattle.uc_top.specs.Told.{IsTold};
 
+use std::alloc::{AllocError, Global};
 use uc_edge::{Sink, WriteFault, put};
 use uc_term::{Seq, Text};
 
@@ -16,11 +17,37 @@ pub(crate) struct Answer {
     pub lines: Seq<Text>,
 }
 
-const MEMORY_OUT: &[u8] = b"% SZS status MemoryOut\n";
+/// What was asked for is done.
+pub(crate) const DONE: u8 = 0;
 
+/// It is done, and the answer is no.
+pub(crate) const NO: u8 = 1;
+
+/// A file is refused, or isn't there.
+pub(crate) const REFUSED: u8 = 3;
+
+/// The words are refused.
+pub(crate) const USAGE: u8 = 4;
+
+/// The library failed.
+pub(crate) const READ_FAULT: u8 = 5;
+
+/// The sink failed.
 const WRITE_FAULT: u8 = 6;
 
-const WANT_OF_MEMORY: u8 = 7;
+/// Memory is wanted.
+pub(crate) const WANT_OF_MEMORY: u8 = 7;
+
+const MEMORY_OUT: &[u8] = b"% SZS status MemoryOut\n";
+
+// An answer of one line.
+pub(crate) fn of_line(alloc: Global, status: u8, line: Text) -> Result<Answer, AllocError>
+    ensures { IfOk result (λ answer. (answer.status ≡ status) × (joined answer.lines ≡ line)) }
+{
+    let mut lines = Seq::new(alloc);
+    lines.push(line)?;
+    Ok(Answer { status, lines })
+}
 
 // Writes lines one by one.
 fn put_lines<S: Sink>(sink: &mut S, lines: &[Text]) -> Result<(), WriteFault>
@@ -44,8 +71,8 @@ pub(crate) fn tell<S: Sink>(sink: &mut S, answer: &Answer) -> u8
     }
 }
 
-// Tells that memory is wanted. It takes none.
-pub(crate) fn tell_memory_out<S: Sink>(sink: &mut S) -> u8
+/// Tells the sink that memory is wanted, and answers the status of that, or that of a sink that fails. It takes no memory.
+pub fn tell_memory_out<S: Sink>(sink: &mut S) -> u8
     ensures told { IsTold (S.written sink.old) (S.written sink.new) (S.faults sink.old) (S.faults sink.new) memory_line 7 result }
     ensures later { S.faults sink.old ≤ S.faults sink.new }
 {

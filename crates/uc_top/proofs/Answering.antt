@@ -1,0 +1,302 @@
+-- From what the calls beneath promise to the answers.
+use Rattle.std.proofs.Common.{◌⊎◌, inl, inr, ℕ, ◌≡◌, ◌+◌, ◌<◌, ◌≤◌, Bool, true, false, List, [], ◌∷◌, length, take, get_or, Option, Some, None, Result, Ok, Err, refl, sym, ◌∙◌, subst, arith}
+use Rattle.std.proofs.lemmas.List.{take_all, length-take-le}
+use Rattle.std.specs.Str.{IsUtf8}
+use Rattle.std.proofs.lemmas.Str.{is_utf8-from_IsUtf8}
+use Rattle.std.specs.Prelude.{nat_le, position}
+use Rattle.std.specs.Result.{IfOk}
+use Rattle.std.specs.declared.alloc.AllocError.{AllocError}
+use Rattle.std.proofs.lemmas.Bool.Decides.{leb_tells}
+use Rattle.std.proofs.lemmas.List.Quantifiers.{position-Some}
+use Rattle.uc_term.specs.Conversion.{SomeFollows}
+use Rattle.uc_clause.specs.declared.fault.ClauseFault.{ClauseFault}
+use Rattle.uc_tstp.specs.declared.framing.Frame.{Frame}
+use Rattle.uc_check.specs.declared.proof.Line.{Line}
+use Rattle.uc_check.specs.declared.checker.Checked.{Checked}
+use Rattle.uc_check.specs.declared.checker.Checked.TheVariants.{Accepted, Rejected}
+use Rattle.uc_check.specs.Clauses.{axioms_of, goals_of}
+use Rattle.uc_check.specs.Checks.{AreRightBefore, EndsInRefutation, IsChecked, accepted, rejected, no_line, no_refutation}
+use Rattle.uc_words.specs.declared.command.Verb.{Verb}
+use Rattle.uc_words.specs.declared.command.Verb.TheVariants as verb
+use Rattle.uc_top.specs.Runs.{HasProof}
+use Rattle.uc_term.specs.declared.fresh.Fresh.{Fresh}
+use Rattle.uc_term.specs.Table.{Table, Grows, IsDistinct}
+use Rattle.uc_edge.specs.Files.{Files, IsFetched}
+use Rattle.uc_edge.specs.Faults.{Rose}
+use Rattle.uc_edge.specs.declared.library.Fetched.{Fetched}
+use Rattle.uc_edge.specs.declared.library.Fetched.TheVariants.{Found, Absent, Failed}
+use Rattle.uc_clause.specs.declared.clause.Sourced.{Sourced}
+use Rattle.uc_clause.specs.declared.fault.ClauseFault.TheVariants as clause
+use Rattle.uc_problem.specs.declared.fault.LoadFault.{LoadFault}
+use Rattle.uc_problem.specs.declared.fault.LoadFault.TheVariants as load
+use Rattle.uc_problem.specs.declared.problem.Problem.{Problem}
+use Rattle.uc_problem.specs.Holds.{Holds, Refuses, IsProblem, IsLoadFault}
+use Rattle.uc_problem.specs.Marks.{IsMarked, is_too_large}
+use Rattle.uc_problem.specs.declared.fault.EncodeFault.TheVariants.{GoalTooLarge}
+use Rattle.uc_problem.specs.Loading.{held}
+use Rattle.uc_problem.proofs.Fetches.{no_text}
+use Rattle.uc_problem.proofs.Later.{Grows-refl}
+use Rattle.uc_tstp.specs.declared.fault.ProofFault.{ProofFault}
+use Rattle.uc_tstp.specs.Framing.{Framed, too_long, no_start, no_end, other_name, framed, max_proof}
+use Rattle.uc_tstp.specs.declared.fault.ProofFault.TheVariants.{Syntax, UnknownRule, UnknownName, Truncated, RepeatedName, Limit, NoMemory}
+use Rattle.uc_tstp.specs.Reading.{IsReading, ReadsProof, no_frame, no_token, no_lines, no_name, reads}
+use Rattle.uc_check.specs.declared.proof.Proof.{Proof}
+use Rattle.uc_top.specs.declared.output.Answer.{Answer}
+use Rattle.uc_top.specs.Lines.{joined, load_line, proof_line}
+use Rattle.std.proofs.lemmas.Option.{slice_get_read}
+use Rattle.uc_top.specs.Answers.{IsBuilt, large_line, WhereTold, load_status, IsProofFetched, TextAnswers, is_not_read, is_checked, ProofAnswers, is_absent, isnt_fetched, is_found, ProblemAnswers, has_large_goal, is_marked, CheckAnswers, fetch_fails, is_refused, is_loaded}
+
+-- A count that rose in a part of a call rose in the call.
+pub rose_before : (first before now : ℕ) → first ≤ before → Rose before now → Rose first now
+rose_before first before now h r = omega arith
+
+pub rose_after : (before now last : ℕ) → now ≤ last → Rose before now → Rose before last
+rose_after before now last h r = omega arith
+
+within : {X : Type 0} (p : X → Bool) (xs : List X) (n : ℕ) → position p xs ≡ Some n → n < length xs
+within p [] n e = absurd (cc e)
+within p (x ∷ xs) n e = (position-Some p (x ∷ xs) n x e).0
+
+-- A text that is cut behind the first byte that is too many is read as the whole one.
+module _ (text : List ℕ) (h : max_proof + 1 ≤ length text) where
+  cut_length : length (take (max_proof + 1) text) ≡ max_proof + 1
+  cut_length = length-take-le (max_proof + 1) text h
+
+  isnt_short : {A : Type 0} → length (take (max_proof + 1) text) ≤ max_proof → A
+  isnt_short le = absurd (omega (arith, cut_length))
+
+  refused_cut : {why : ProofFault} → Framed (take (max_proof + 1) text) (Err why) → Framed text (Err why)
+  refused_cut (too_long _) = too_long (omega arith)
+  refused_cut (no_start le _) = isnt_short le
+  refused_cut (no_end le _ _) = isnt_short le
+  refused_cut (other_name le _ _ _) = isnt_short le
+
+  has_no_frame : {A : Type 0} {frame : Frame} → Framed (take (max_proof + 1) text) (Ok frame) → A
+  has_no_frame (framed le _ _ _) = isnt_short le
+
+  read_cut : {table : Table} {r : Result Proof ProofFault} → ReadsProof table (take (max_proof + 1) text) r → ReadsProof table text r
+  read_cut (no_frame f) = no_frame (refused_cut f)
+  read_cut (no_token f _) = has_no_frame f
+  read_cut (no_lines f _ _) = has_no_frame f
+  read_cut (no_name f _ _ _) = has_no_frame f
+  read_cut (reads f _ _ _ _) = has_no_frame f
+
+reads_whole : (table : Table) (text : List ℕ) (r : Result Proof ProofFault) → ReadsProof table (take (max_proof + 1) text) r → ReadsProof table text r
+reads_whole table text r h = go (leb_tells (max_proof + 1) (length text))
+  where
+    go : ((nat_le (max_proof + 1) (length text) ≡ true) × (max_proof + 1 ≤ length text)) ⊎ ((nat_le (max_proof + 1) (length text) ≡ false) × (length text < max_proof + 1)) → ReadsProof table text r
+    go (inl p) = read_cut text p.1 h
+    go (inr p) = subst (λ t. ReadsProof table t r) (take_all (max_proof + 1) text (omega (arith, p.1))) h
+
+answers_whole : (table : Table) (clauses : List Sourced) (marks : Option Fresh) (name text : List ℕ) (status : ℕ) (answer : List ℕ) → TextAnswers table clauses marks name (take (max_proof + 1) text) status answer → TextAnswers table clauses marks name text status answer
+answers_whole table clauses marks name text status answer (is_not_read r) = is_not_read (reads_whole table text _ r)
+answers_whole table clauses marks name text status answer (is_checked r c) = is_checked (reads_whole table text _ r) c
+
+-- what a fetch of the proof file answers
+pub not_utf8 : (holds : Option Files) (before now : ℕ) (name : List ℕ) → (IsUtf8 name → ⊥) → IsProofFetched holds before now name Absent
+not_utf8 None before now name isnt = tt
+not_utf8 (Some files) before now name isnt = no_text (Some files) before now name isnt
+
+pub found : (holds : Option Files) (before now : ℕ) (name bytes : List ℕ) → IsUtf8 name → IsFetched holds name (max_proof + 1) (Found bytes) → IsProofFetched holds before now name (Found bytes)
+found None before now name bytes utf h = tt
+found (Some files) before now name bytes utf h = (h.0, (rw (is_utf8-from_IsUtf8 name utf) h.1), h.2)
+
+pub absent : (holds : Option Files) (before now : ℕ) (name : List ℕ) → IsUtf8 name → IsFetched holds name (max_proof + 1) Absent → IsProofFetched holds before now name Absent
+absent None before now name utf h = tt
+absent (Some files) before now name utf h = rw (is_utf8-from_IsUtf8 name utf) h
+
+fetched : (holds : Option Files) (before now : ℕ) (name : List ℕ) (answer : Fetched) → IsUtf8 name → IsFetched holds name (max_proof + 1) answer → (answer ≡ Failed → Rose before now) → IsProofFetched holds before now name answer
+fetched holds before now name (Found bytes) utf h rose = found holds before now name bytes utf h
+fetched holds before now name Absent utf h rose = absent holds before now name utf h
+fetched holds before now name Failed utf h rose = rose refl
+
+pub is_fetched : (holds : Option Files) (before now : ℕ) (name asked : List ℕ) (r : Result Fetched AllocError) → asked ≡ name → IsUtf8 name → IfOk r (IsFetched holds asked (max_proof + 1)) → IfOk r (λ answer. answer ≡ Failed → Rose before now) → IfOk r (IsProofFetched holds before now name)
+is_fetched holds before now name asked (Ok answer) e utf h rose = fetched holds before now name answer utf (rw e at h) rose
+is_fetched holds before now name asked (Err fault) e utf h rose = tt
+
+-- an answer of one line
+pub one_line : (r : Result Answer AllocError) (P : ℕ → List ℕ → Type 0) (status : ℕ) (line : List ℕ) → IfOk r (λ answer. (answer.status ≡ status) × (joined answer.lines ≡ line)) → P status line → IfOk r (λ answer. P answer.status (joined answer.lines))
+one_line (Ok answer) P status line h p = rw (h.0, h.1) p
+one_line (Err fault) P status line h p = tt
+
+-- the answer where the proof isn't read
+not_read : (table : Table) (text : List ℕ) (why : ProofFault) → (why ≡ NoMemory → ⊥) → IsReading table text (Err why) → ReadsProof table text (Err why)
+not_read table text (Syntax p) n h = h
+not_read table text (UnknownRule p) n h = h
+not_read table text (UnknownName p) n h = h
+not_read table text Truncated n h = h
+not_read table text (RepeatedName p) n h = h
+not_read table text (Limit w p) n h = h
+not_read table text NoMemory n h = absurd (n refl)
+
+pub unread : (table : Table) (clauses : List Sourced) (marks : Option Fresh) (name text : List ℕ) (why : ProofFault) (r : Result Answer AllocError) → IsReading table text (Err why) → IfOk r (λ answer. (answer.status ≡ 3) × (joined answer.lines ≡ proof_line name why)) → IfOk r (λ _. why ≡ NoMemory → ⊥) → IfOk r (λ answer. TextAnswers table clauses marks name text answer.status (joined answer.lines))
+unread table clauses marks name text why (Ok answer) h line n = one_line (Ok answer) (TextAnswers table clauses marks name text) 3 (proof_line name why) line (is_not_read (not_read table text why n h))
+unread table clauses marks name text why (Err fault) h line n = tt
+
+-- the answer to what was fetched
+pub found_answers : (table : Table) (holds : Option Files) (before now first last : ℕ) (clauses : List Sourced) (marks : Option Fresh) (name bytes : List ℕ) (status : ℕ) (answer : List ℕ) → IsProofFetched holds before now name (Found bytes) → TextAnswers table clauses marks name bytes status answer → ProofAnswers table holds first last clauses marks name status answer
+found_answers table None before now first last clauses marks name bytes status answer h a = is_found tt a
+found_answers table (Some files) before now first last clauses marks name bytes status answer h a = is_found h.1 (answers_whole table clauses marks name h.0 status answer (subst (λ t. TextAnswers table clauses marks name t status answer) h.2 a))
+
+pub is_found_text : (table : Table) (holds : Option Files) (before now : ℕ) (clauses : List Sourced) (marks : Option Fresh) (name text : List ℕ) (r : Result Answer AllocError) → IsProofFetched holds before now name (Found text) → IfOk r (λ answer. TextAnswers table clauses marks name text answer.status (joined answer.lines)) → IfOk r (λ answer. ProofAnswers table holds before now clauses marks name answer.status (joined answer.lines))
+is_found_text table holds before now clauses marks name text (Ok answer) h a = found_answers table holds before now before now clauses marks name text answer.status (joined answer.lines) h a
+is_found_text table holds before now clauses marks name text (Err fault) h a = tt
+
+-- an answer that rests on a part of a call rests on the call
+pub earlier_proof : (table : Table) (holds : Option Files) (first before now : ℕ) (clauses : List Sourced) (marks : Option Fresh) (name : List ℕ) (status : ℕ) (answer : List ℕ) → first ≤ before → ProofAnswers table holds before now clauses marks name status answer → ProofAnswers table holds first now clauses marks name status answer
+earlier_proof table holds first before now clauses marks name status answer le (is_absent h) = is_absent h
+earlier_proof table holds first before now clauses marks name status answer le (isnt_fetched r) = isnt_fetched (rose_before first before now le r)
+earlier_proof table holds first before now clauses marks name status answer le (is_found h a) = is_found h a
+
+pub earlier_problem : (table : Table) (holds : Option Files) (first before now : ℕ) (problem : Problem) (proof : List ℕ) (status : ℕ) (answer : List ℕ) → first ≤ before → ProblemAnswers table holds before now problem proof status answer → ProblemAnswers table holds first now problem proof status answer
+earlier_problem table holds first before now problem proof status answer le (has_large_goal m g) = has_large_goal m g
+earlier_problem table holds first before now problem proof status answer le (is_marked m a) = is_marked m (earlier_proof table holds first before now _ _ _ _ _ le a)
+
+-- the goal that is too large
+pub large_within : (table : Table) (problem : Problem) (number : ℕ) → IsMarked table problem (Err (GoalTooLarge number)) → number < length problem.clauses
+large_within table problem number h = within is_too_large problem.clauses number (h table (Grows-refl table))
+
+pub large_goal : (table : Table) (holds : Option Files) (before now : ℕ) (problem : Problem) (proof : List ℕ) (number : ℕ) (goal : Sourced) (r : Result Answer AllocError) → IsMarked table problem (Err (GoalTooLarge number)) → goal ≡ get_or problem.clauses number goal → IfOk r (λ answer. (answer.status ≡ 3) × (joined answer.lines ≡ large_line goal)) → IfOk r (λ answer. ProblemAnswers table holds before now problem proof answer.status (joined answer.lines))
+large_goal table holds before now problem proof number goal r h at line = one_line r (ProblemAnswers table holds before now problem proof) 3 (large_line goal) line (has_large_goal (h table (Grows-refl table)) (slice_get_read problem.clauses (length problem.clauses) number goal refl (large_within table problem number h) at))
+
+pub marked_answers : (table later : Table) (holds : Option Files) (before now : ℕ) (problem : Problem) (marks : Option Fresh) (proof : List ℕ) (r : Result Answer AllocError) → IsMarked table problem (Ok marks) → Grows table later → IfOk r (λ answer. ProofAnswers later holds before now problem.clauses marks proof answer.status (joined answer.lines)) → IfOk r (λ answer. ProblemAnswers later holds before now problem proof answer.status (joined answer.lines))
+marked_answers table later holds before now problem marks proof (Ok answer) h g a = is_marked (h later g) a
+marked_answers table later holds before now problem marks proof (Err fault) h g a = tt
+
+-- the problem that is loaded, in a later table
+pub held_problem : (table later : Table) (holds : Option Files) (root : Option (List ℕ)) (name : List ℕ) (problem : Problem) → Grows table later → IsProblem table holds root name problem → WhereTold holds (λ files. Holds later files root name problem)
+held_problem table later None root name problem g h = tt
+held_problem table later (Some files) root name problem g h = h later g
+
+-- the answer where no problem is loaded
+module _ (table : Table) (before now : ℕ) (root : Option (List ℕ)) (name proof : List ℕ) where
+  refuses : (files : Files) (why : LoadFault) → load_status why ≡ 3 → IsLoadFault table (Some files) before now root name why → Refuses table files root name why
+  refuses files (load.Absent f from) e h = h table (Grows-refl table)
+  refuses files (load.ReadFault f) e h = absurd (omega (arith, e))
+  refuses files (load.TooDeep f p) e h = h table (Grows-refl table)
+  refuses files (load.NoSuchName f p n) e h = h table (Grows-refl table)
+  refuses files (load.ArityClash f p n a b) e h = h table (Grows-refl table)
+  refuses files (load.Limit f p w) e h = h table (Grows-refl table)
+  refuses files (load.Clause f w) e h = h table (Grows-refl table)
+  refuses files load.NoMemory e h = absurd (omega (arith, e))
+
+  refused : (holds : Option Files) (why : LoadFault) → load_status why ≡ 3 → IsLoadFault table holds before now root name why → CheckAnswers table holds before now root name proof 3 (load_line why)
+  refused None why e h = is_refused why tt e
+  refused (Some files) why e h = is_refused why (refuses files why e h) e
+
+  refused_clause : (holds : Option Files) (file : List ℕ) (why : ClauseFault) → (load_status (load.Clause file why) ≡ 7 → ⊥) → IsLoadFault table holds before now root name (load.Clause file why) → CheckAnswers table holds before now root name proof (load_status (load.Clause file why)) (load_line (load.Clause file why))
+  refused_clause holds file (clause.Syntax p) n h = refused holds (load.Clause file (clause.Syntax p)) refl h
+  refused_clause holds file (clause.NotUnit p) n h = refused holds (load.Clause file (clause.NotUnit p)) refl h
+  refused_clause holds file (clause.NotEquality p) n h = refused holds (load.Clause file (clause.NotEquality p)) refl h
+  refused_clause holds file (clause.BadRole p w) n h = refused holds (load.Clause file (clause.BadRole p w)) refl h
+  refused_clause holds file (clause.Unsupported p w) n h = refused holds (load.Clause file (clause.Unsupported p w)) refl h
+  refused_clause holds file (clause.Limit p w) n h = refused holds (load.Clause file (clause.Limit p w)) refl h
+  refused_clause holds file clause.NoMemory n h = absurd (n refl)
+
+  pub not_loaded : (holds : Option Files) (why : LoadFault) → (load_status why ≡ 7 → ⊥) → IsLoadFault table holds before now root name why → CheckAnswers table holds before now root name proof (load_status why) (load_line why)
+  not_loaded holds (load.Absent f from) n h = refused holds (load.Absent f from) refl h
+  not_loaded holds (load.ReadFault f) n h = fetch_fails f h
+  not_loaded holds (load.TooDeep f p) n h = refused holds (load.TooDeep f p) refl h
+  not_loaded holds (load.NoSuchName f p m) n h = refused holds (load.NoSuchName f p m) refl h
+  not_loaded holds (load.ArityClash f p m a b) n h = refused holds (load.ArityClash f p m a b) refl h
+  not_loaded holds (load.Limit f p w) n h = refused holds (load.Limit f p w) refl h
+  not_loaded holds (load.Clause f w) n h = refused_clause holds f w n h
+  not_loaded holds load.NoMemory n h = absurd (n refl)
+
+  pub refused_answers : (holds : Option Files) (why : LoadFault) (r : Result Answer AllocError) → IsLoadFault table holds before now root name why → IfOk r (λ answer. (answer.status ≡ load_status why) × (joined answer.lines ≡ load_line why)) → IfOk r (λ answer. answer.status ≡ 7 → ⊥) → IfOk r (λ answer. CheckAnswers table holds before now root name proof answer.status (joined answer.lines))
+  refused_answers holds why (Ok answer) h line n = one_line (Ok answer) (CheckAnswers table holds before now root name proof) (load_status why) (load_line why) line (not_loaded holds why (λ e. n (line.0 ∙ e)) h)
+  refused_answers holds why (Err fault) h line n = tt
+
+isnt_done_clause : (file : List ℕ) (why : ClauseFault) → load_status (load.Clause file why) ≡ 0 → ⊥
+isnt_done_clause file (clause.Syntax p) e = omega (arith, e)
+isnt_done_clause file (clause.NotUnit p) e = omega (arith, e)
+isnt_done_clause file (clause.NotEquality p) e = omega (arith, e)
+isnt_done_clause file (clause.BadRole p w) e = omega (arith, e)
+isnt_done_clause file (clause.Unsupported p w) e = omega (arith, e)
+isnt_done_clause file (clause.Limit p w) e = omega (arith, e)
+isnt_done_clause file clause.NoMemory e = omega (arith, e)
+
+isnt_done : (why : LoadFault) → load_status why ≡ 0 → ⊥
+isnt_done (load.Absent f from) e = omega (arith, e)
+isnt_done (load.ReadFault f) e = omega (arith, e)
+isnt_done (load.TooDeep f p) e = omega (arith, e)
+isnt_done (load.NoSuchName f p n) e = omega (arith, e)
+isnt_done (load.ArityClash f p n a b) e = omega (arith, e)
+isnt_done (load.Limit f p w) e = omega (arith, e)
+isnt_done (load.Clause f w) e = isnt_done_clause f w e
+isnt_done load.NoMemory e = omega (arith, e)
+
+pub refused_not_done : (Q : Answer → Type 0) (why : LoadFault) (r : Result Answer AllocError) → IfOk r (λ answer. (answer.status ≡ load_status why) × (joined answer.lines ≡ load_line why)) → IfOk r (λ answer. answer.status ≡ 0 → Q answer)
+refused_not_done Q why (Ok answer) line = λ e. absurd (isnt_done why (sym line.0 ∙ e))
+refused_not_done Q why (Err fault) line = tt
+
+-- what stands behind an answer with status 0
+text_proof : (table : Table) (clauses : List Sourced) (marks : Option Fresh) (name text : List ℕ) (status : ℕ) (answer : List ℕ) → status ≡ 0 → TextAnswers table clauses marks name text status answer → (proof : Proof) × ReadsProof table text (Ok proof) × IsChecked clauses marks proof.lines Accepted
+text_proof table clauses marks name text status answer e (is_not_read r) = absurd (omega (arith, e))
+text_proof table clauses marks name text status answer e (is_checked {proof = proof} {answer = Accepted} r c) = (proof, r, c)
+text_proof table clauses marks name text status answer e (is_checked {answer = Rejected line cause} r c) = absurd (omega (arith, e))
+
+accepted_parts : (clauses : List Sourced) (marks : Option Fresh) (lines : List Line) (checked : Checked) → checked ≡ Accepted → IsChecked clauses marks lines checked → AreRightBefore clauses marks lines (length lines) × EndsInRefutation lines
+accepted_parts clauses marks lines checked e (accepted r f) = (r, f)
+accepted_parts clauses marks lines checked e (rejected f) = absurd (cc e)
+accepted_parts clauses marks lines checked e (no_line f) = absurd (cc e)
+accepted_parts clauses marks lines checked e (no_refutation r l f) = absurd (cc e)
+
+proof_of : (table : Table) (files : Files) (before now : ℕ) (clauses : List Sourced) (marks : Option Fresh) (name : List ℕ) (status : ℕ) (answer : List ℕ) → status ≡ 0 → ProofAnswers table (Some files) before now clauses marks name status answer → (text : List ℕ) × (held files name ≡ Some text) × (proof : Proof) × ReadsProof table text (Ok proof) × IsChecked clauses marks proof.lines Accepted
+proof_of table files before now clauses marks name status answer e (is_absent h) = absurd (omega (arith, e))
+proof_of table files before now clauses marks name status answer e (isnt_fetched r) = absurd (omega (arith, e))
+proof_of table files before now clauses marks name status answer e (is_found {text = text} h a) = let p = text_proof table clauses marks name text status answer e a in (text, h, p.0, p.1, p.2)
+
+pub has_proof : (table : Table) (files : Files) (before now : ℕ) (root : Option (List ℕ)) (name proof : List ℕ) (problem : Problem) (status : ℕ) (answer : List ℕ) → status ≡ 0 → Holds table files root name problem → SomeFollows (axioms_of problem.clauses) (goals_of problem.clauses) → ProblemAnswers table (Some files) before now problem proof status answer → HasProof table files root name proof
+has_proof table files before now root name proof problem status answer e h f (has_large_goal m g) = absurd (omega (arith, e))
+has_proof table files before now root name proof problem status answer e h f (is_marked {marks = marks} m a) =
+    let p = proof_of table files before now problem.clauses marks proof status answer e a in
+    let parts = accepted_parts problem.clauses marks p.2.lines Accepted refl p.4 in
+    record {
+      problem = problem;
+      holds = h;
+      marks = marks;
+      marked = m;
+      text = p.0;
+      has_text = p.1;
+      proof = p.2;
+      reads = p.3;
+      are_right = parts.0;
+      refutes = parts.1;
+      follows = f;
+    }
+
+-- the answer where a problem is loaded
+module _ (table later : Table) (holds mid : Option Files) (first before now : ℕ) (root : Option (List ℕ)) (name proof : List ℕ) (problem : Problem) where
+  pub loaded_answers : (r : Result Answer AllocError) → mid ≡ holds → first ≤ before → Grows table later → IsProblem table holds root name problem → IfOk r (λ answer. ProblemAnswers later mid before now problem proof answer.status (joined answer.lines)) → IfOk r (λ answer. CheckAnswers later holds first now root name proof answer.status (joined answer.lines))
+  loaded_answers (Ok answer) e le g h a = is_loaded (held_problem table later holds root name problem g h) (earlier_problem later holds first before now problem proof answer.status (joined answer.lines) le (rw e at a))
+  loaded_answers (Err fault) e le g h a = tt
+
+  pub loaded_certified : (r : Result Answer AllocError) → mid ≡ holds → Grows table later → IsProblem table holds root name problem → IfOk r (λ answer. ProblemAnswers later mid before now problem proof answer.status (joined answer.lines)) → IfOk r (λ answer. answer.status ≡ 0 → SomeFollows (axioms_of problem.clauses) (goals_of problem.clauses)) → IfOk r (λ answer. answer.status ≡ 0 → (files : Files) → holds ≡ Some files → HasProof later files root name proof)
+  loaded_certified (Ok answer) e g h a f = λ done files told. has_proof later files before now root name proof problem answer.status (joined answer.lines) done (subst (λ (o : Option Files). IsProblem table o root name problem) told h later g) (f done) (subst (λ (o : Option Files). ProblemAnswers later o before now problem proof answer.status (joined answer.lines)) (e ∙ told) a)
+  loaded_certified (Err fault) e g h a f = tt
+
+-- two names
+pub two_names : (names : List (List ℕ)) (a b : List ℕ) → 2 ≤ length names → length names < 3 → a ≡ get_or names 0 a → b ≡ get_or names 1 b → names ≡ a ∷ b ∷ []
+two_names [] a b low high p q = absurd (omega arith)
+two_names (x ∷ []) a b low high p q = absurd (omega arith)
+two_names (x ∷ y ∷ []) a b low high p q = rw (p, q) refl
+two_names (x ∷ y ∷ z ∷ zs) a b low high p q = absurd (omega arith)
+
+pub not_built : (v : Verb) → (v ≡ verb.Check → ⊥) → IsBuilt v → ⊥
+not_built verb.Check n b = n refl
+not_built verb.Prove n b = b
+not_built verb.Decide n b = b
+not_built verb.Show n b = b
+not_built verb.Rewrite n b = b
+not_built verb.Order n b = b
+not_built verb.Pairs n b = b
+not_built verb.Gen n b = b
+
+-- the empty table
+pub none_distinct : IsDistinct []
+none_distinct i j e p q = absurd (cc p)
+
+pub usage_not_done : (Q : Answer → Type 0) (r : Result Answer AllocError) (line : List ℕ) → IfOk r (λ answer. (answer.status ≡ 4) × (joined answer.lines ≡ line)) → IfOk r (λ answer. answer.status ≡ 0 → Q answer)
+usage_not_done Q (Ok answer) line h = λ e. absurd (omega (arith, h.0, e))
+usage_not_done Q (Err fault) line h = tt

@@ -1,0 +1,8 @@
+use Rattle.std.proofs.Common.{[]}
+use Rattle.uc_top.specs.Answers.{has_no_reading}
+use Rattle.uc_top.specs.Runs.{MayAnswer, is_answer}
+use Rattle.uc_top.proofs.Answering.{one_line, none_distinct}
+use Rattle.uc_top.proofs.program.answer_of.Goals as goal
+
+pub returns-in-Err-Usage-clause-answers : goal.returns-in-Err-Usage-clause-answers
+returns-in-Err-Usage-clause-answers g c = one_line c.usage_answer.result (MayAnswer _ _ _ _) _ _ c.usage_answer.ensures (is_answer {table = []} none_distinct (has_no_reading (rw (c.in-Err-Usage.is, c.in-Err-Usage.field-0-is) at c.read_words.ensures.reads)))

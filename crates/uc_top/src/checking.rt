@@ -1,0 +1,256 @@
+//! The command `check`.
+
+ghost use Rattle.std.specs.Prelude.{◌≡◌, ◌<◌, ◌≤◌, ◌^◌, ℕ, List, Some, Ok, IfOk, length};
+ghost use Rattle.std.specs.Option.{option_copied};
+ghost use Rattle.uc_term.specs.Table.{Table, Grows, IsDistinct};
+ghost use Rattle.uc_term.specs.Conversion.{SomeFollows};
+ghost use Rattle.uc_edge.specs.Files.{Files};
+ghost use Rattle.uc_check.specs.Clauses.{axioms_of, goals_of, AreFresh, HasGoalIfEncoded};
+ghost use Rattle.uc_problem.specs.Holds.{Agrees};
+ghost use Rattle.uc_problem.specs.declared.fault.LoadFault.TheVariants.{Clause};
+ghost use Rattle.uc_tstp.specs.Reading.{ReadsProof};
+ghost use Rattle.uc_top.specs.Lines.{joined, load_line, proof_line};
+ghost use Rattle.uc_top.specs.Answers.{load_status, large_line, checked_status, IsProofFetched, TextAnswers, ProofAnswers, ProblemAnswers, CheckAnswers};
+ghost use Rattle.uc_top.specs.Runs.{HasProof};
+
+use crate::lines::{about_file, checked_line, limit_line, load_line, proof_line};
+use crate::output::{Answer, DONE, NO, READ_FAULT, REFUSED, WANT_OF_MEMORY, of_line};
+use std::alloc::{AllocError, Global};
+use uc_check::{Checked, Proof, check};
+use uc_clause::{ClauseFault, Sourced, What};
+use uc_edge::{Fetched, Library};
+use uc_problem::{EncodeFault, LoadFault, Problem, load, marks};
+use uc_term::{Fresh, Symbols, Text};
+use uc_tstp::{MAX_PROOF, ProofFault, read_proof};
+
+/// The answer to `check` for the problem file and the proof file of these names.
+pub(crate) fn check_answer<L: Library>(
+    alloc: Global,
+    root: Option<&Text>,
+    name: &Text,
+    proof: &Text,
+    library: &mut L,
+) -> Result<Answer, AllocError>
+    ensures answers { IfOk result (λ answer. (table : Table) × IsDistinct table × CheckAnswers table (L.holds library.old) (L.faults library.old) (L.faults library.new) (option_copied root.entry) name.now proof.now answer.status (joined answer.lines)) }
+    ensures certified { IfOk result (λ answer. answer.status ≡ 0 → (files : Files) → L.holds library.old ≡ Some files → (table : Table) × IsDistinct table × HasProof table files (option_copied root.entry) name.now proof.now) }
+    ensures same { L.holds library.new ≡ L.holds library.old }
+    ensures later { L.faults library.old ≤ L.faults library.new }
+{
+    let root = bytes_of(root);
+    let mut symbols = Symbols::new(alloc);
+    let answer = load_and_check(alloc, root, name.as_bytes(), proof, &mut symbols, library);
+    // The entries of the table are all different, so what was read is the only reading.
+    let _ = symbols.len();
+    answer
+}
+
+fn bytes_of(text: Option<&Text>) -> Option<&[u8]>
+    ensures { option_copied result ≡ option_copied text.entry }
+{
+    match text {
+        Some(text) => Some(text.as_bytes()),
+        None => None,
+    }
+}
+
+// The answer, with a table for the symbols.
+fn load_and_check<L: Library>(
+    alloc: Global,
+    root: Option<&[u8]>,
+    name: &[u8],
+    proof: &Text,
+    symbols: &mut Symbols,
+    library: &mut L,
+) -> Result<Answer, AllocError>
+    ensures answers { IfOk result (λ answer. CheckAnswers symbols.new (L.holds library.old) (L.faults library.old) (L.faults library.new) (option_copied root.entry) name.now proof.now answer.status (joined answer.lines)) }
+    ensures certified { IfOk result (λ answer. answer.status ≡ 0 → (files : Files) → L.holds library.old ≡ Some files → HasProof symbols.new files (option_copied root.entry) name.now proof.now) }
+    ensures same { L.holds library.new ≡ L.holds library.old }
+    ensures later { L.faults library.old ≤ L.faults library.new }
+{
+    match load(alloc, library, root, name, symbols) {
+        Ok(problem) => problem_answer(alloc, &problem, proof, symbols, library),
+        Err(fault) => load_answer(alloc, &fault),
+    }
+}
+
+fn load_status(fault: &LoadFault) -> u8
+    ensures { result ≡ load_status fault.now }
+{
+    match fault {
+        LoadFault::ReadFault { .. } => READ_FAULT,
+        LoadFault::NoMemory => WANT_OF_MEMORY,
+        LoadFault::Clause { fault, .. } => clause_status(fault),
+        LoadFault::Absent { .. } => REFUSED,
+        LoadFault::TooDeep { .. } => REFUSED,
+        LoadFault::NoSuchName { .. } => REFUSED,
+        LoadFault::ArityClash { .. } => REFUSED,
+        LoadFault::Limit { .. } => REFUSED,
+    }
+}
+
+fn clause_status(fault: &ClauseFault) -> u8
+    ensures { (file : List ℕ) → result ≡ load_status (Clause file fault.now) }
+{
+    match fault {
+        ClauseFault::NoMemory => WANT_OF_MEMORY,
+        ClauseFault::Syntax(_) => REFUSED,
+        ClauseFault::NotUnit(_) => REFUSED,
+        ClauseFault::NotEquality(_) => REFUSED,
+        ClauseFault::BadRole(..) => REFUSED,
+        ClauseFault::Unsupported(..) => REFUSED,
+        ClauseFault::Limit(..) => REFUSED,
+    }
+}
+
+// The answer for a problem that isn't loaded.
+fn load_answer(alloc: Global, fault: &LoadFault) -> Result<Answer, AllocError>
+    ensures answer { IfOk result (λ answer. (answer.status ≡ load_status fault.now) × (joined answer.lines ≡ load_line fault.now)) }
+    ensures not_memory { IfOk result (λ answer. answer.status ≡ 7 → ⊥) }
+{
+    let status = load_status(fault);
+    if status == WANT_OF_MEMORY {
+        return Err(AllocError);
+    }
+    of_line(alloc, status, load_line(alloc, fault)?)
+}
+
+// The answer for a problem that is loaded.
+fn problem_answer<L: Library>(
+    alloc: Global,
+    problem: &Problem,
+    proof: &Text,
+    symbols: &mut Symbols,
+    library: &mut L,
+) -> Result<Answer, AllocError>
+    requires { Agrees symbols.old problem.now }
+    ensures answers { IfOk result (λ answer. ProblemAnswers symbols.new (L.holds library.old) (L.faults library.old) (L.faults library.new) problem.now proof.now answer.status (joined answer.lines)) }
+    ensures follows { IfOk result (λ answer. answer.status ≡ 0 → SomeFollows (axioms_of problem.now.clauses) (goals_of problem.now.clauses)) }
+    ensures grows { Grows symbols.old symbols.new }
+    ensures same { L.holds library.new ≡ L.holds library.old }
+    ensures later { L.faults library.old ≤ L.faults library.new }
+{
+    let clauses = problem.clauses.as_slice();
+    match marks(alloc, problem, symbols) {
+        Ok(marks) => proof_answer(alloc, clauses, marks.as_ref(), proof, symbols, library),
+        Err(EncodeFault::GoalTooLarge(number)) => large_answer(alloc, &clauses[number as usize]),
+        Err(EncodeFault::NoMemory) => Err(AllocError),
+    }
+}
+
+// The answer for a goal that is too large to be encoded.
+fn large_answer(alloc: Global, goal: &Sourced) -> Result<Answer, AllocError>
+    ensures { IfOk result (λ answer. (answer.status ≡ 3) × (joined answer.lines ≡ large_line goal.now)) }
+{
+    let clause = &goal.clause;
+    let place = match clause.places.as_slice().first() {
+        Some(place) => *place,
+        None => clause.place,
+    };
+    of_line(
+        alloc,
+        REFUSED,
+        limit_line(alloc, goal.file.as_bytes(), place, What::Nodes)?,
+    )
+}
+
+// The answer for the proof file of this name.
+fn proof_answer<L: Library>(
+    alloc: Global,
+    clauses: &[Sourced],
+    marks: Option<&Fresh>,
+    name: &Text,
+    symbols: &mut Symbols,
+    library: &mut L,
+) -> Result<Answer, AllocError>
+    requires fresh { AreFresh (option_copied marks) clauses.now }
+    requires has_goal { HasGoalIfEncoded (option_copied marks) clauses.now }
+    ensures answers { IfOk result (λ answer. ProofAnswers symbols.new (L.holds library.old) (L.faults library.old) (L.faults library.new) clauses.now (option_copied marks.entry) name.now answer.status (joined answer.lines)) }
+    ensures follows { IfOk result (λ answer. answer.status ≡ 0 → SomeFollows (axioms_of clauses.now) (goals_of clauses.now)) }
+    ensures grows { Grows symbols.old symbols.new }
+    ensures same { L.holds library.new ≡ L.holds library.old }
+    ensures later { L.faults library.old ≤ L.faults library.new }
+{
+    let file = name.as_bytes();
+    match fetch_proof(alloc, library, file)? {
+        Fetched::Found(text) => {
+            text_answer(alloc, clauses, marks, file, text.as_bytes(), symbols)
+        }
+        Fetched::Absent => of_line(alloc, REFUSED, about_file(alloc, file, b"Absent")?),
+        Fetched::Failed => of_line(alloc, READ_FAULT, about_file(alloc, file, b"ReadFault")?),
+    }
+}
+
+// What the library has under the proof file's name, cut behind the first byte that is too many.
+fn fetch_proof<L: Library>(
+    alloc: Global,
+    library: &mut L,
+    name: &[u8],
+) -> Result<Fetched, AllocError>
+    ensures fetched { IfOk result (IsProofFetched (L.holds library.old) (L.faults library.old) (L.faults library.new) name.now) }
+    ensures same { L.holds library.new ≡ L.holds library.old }
+    ensures later { L.faults library.old ≤ L.faults library.new }
+{
+    match str::from_utf8(name) {
+        Ok(name) => library.fetch(alloc, name, MAX_PROOF + 1),
+        Err(_) => Ok(Fetched::Absent),
+    }
+}
+
+// The answer for the text of a proof file of this name.
+fn text_answer(
+    alloc: Global,
+    clauses: &[Sourced],
+    marks: Option<&Fresh>,
+    name: &[u8],
+    text: &[u8],
+    symbols: &mut Symbols,
+) -> Result<Answer, AllocError>
+    requires fresh { AreFresh (option_copied marks) clauses.now }
+    requires has_goal { HasGoalIfEncoded (option_copied marks) clauses.now }
+    ensures answers { IfOk result (λ answer. TextAnswers symbols.new clauses.now (option_copied marks.entry) name.now text.now answer.status (joined answer.lines)) }
+    ensures follows { IfOk result (λ answer. answer.status ≡ 0 → SomeFollows (axioms_of clauses.now) (goals_of clauses.now)) }
+    ensures grows { Grows symbols.old symbols.new }
+{
+    match read_proof(alloc, text, symbols) {
+        Ok(proof) => checked_answer(alloc, clauses, marks, &proof),
+        Err(fault) => unread_answer(alloc, name, fault),
+    }
+}
+
+// The answer for a proof that isn't read.
+fn unread_answer(alloc: Global, name: &[u8], fault: ProofFault) -> Result<Answer, AllocError>
+    ensures answer { IfOk result (λ answer. (answer.status ≡ 3) × (joined answer.lines ≡ proof_line name.now fault)) }
+    ensures not_memory { IfOk result (λ _. fault ≡ ProofFault.NoMemory → ⊥) }
+{
+    if fault == ProofFault::NoMemory {
+        return Err(AllocError);
+    }
+    of_line(alloc, REFUSED, proof_line(alloc, name, fault)?)
+}
+
+// The checker's answer.
+fn checked_answer(
+    alloc: Global,
+    clauses: &[Sourced],
+    marks: Option<&Fresh>,
+    proof: &Proof,
+) -> Result<Answer, AllocError>
+    requires fresh { AreFresh (option_copied marks) clauses.now }
+    requires has_goal { HasGoalIfEncoded (option_copied marks) clauses.now }
+    requires few { length proof.now.lines < 2 ^ 31 }
+    ensures answers { (name text : List ℕ) (table : Table) → ReadsProof table text (Ok proof.now) → IfOk result (λ answer. TextAnswers table clauses.now (option_copied marks.entry) name text answer.status (joined answer.lines)) }
+    ensures follows { IfOk result (λ answer. answer.status ≡ 0 → SomeFollows (axioms_of clauses.now) (goals_of clauses.now)) }
+{
+    let checked = check(alloc, clauses, marks, proof)?;
+    let line = checked_line(alloc, proof.lines.as_slice(), checked)?;
+    of_line(alloc, checked_status(checked), line)
+}
+
+fn checked_status(checked: Checked) -> u8
+    ensures { result ≡ checked_status checked }
+{
+    match checked {
+        Checked::Accepted => DONE,
+        Checked::Rejected { .. } => NO,
+    }
+}

@@ -1,0 +1,90 @@
+//! The program.
+
+ghost use Rattle.std.specs.Prelude.{◌≡◌, ◌≤◌, ℕ, List, true, IfOk, Some, map, string_bytes, length};
+ghost use Rattle.uc_edge.specs.Files.{Files};
+ghost use Rattle.uc_words.specs.Reads.{Reads};
+ghost use Rattle.uc_words.specs.Table.{fits};
+ghost use Rattle.uc_top.specs.Lines.{joined, usage_line};
+ghost use Rattle.uc_top.specs.Runs.{MayAnswer, IsRun, IsCertified};
+
+use crate::checking::check_answer;
+use crate::output::{Answer, USAGE, of_line, tell, tell_memory_out};
+use std::alloc::{AllocError, Global};
+use std::sync::Wait;
+use std::thread::Threads;
+use uc_edge::{Gate, Library, Sink};
+use uc_term::{Symbols, Text};
+use uc_words::{Command, Verb, WordsFault, read_words};
+
+const USAGE_LINE: &[u8] = b"usage: uc COMMAND [--option VALUE].. [WORD]..\n";
+
+/// Answers the words after the program's name: tells the sink the whole answer, line by line, and answers its status.
+///
+/// For `check` the status is 0 where the proof file has a proof of the problem, each line of it right and the last one a
+/// refutation of a goal, so that one of the problem's goals follows from its axioms; 1 where the proof reads and isn't such;
+/// 3 where the problem or the proof isn't there or is refused. 4 stands for words that have no reading, 5 for a failure of the
+/// library and 6 for one of the sink, each only where its count of faults rose in this call, and 7 for want of memory.
+pub fn run<R: Threads + Wait + Sync, L: Library, S: Sink, G: Gate + Sync>(
+    _rt: &R,
+    alloc: Global,
+    words: &[String],
+    library: &mut L,
+    sink: &mut S,
+    _gate: &G,
+) -> u8
+    ensures answers { IsRun (L.holds library.old) (L.faults library.old) (L.faults library.new) (map string_bytes words.now) (S.written sink.old) (S.written sink.new) (S.faults sink.old) (S.faults sink.new) result }
+    ensures certified { result ≡ 0 → (files : Files) → L.holds library.old ≡ Some files → IsCertified files (map string_bytes words.now) }
+    ensures same { L.holds library.new ≡ L.holds library.old }
+    ensures later { L.faults library.old ≤ L.faults library.new }
+    ensures sink_later { S.faults sink.old ≤ S.faults sink.new }
+{
+    match answer_of(alloc, words, library) {
+        Ok(answer) => tell(sink, &answer),
+        Err(_) => tell_memory_out(sink),
+    }
+}
+
+// The answer to the words.
+fn answer_of<L: Library>(
+    alloc: Global,
+    words: &[String],
+    library: &mut L,
+) -> Result<Answer, AllocError>
+    ensures answers { IfOk result (λ answer. MayAnswer (L.holds library.old) (L.faults library.old) (L.faults library.new) (map string_bytes words.now) answer.status (joined answer.lines)) }
+    ensures certified { IfOk result (λ answer. answer.status ≡ 0 → (files : Files) → L.holds library.old ≡ Some files → IsCertified files (map string_bytes words.now)) }
+    ensures same { L.holds library.new ≡ L.holds library.old }
+    ensures later { L.faults library.old ≤ L.faults library.new }
+{
+    match read_words(alloc, words) {
+        Ok(command) => command_answer(alloc, &command, library),
+        Err(WordsFault::Usage) => usage_answer(alloc),
+        Err(WordsFault::NoMemory) => Err(AllocError),
+    }
+}
+
+fn usage_answer(alloc: Global) -> Result<Answer, AllocError>
+    ensures { IfOk result (λ answer. (answer.status ≡ 4) × (joined answer.lines ≡ usage_line)) }
+{
+    of_line(alloc, USAGE, Text::from_bytes(alloc, USAGE_LINE)?)
+}
+
+// The answer to a command.
+fn command_answer<L: Library>(
+    alloc: Global,
+    command: &Command,
+    library: &mut L,
+) -> Result<Answer, AllocError>
+    requires { fits command.now.verb (length command.now.positionals) ≡ true }
+    ensures answers { (words : List (List ℕ)) → Reads words command.now → IfOk result (λ answer. MayAnswer (L.holds library.old) (L.faults library.old) (L.faults library.new) words answer.status (joined answer.lines)) }
+    ensures certified { (words : List (List ℕ)) → Reads words command.now → IfOk result (λ answer. answer.status ≡ 0 → (files : Files) → L.holds library.old ≡ Some files → IsCertified files words) }
+    ensures same { L.holds library.new ≡ L.holds library.old }
+    ensures later { L.faults library.old ≤ L.faults library.new }
+{
+    match command.verb {
+        Verb::Check => match command.positionals.as_slice() {
+            [name, proof] => check_answer(alloc, command.root.as_ref(), name, proof, library),
+            _ => unreachable!(),
+        },
+        _ => usage_answer(alloc),
+    }
+}
