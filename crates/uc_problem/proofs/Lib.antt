@@ -8,3 +8,5 @@ pub mod Growth
 pub mod Occurring
 pub mod Problems
 pub mod Sides
+pub mod OpenGoals
+pub mod FreshMarks

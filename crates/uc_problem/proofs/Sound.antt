@@ -27,7 +27,7 @@ use Rattle.uc_problem.specs.Holds.{terms_of}
 use Rattle.uc_problem.specs.Sound.{IsSound, AreSound, IsSoundItem, AreSoundItems, IsSoundPart}
 
 -- terms in a later table
-has_later : (t u : Table) → Grows t u → (f : Sym) → Has t f → Has u f
+pub has_later : (t u : Table) → Grows t u → (f : Sym) → Has t f → Has u f
 has_later t u g f h = omega (arith, h, ap length g.1, length-append t g.0)
 
 module _ (t u : Table) (g : Grows t u) where

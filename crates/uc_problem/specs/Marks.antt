@@ -1,5 +1,5 @@
 -- When a problem is encoded, and by which symbols.
-use Rattle.std.specs.Prelude.{◌≡◌, ◌+◌, ◌&&◌, ◌||◌, Bool, true, false, codes, nat_lt, position, Option, Some, None, Result, Ok, Err, if◌then◌else◌}
+use Rattle.std.specs.Prelude.{ℕ, ◌≡◌, ◌+◌, ◌&&◌, ◌||◌, Bool, true, false, List, [], ◌∷◌, slice_get, codes, nat_lt, position, Option, Some, None, Result, Ok, Err, if◌then◌else◌}
 use Rattle.std.specs.List.{list_any}
 use Rattle.uc_term.specs.Tree.{nodes}
 use Rattle.uc_term.specs.Table.{Table, Grows}
@@ -18,6 +18,16 @@ is_open_goal s = if s.clause.positive then false else has_variable s.clause.left
 -- a goal with a variable whose two sides, put under one symbol, have more than 4,096 nodes
 abbrev pub is_too_large : Sourced → Bool
 is_too_large s = is_open_goal s && nat_lt 4095 (nodes s.clause.left + nodes s.clause.right)
+
+-- whether there is a clause, and it is too large
+abbrev pub large_or : Option Sourced → Bool
+large_or None = false
+large_or (Some s) = is_too_large s
+
+-- the first of these numbers whose clause is too large
+abbrev pub first_large : List Sourced → List ℕ → Option ℕ
+first_large clauses [] = None
+first_large clauses (n ∷ ns) = if large_or (slice_get clauses n) then Some n else first_large clauses ns
 
 -- the encoding's symbols: eq of arity 2, and the constants true and false, or names made of these that no symbol of the problem
 -- has

@@ -1,0 +1,16 @@
+use Rattle.std.proofs.Common.{codes}
+use Rattle.uc_problem.proofs.Later.{Grows-trans}
+use Rattle.uc_problem.proofs.Growth.{fresh_later}
+use Rattle.uc_problem.proofs.FreshMarks.{all_later}
+use Rattle.uc_problem.proofs.marking.new_marks.Goals as goal
+
+pub returns-clause-marks : goal.returns-clause-marks
+returns-clause-marks c =
+    let taken = c.args.problem.now.signature.symbols in
+    let first = all_later c.args.symbols.now c.add_fresh.new.symbols taken c.in_ok-eq.ensures.grows c.requires in
+    let second = all_later c.add_fresh.new.symbols c.add_fresh-2.new.symbols taken c.in_ok-yes.ensures.grows first in
+    record {
+      eq = fresh_later c.add_fresh.new.symbols c.add_fresh-3.new.symbols (Grows-trans c.add_fresh.new.symbols c.add_fresh-2.new.symbols c.add_fresh-3.new.symbols c.in_ok-yes.ensures.grows c.in_ok-no.ensures.grows) (codes "eq") 2 taken c.in_ok-eq.eq first (rw c.as_slice-taken.ensures at c.in_ok-eq.ensures.fresh);
+      yes = fresh_later c.add_fresh-2.new.symbols c.add_fresh-3.new.symbols c.in_ok-no.ensures.grows (codes "true") 0 taken c.in_ok-yes.yes second (rw c.as_slice-taken.ensures at c.in_ok-yes.ensures.fresh);
+      no = rw c.as_slice-taken.ensures at c.in_ok-no.ensures.fresh;
+    }
