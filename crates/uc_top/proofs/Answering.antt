@@ -10,7 +10,6 @@ use Rattle.std.proofs.lemmas.Bool.Decides.{leb_tells}
 use Rattle.std.proofs.lemmas.List.Quantifiers.{position-Some}
 use Rattle.uc_term.specs.Conversion.{SomeFollows}
 use Rattle.uc_clause.specs.declared.fault.ClauseFault.{ClauseFault}
-use Rattle.uc_tstp.specs.declared.framing.Frame.{Frame}
 use Rattle.uc_check.specs.declared.proof.Line.{Line}
 use Rattle.uc_check.specs.declared.checker.Checked.{Checked}
 use Rattle.uc_check.specs.declared.checker.Checked.TheVariants.{Accepted, Rejected}
@@ -27,6 +26,7 @@ use Rattle.uc_edge.specs.declared.library.Fetched.{Fetched}
 use Rattle.uc_edge.specs.declared.library.Fetched.TheVariants.{Found, Absent, Failed}
 use Rattle.uc_clause.specs.declared.clause.Sourced.{Sourced}
 use Rattle.uc_clause.specs.declared.fault.ClauseFault.TheVariants as clause
+use Rattle.uc_clause.specs.declared.fault.What.TheVariants as what
 use Rattle.uc_problem.specs.declared.fault.LoadFault.{LoadFault}
 use Rattle.uc_problem.specs.declared.fault.LoadFault.TheVariants as load
 use Rattle.uc_problem.specs.declared.problem.Problem.{Problem}
@@ -37,9 +37,9 @@ use Rattle.uc_problem.specs.Loading.{held}
 use Rattle.uc_problem.proofs.Fetches.{no_text}
 use Rattle.uc_problem.proofs.Later.{Grows-refl}
 use Rattle.uc_tstp.specs.declared.fault.ProofFault.{ProofFault}
-use Rattle.uc_tstp.specs.Framing.{Framed, too_long, no_start, no_end, other_name, framed, max_proof}
+use Rattle.uc_tstp.specs.Framing.{max_proof}
 use Rattle.uc_tstp.specs.declared.fault.ProofFault.TheVariants.{Syntax, UnknownRule, UnknownName, Truncated, RepeatedName, Limit, NoMemory}
-use Rattle.uc_tstp.specs.Reading.{IsReading, ReadsProof, no_frame, no_token, no_lines, no_name, reads}
+use Rattle.uc_tstp.specs.Reading.{IsReading}
 use Rattle.uc_check.specs.declared.proof.Proof.{Proof}
 use Rattle.uc_top.specs.declared.output.Answer.{Answer}
 use Rattle.uc_top.specs.Lines.{joined, load_line, proof_line}
@@ -65,32 +65,32 @@ module _ (text : List ℕ) (h : max_proof + 1 ≤ length text) where
   isnt_short : {A : Type 0} → length (take (max_proof + 1) text) ≤ max_proof → A
   isnt_short le = absurd (omega (arith, cut_length))
 
-  refused_cut : {why : ProofFault} → Framed (take (max_proof + 1) text) (Err why) → Framed text (Err why)
-  refused_cut (too_long _) = too_long (omega arith)
-  refused_cut (no_start le _) = isnt_short le
-  refused_cut (no_end le _ _) = isnt_short le
-  refused_cut (other_name le _ _ _) = isnt_short le
+  read_cut : (table : Table) (r : Result Proof ProofFault) → IsReading table (take (max_proof + 1) text) r → IsReading table text r
+  read_cut table (Ok proof) r = isnt_short r.0
+  read_cut table (Err (Syntax p)) r = isnt_short r.0
+  read_cut table (Err (UnknownRule p)) r = isnt_short r.0
+  read_cut table (Err (UnknownName p)) r = isnt_short r.0
+  read_cut table (Err Truncated) r = isnt_short r.0
+  read_cut table (Err (RepeatedName p)) r = isnt_short r.0
+  read_cut table (Err (Limit what.Bytes p)) r = (omega arith, r.1)
+  read_cut table (Err (Limit what.Nodes p)) r = isnt_short r.0
+  read_cut table (Err (Limit what.Parentheses p)) r = isnt_short r.0
+  read_cut table (Err (Limit what.Arity p)) r = isnt_short r.0
+  read_cut table (Err (Limit what.Clauses p)) r = isnt_short r.0
+  read_cut table (Err (Limit what.Files p)) r = isnt_short r.0
+  read_cut table (Err (Limit what.Symbols p)) r = isnt_short r.0
+  read_cut table (Err NoMemory) r = tt
 
-  has_no_frame : {A : Type 0} {frame : Frame} → Framed (take (max_proof + 1) text) (Ok frame) → A
-  has_no_frame (framed le _ _ _) = isnt_short le
-
-  read_cut : {table : Table} {r : Result Proof ProofFault} → ReadsProof table (take (max_proof + 1) text) r → ReadsProof table text r
-  read_cut (no_frame f) = no_frame (refused_cut f)
-  read_cut (no_token f _) = has_no_frame f
-  read_cut (no_lines f _ _) = has_no_frame f
-  read_cut (no_name f _ _ _) = has_no_frame f
-  read_cut (reads f _ _ _ _) = has_no_frame f
-
-reads_whole : (table : Table) (text : List ℕ) (r : Result Proof ProofFault) → ReadsProof table (take (max_proof + 1) text) r → ReadsProof table text r
+reads_whole : (table : Table) (text : List ℕ) (r : Result Proof ProofFault) → IsReading table (take (max_proof + 1) text) r → IsReading table text r
 reads_whole table text r h = go (leb_tells (max_proof + 1) (length text))
   where
-    go : ((nat_le (max_proof + 1) (length text) ≡ true) × (max_proof + 1 ≤ length text)) ⊎ ((nat_le (max_proof + 1) (length text) ≡ false) × (length text < max_proof + 1)) → ReadsProof table text r
-    go (inl p) = read_cut text p.1 h
-    go (inr p) = subst (λ t. ReadsProof table t r) (take_all (max_proof + 1) text (omega (arith, p.1))) h
+    go : ((nat_le (max_proof + 1) (length text) ≡ true) × (max_proof + 1 ≤ length text)) ⊎ ((nat_le (max_proof + 1) (length text) ≡ false) × (length text < max_proof + 1)) → IsReading table text r
+    go (inl p) = read_cut text p.1 table r h
+    go (inr p) = subst (λ t. IsReading table t r) (take_all (max_proof + 1) text (omega (arith, p.1))) h
 
 answers_whole : (table : Table) (clauses : List Sourced) (marks : Option Fresh) (name text : List ℕ) (status : ℕ) (answer : List ℕ) → TextAnswers table clauses marks name (take (max_proof + 1) text) status answer → TextAnswers table clauses marks name text status answer
-answers_whole table clauses marks name text status answer (is_not_read r) = is_not_read (reads_whole table text _ r)
-answers_whole table clauses marks name text status answer (is_checked r c) = is_checked (reads_whole table text _ r) c
+answers_whole table clauses marks name text status answer (is_not_read {why = why} r n) = is_not_read (reads_whole table text (Err why) r) n
+answers_whole table clauses marks name text status answer (is_checked {proof = proof} r c) = is_checked (reads_whole table text (Ok proof) r) c
 
 -- what a fetch of the proof file answers
 pub not_utf8 : (holds : Option Files) (before now : ℕ) (name : List ℕ) → (IsUtf8 name → ⊥) → IsProofFetched holds before now name Absent
@@ -120,17 +120,8 @@ one_line (Ok answer) P status line h p = rw (h.0, h.1) p
 one_line (Err fault) P status line h p = tt
 
 -- the answer where the proof isn't read
-not_read : (table : Table) (text : List ℕ) (why : ProofFault) → (why ≡ NoMemory → ⊥) → IsReading table text (Err why) → ReadsProof table text (Err why)
-not_read table text (Syntax p) n h = h
-not_read table text (UnknownRule p) n h = h
-not_read table text (UnknownName p) n h = h
-not_read table text Truncated n h = h
-not_read table text (RepeatedName p) n h = h
-not_read table text (Limit w p) n h = h
-not_read table text NoMemory n h = absurd (n refl)
-
 pub unread : (table : Table) (clauses : List Sourced) (marks : Option Fresh) (name text : List ℕ) (why : ProofFault) (r : Result Answer AllocError) → IsReading table text (Err why) → IfOk r (λ answer. (answer.status ≡ 3) × (joined answer.lines ≡ proof_line name why)) → IfOk r (λ _. why ≡ NoMemory → ⊥) → IfOk r (λ answer. TextAnswers table clauses marks name text answer.status (joined answer.lines))
-unread table clauses marks name text why (Ok answer) h line n = one_line (Ok answer) (TextAnswers table clauses marks name text) 3 (proof_line name why) line (is_not_read (not_read table text why n h))
+unread table clauses marks name text why (Ok answer) h line n = one_line (Ok answer) (TextAnswers table clauses marks name text) 3 (proof_line name why) line (is_not_read h n)
 unread table clauses marks name text why (Err fault) h line n = tt
 
 -- the answer to what was fetched
@@ -231,8 +222,8 @@ refused_not_done Q why (Ok answer) line = λ e. absurd (isnt_done why (sym line.
 refused_not_done Q why (Err fault) line = tt
 
 -- what stands behind an answer with status 0
-text_proof : (table : Table) (clauses : List Sourced) (marks : Option Fresh) (name text : List ℕ) (status : ℕ) (answer : List ℕ) → status ≡ 0 → TextAnswers table clauses marks name text status answer → (proof : Proof) × ReadsProof table text (Ok proof) × IsChecked clauses marks proof.lines Accepted
-text_proof table clauses marks name text status answer e (is_not_read r) = absurd (omega (arith, e))
+text_proof : (table : Table) (clauses : List Sourced) (marks : Option Fresh) (name text : List ℕ) (status : ℕ) (answer : List ℕ) → status ≡ 0 → TextAnswers table clauses marks name text status answer → (proof : Proof) × IsReading table text (Ok proof) × IsChecked clauses marks proof.lines Accepted
+text_proof table clauses marks name text status answer e (is_not_read r n) = absurd (omega (arith, e))
 text_proof table clauses marks name text status answer e (is_checked {proof = proof} {answer = Accepted} r c) = (proof, r, c)
 text_proof table clauses marks name text status answer e (is_checked {answer = Rejected line cause} r c) = absurd (omega (arith, e))
 
@@ -242,7 +233,7 @@ accepted_parts clauses marks lines checked e (rejected f) = absurd (cc e)
 accepted_parts clauses marks lines checked e (no_line f) = absurd (cc e)
 accepted_parts clauses marks lines checked e (no_refutation r l f) = absurd (cc e)
 
-proof_of : (table : Table) (files : Files) (before now : ℕ) (clauses : List Sourced) (marks : Option Fresh) (name : List ℕ) (status : ℕ) (answer : List ℕ) → status ≡ 0 → ProofAnswers table (Some files) before now clauses marks name status answer → (text : List ℕ) × (held files name ≡ Some text) × (proof : Proof) × ReadsProof table text (Ok proof) × IsChecked clauses marks proof.lines Accepted
+proof_of : (table : Table) (files : Files) (before now : ℕ) (clauses : List Sourced) (marks : Option Fresh) (name : List ℕ) (status : ℕ) (answer : List ℕ) → status ≡ 0 → ProofAnswers table (Some files) before now clauses marks name status answer → (text : List ℕ) × (held files name ≡ Some text) × (proof : Proof) × IsReading table text (Ok proof) × IsChecked clauses marks proof.lines Accepted
 proof_of table files before now clauses marks name status answer e (is_absent h) = absurd (omega (arith, e))
 proof_of table files before now clauses marks name status answer e (isnt_fetched r) = absurd (omega (arith, e))
 proof_of table files before now clauses marks name status answer e (is_found {text = text} h a) = let p = text_proof table clauses marks name text status answer e a in (text, h, p.0, p.1, p.2)
@@ -260,7 +251,7 @@ has_proof table files before now root name proof problem status answer e h f (is
       text = p.0;
       has_text = p.1;
       proof = p.2;
-      reads = p.3;
+      reads = p.3.1;
       are_right = parts.0;
       refutes = parts.1;
       follows = f;

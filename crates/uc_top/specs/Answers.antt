@@ -20,7 +20,8 @@ use Rattle.uc_problem.specs.Holds.{Holds, Refuses}
 use Rattle.uc_problem.specs.Marks.{Marks}
 use Rattle.uc_tstp.specs.declared.fault.ProofFault.{ProofFault}
 use Rattle.uc_tstp.specs.Framing.{max_proof}
-use Rattle.uc_tstp.specs.Reading.{ReadsProof}
+use Rattle.uc_tstp.specs.declared.fault.ProofFault.TheVariants.{NoMemory}
+use Rattle.uc_tstp.specs.Reading.{IsReading}
 use Rattle.uc_check.specs.declared.checker.Checked.{Checked}
 use Rattle.uc_check.specs.declared.checker.Checked.TheVariants.{Accepted, Rejected}
 use Rattle.uc_check.specs.declared.proof.Proof.{Proof}
@@ -72,8 +73,8 @@ module _ (table : Table) where
   -- the answer to `check` for the clauses and the encoding's symbols of a problem and for the text of a proof file of this name
   module _ (clauses : List Sourced) (marks : Option Fresh) (name text : List ℕ) where
     pub data TextAnswers : ℕ → List ℕ → Type 0 where
-      is_not_read : {why : ProofFault} → ReadsProof table text (Err why) → TextAnswers 3 (proof_line name why)
-      is_checked : {proof : Proof} {answer : Checked} → ReadsProof table text (Ok proof) → IsChecked clauses marks proof.lines answer → TextAnswers (checked_status answer) (checked_line proof.lines answer)
+      is_not_read : {why : ProofFault} → IsReading table text (Err why) → (why ≡ NoMemory → ⊥) → TextAnswers 3 (proof_line name why)
+      is_checked : {proof : Proof} {answer : Checked} → IsReading table text (Ok proof) → IsChecked clauses marks proof.lines answer → TextAnswers (checked_status answer) (checked_line proof.lines answer)
 
   -- The library's files are these, where it tells them, and its count of faults was and is this.
   module _ (holds : Option Files) (before now : ℕ) where

@@ -8,7 +8,7 @@ ghost use Rattle.uc_edge.specs.Files.{Files};
 ghost use Rattle.uc_check.specs.Clauses.{axioms_of, goals_of, AreFresh, HasGoalIfEncoded};
 ghost use Rattle.uc_problem.specs.Holds.{Agrees};
 ghost use Rattle.uc_problem.specs.declared.fault.LoadFault.TheVariants.{Clause};
-ghost use Rattle.uc_tstp.specs.Reading.{ReadsProof};
+ghost use Rattle.uc_tstp.specs.Reading.{IsReading};
 ghost use Rattle.uc_top.specs.Lines.{joined, load_line, proof_line};
 ghost use Rattle.uc_top.specs.Answers.{load_status, large_line, checked_status, IsProofFetched, TextAnswers, ProofAnswers, ProblemAnswers, CheckAnswers};
 ghost use Rattle.uc_top.specs.Runs.{HasProof};
@@ -238,7 +238,7 @@ fn checked_answer(
     requires fresh { AreFresh (option_copied marks) clauses.now }
     requires has_goal { HasGoalIfEncoded (option_copied marks) clauses.now }
     requires few { length proof.now.lines < 2 ^ 31 }
-    ensures answers { (name text : List ℕ) (table : Table) → ReadsProof table text (Ok proof.now) → IfOk result (λ answer. TextAnswers table clauses.now (option_copied marks.entry) name text answer.status (joined answer.lines)) }
+    ensures answers { (name text : List ℕ) (table : Table) → IsReading table text (Ok proof.now) → IfOk result (λ answer. TextAnswers table clauses.now (option_copied marks.entry) name text answer.status (joined answer.lines)) }
     ensures follows { IfOk result (λ answer. answer.status ≡ 0 → SomeFollows (axioms_of clauses.now) (goals_of clauses.now)) }
 {
     let checked = check(alloc, clauses, marks, proof)?;
