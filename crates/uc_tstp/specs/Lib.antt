@@ -5,3 +5,4 @@ pub mod Meaning
 pub mod Drafts
 pub mod Parts
 pub mod Reading
+pub mod Printing

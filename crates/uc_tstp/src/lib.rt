@@ -10,6 +10,7 @@ mod framing;
 mod lines;
 mod lists;
 mod names;
+mod printing;
 mod reading;
 mod sources;
 mod steps;
@@ -19,4 +20,5 @@ mod words;
 
 pub use fault::ProofFault;
 pub use framing::{Frame, MAX_PROOF, frame_of};
+pub use printing::print_proof;
 pub use reading::read_proof;
