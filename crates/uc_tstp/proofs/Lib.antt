@@ -8,3 +8,5 @@ pub mod StepEnds
 pub mod LineParts
 pub mod LineLoop
 pub mod SourceReading
+pub mod Unknowns
+pub mod Resolved

@@ -6,3 +6,4 @@ pub mod Drafts
 pub mod Parts
 pub mod Reading
 pub mod Printing
+pub mod Resolving
