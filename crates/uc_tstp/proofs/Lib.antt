@@ -10,3 +10,6 @@ pub mod LineLoop
 pub mod SourceReading
 pub mod Unknowns
 pub mod Resolved
+pub mod Meant
+pub mod Places
+pub mod Readings

@@ -7,3 +7,4 @@ pub mod Parts
 pub mod Reading
 pub mod Printing
 pub mod Resolving
+pub mod Faults

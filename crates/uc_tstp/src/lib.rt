@@ -12,6 +12,7 @@ mod lists;
 mod names;
 mod printing;
 mod reading;
+mod refusal;
 mod resolving;
 mod sources;
 mod steps;

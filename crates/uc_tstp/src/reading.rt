@@ -1,13 +1,23 @@
 //! Reading a proof.
 
-ghost use Rattle.std.specs.Prelude.{◌≡◌, ◌<◌, ◌^◌, length, IfOk};
-ghost use Rattle.uc_term.specs.Table.{Grows};
-ghost use Rattle.uc_tstp.specs.Reading.{IsReading};
+ghost use Rattle.std.specs.Prelude.{◌≡◌, ◌<◌, ◌^◌, Ok, length, IfOk};
+ghost use Rattle.uc_term.specs.Table.{Table, Grows};
+ghost use Rattle.uc_clause.specs.Tokens.{AreTokens};
+ghost use Rattle.uc_tstp.specs.Framing.{Framed};
+ghost use Rattle.uc_tstp.specs.Drafts.{AreLines};
+ghost use Rattle.uc_tstp.specs.Faults.{StandsIn};
+ghost use Rattle.uc_tstp.specs.Reading.{inside, IsReading};
 
-use crate::ProofFault;
+use crate::drafts::LineDraft;
+use crate::lines::lines_in;
+use crate::names::Names;
+use crate::refusal::{line_fault, name_fault, token_fault};
+use crate::resolving::resolved;
+use crate::{Frame, ProofFault, frame_of};
 use std::alloc::Global;
 use uc_check::Proof;
-use uc_term::Symbols;
+use uc_clause::{Token, tokens};
+use uc_term::{Seq, Symbols};
 
 /// Reads the proof that stands in a text between a start line and the first end line behind it.
 ///
@@ -24,5 +34,51 @@ pub fn read_proof(alloc: Global, bytes: &[u8], symbols: &mut Symbols) -> Result<
     ensures few { IfOk result (λ proof. length proof.lines < 2 ^ 31) }
     ensures grows { Grows symbols.old symbols.new }
 {
-    Err(ProofFault::NoMemory)
+    let frame = frame_of(bytes)?;
+    match tokens(alloc, &bytes[frame.from..frame.to]) {
+        Ok(list) => proof_in(alloc, bytes, frame, list.as_slice(), symbols),
+        Err(fault) => Err(token_fault(bytes, frame, fault)),
+    }
+}
+
+// Reads the proof that the tokens of the frame are.
+fn proof_in(
+    alloc: Global,
+    bytes: &[u8],
+    frame: Frame,
+    tokens: &[Token],
+    symbols: &mut Symbols,
+) -> Result<Proof, ProofFault>
+    requires frame { StandsIn bytes.now frame }
+    requires framed { Framed bytes.now (Ok frame) }
+    requires tokens { AreTokens (inside bytes.now frame) tokens.now }
+    ensures reading { IsReading symbols.new bytes.now result }
+    ensures few { IfOk result (λ proof. length proof.lines < 2 ^ 31) }
+    ensures grows { Grows symbols.old symbols.new }
+{
+    match lines_in(alloc, &bytes[frame.from..frame.to], tokens, symbols) {
+        Ok((names, drafts)) => proof_of(alloc, bytes, frame, tokens, &names, drafts),
+        Err(stop) => Err(line_fault(bytes, frame, tokens, stop)),
+    }
+}
+
+// The proof of lines of these names.
+fn proof_of(
+    alloc: Global,
+    bytes: &[u8],
+    frame: Frame,
+    tokens: &[Token],
+    names: &Names,
+    drafts: Seq<LineDraft>,
+) -> Result<Proof, ProofFault>
+    requires frame { StandsIn bytes.now frame }
+    requires framed { Framed bytes.now (Ok frame) }
+    requires tokens { AreTokens (inside bytes.now frame) tokens.now }
+    ensures reading { (table : Table) → AreLines (inside bytes.now frame) tokens.now table names.now drafts → IsReading table bytes.now result }
+    ensures few { IfOk result (λ proof. length proof.lines ≡ length drafts) }
+{
+    match resolved(alloc, &bytes[frame.from..frame.to], tokens, names, drafts) {
+        Ok(lines) => Ok(Proof { lines }),
+        Err(unresolved) => Err(name_fault(bytes, frame, tokens, unresolved)),
+    }
 }
