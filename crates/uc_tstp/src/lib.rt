@@ -14,6 +14,8 @@ mod printing;
 mod reading;
 mod refusal;
 mod resolving;
+#[cfg(test)]
+mod source_tests;
 mod sources;
 mod steps;
 #[cfg(test)]
