@@ -5,6 +5,8 @@ mod checking;
 mod lines;
 mod output;
 mod program;
+#[cfg(test)]
+mod tests;
 
 pub use output::tell_memory_out;
 pub use program::run;

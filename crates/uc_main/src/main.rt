@@ -1,0 +1,37 @@
+//! The program `uc`: the words of its command line, the files of the system and the standard output, given to `run`.
+#![tactic(auto)]
+
+mod outside;
+#[cfg(test)]
+mod tests;
+
+use outside::{FileLibrary, OutSink};
+use std::io::ErrorKind;
+use std::process::ExitCode;
+use std::rt::Env;
+use std::{env, io};
+use uc_edge::NoGate;
+use uc_top::{run, tell_memory_out};
+
+// The words after the program's name.
+fn words(rt: &(impl Env + AllocGlobal)) -> io::Result<Vec<String>> {
+    let mut words = Vec::new(rt.alloc());
+    for word in env::args(rt)?.skip(1) {
+        words.push(word)?;
+    }
+    Ok(words)
+}
+
+fn main(rt: HostRuntime) -> ExitCode {
+    let mut library = FileLibrary::new(&rt);
+    let mut sink = OutSink::new(&rt);
+    let words = match words(&rt) {
+        Ok(words) => words,
+        Err(fault) if fault.kind() == ErrorKind::OutOfMemory => {
+            return ExitCode::from(tell_memory_out(&mut sink));
+        }
+        // A word that isn't text has no reading, and neither have no words.
+        Err(_) => Vec::new(rt.alloc()),
+    };
+    ExitCode::from(run(&rt, rt.alloc(), &words, &mut library, &mut sink, &NoGate))
+}
