@@ -13,3 +13,9 @@ pub mod Resolved
 pub mod Meant
 pub mod Places
 pub mod Readings
+pub mod Outcomes
+pub mod FramedOnce
+pub mod LinesOnce
+pub mod NamesOnce
+pub mod MeantOnce
+pub mod ReadingOnce

@@ -7,6 +7,7 @@ mod bodies;
 mod drafts;
 mod fault;
 mod framing;
+mod laws;
 mod lines;
 mod lists;
 mod names;
@@ -24,5 +25,6 @@ mod words;
 
 pub use fault::ProofFault;
 pub use framing::{Frame, MAX_PROOF, frame_of};
+pub use laws::one_reading;
 pub use printing::print_proof;
 pub use reading::read_proof;
