@@ -12,6 +12,8 @@ mod locating;
 mod marking;
 mod problem;
 mod selection;
+#[cfg(test)]
+mod tests;
 
 pub use counts::Counts;
 pub use fault::{EncodeFault, LoadFault};

@@ -1,0 +1,185 @@
+use crate::{EncodeFault, LoadFault, Problem, load, marks};
+use std::alloc::{AllocError, Global};
+use std::test::Fail;
+use uc_clause::{ClauseFault, Place};
+use uc_edge::MemoryLibrary;
+use uc_term::{Fresh, Symbols, Text};
+
+const FILES: [(&str, &str); 9] = [
+    ("p/inc.ax", "cnf(k1, axiom, a = b).\ncnf(k2, axiom, b = c)."),
+    ("r/more.ax", "cnf(k3, axiom, f(a) = b)."),
+    (
+        "p/good.p",
+        "include('inc.ax',[k2]). include('more.ax').\ncnf(g, negated_conjecture, a != c).",
+    ),
+    ("p/open.p", "cnf(g, negated_conjecture, f(X) != Y)."),
+    ("p/clash.p", "cnf(c1, axiom, f(a) = f(a,b))."),
+    ("p/absent.p", "\ninclude('no.ax')."),
+    ("p/names.p", "include('inc.ax',[k2,k3])."),
+    ("p/deep.p", "include('deep.p')."),
+    ("p/bad.p", "cnf(c, axiom, a = b)"),
+];
+
+fn text(alloc: Global, text: &str) -> Result<Text, AllocError> {
+    Text::from_bytes(alloc, text.as_bytes())
+}
+
+fn library(alloc: Global, failing: u32) -> Result<MemoryLibrary, AllocError> {
+    let mut files = Vec::new(alloc);
+    for (name, bytes) in FILES {
+        files.push((text(alloc, name)?, text(alloc, bytes)?))?;
+    }
+    MemoryLibrary::new(alloc, files, vec![in alloc; failing]?)
+}
+
+// what loading came to: a letter, and for a problem how many axioms, goals and symbols there are and whether one was added, for
+// a refusal its place and the arities
+type Told = (char, u64, u64, u64, u64);
+
+fn told_problem(problem: &Problem) -> Told {
+    (
+        'p',
+        problem.axioms.len() as u64,
+        problem.goals.len() as u64,
+        problem.signature.symbols.len() as u64,
+        u64::from(problem.signature.least_is_fresh),
+    )
+}
+
+fn at(letter: char, place: Place) -> Told {
+    (letter, u64::from(place.line), u64::from(place.column), 0, 0)
+}
+
+fn told_fault(fault: &LoadFault) -> Told {
+    match fault {
+        LoadFault::Absent { from: None, .. } => ('-', 0, 0, 0, 0),
+        LoadFault::Absent {
+            from: Some(from),
+            ..
+        } => at('-', from.1),
+        LoadFault::ReadFault { .. } => ('!', 0, 0, 0, 0),
+        LoadFault::TooDeep { place, .. } => at('d', *place),
+        LoadFault::NoSuchName { place, .. } => at('n', *place),
+        LoadFault::ArityClash {
+            place,
+            first,
+            second,
+            ..
+        } => (
+            'a',
+            u64::from(place.line),
+            u64::from(place.column),
+            u64::from(*first),
+            u64::from(*second),
+        ),
+        LoadFault::Limit { place, .. } => at('l', *place),
+        LoadFault::Clause {
+            fault: ClauseFault::Syntax(place),
+            ..
+        } => at('s', *place),
+        LoadFault::Clause { .. } => ('c', 0, 0, 0, 0),
+        LoadFault::NoMemory => ('m', 0, 0, 0, 0),
+    }
+}
+
+fn told(alloc: Global, name: &str, failing: u32) -> Result<Told, AllocError> {
+    let mut library = library(alloc, failing)?;
+    let mut symbols = Symbols::new(alloc);
+    match load(
+        alloc,
+        &mut library,
+        Some(b"r"),
+        name.as_bytes(),
+        &mut symbols,
+    ) {
+        Ok(problem) => Ok(told_problem(&problem)),
+        Err(fault) => Ok(told_fault(&fault)),
+    }
+}
+
+// one row a problem: its name, which fetch fails, and what it comes to
+#[test]
+fn problems(rt: HostRuntime) -> Result<(), Fail> {
+    for (name, failing, wanted) in [
+        ("p/good.p", 0, ('p', 2, 1, 4, 0)),
+        ("p/good.p", 1, ('!', 0, 0, 0, 0)),
+        ("p/good.p", 3, ('!', 0, 0, 0, 0)),
+        ("p/open.p", 0, ('p', 0, 1, 2, 1)),
+        ("p/clash.p", 0, ('a', 1, 23, 1, 2)),
+        ("p/absent.p", 0, ('-', 2, 1, 0, 0)),
+        ("p/names.p", 0, ('n', 1, 22, 0, 0)),
+        ("p/deep.p", 0, ('d', 1, 1, 0, 0)),
+        ("p/bad.p", 0, ('s', 1, 21, 0, 0)),
+        ("good.p", 0, ('-', 0, 0, 0, 0)),
+    ] {
+        assert!(rt;
+            told(rt.alloc(), name, failing)? == wanted,
+            "{name} {failing}"
+        );
+    }
+    Ok(())
+}
+
+// a problem with one goal: so many `f` round a term, and the other side
+fn goal(alloc: Global, nested: usize, inner: &str, other: &str) -> Result<Text, AllocError> {
+    let mut bytes = text(alloc, "cnf(g, negated_conjecture, ")?;
+    for _ in 0..nested {
+        bytes.extend(b"f(")?;
+    }
+    bytes.extend(inner.as_bytes())?;
+    for _ in 0..nested {
+        bytes.extend(b")")?;
+    }
+    bytes.extend(b" != ")?;
+    bytes.extend(other.as_bytes())?;
+    bytes.extend(b").")?;
+    Ok(bytes)
+}
+
+// what `marks` came to: no symbols, those of these names or others, or a goal that is too large
+fn marked(alloc: Global, bytes: Text, eq: &str, no: &str) -> Result<char, AllocError> {
+    let files = vec![in alloc; (text(alloc, "g.p")?, bytes)]?;
+    let mut library = MemoryLibrary::new(alloc, files, Vec::new(alloc))?;
+    let mut symbols = Symbols::new(alloc);
+    let Ok(problem) = load(alloc, &mut library, None, b"g.p", &mut symbols) else {
+        return Ok('!');
+    };
+    match marks(alloc, &problem, &mut symbols) {
+        Ok(None) => Ok('-'),
+        Ok(Some(marks)) => Ok(if are_named(marks, &symbols, eq, no) {
+            'y'
+        } else {
+            'n'
+        }),
+        Err(EncodeFault::GoalTooLarge(0)) => Ok('l'),
+        Err(_) => Ok('!'),
+    }
+}
+
+fn are_named(marks: Fresh, symbols: &Symbols, eq: &str, no: &str) -> bool {
+    symbols.find(eq.as_bytes(), 2) == Some(marks.eq)
+        && symbols.find(b"true", 0) == Some(marks.yes)
+        && symbols.find(no.as_bytes(), 0) == Some(marks.no)
+}
+
+// one row a goal: its sides, two of the names, and what comes
+#[test]
+fn symbols_of_the_encoding(rt: HostRuntime) -> Result<(), Fail> {
+    let alloc = rt.alloc();
+    for (nested, inner, other, eq, no, wanted) in [
+        (1, "a", "b", "", "", '-'),
+        (1, "X", "b", "eq", "false", 'y'),
+        (1, "a", "X", "eq", "false", 'y'),
+        (1, "X", "eq(false,eq_1)", "eq_2", "false_1", 'y'),
+        (4093, "X", "Y", "eq", "false", 'y'),
+        (4094, "X", "Y", "", "", 'l'),
+        (4094, "a", "b", "", "", '-'),
+    ] {
+        let bytes = goal(alloc, nested, inner, other)?;
+        assert!(rt;
+            marked(alloc, bytes, eq, no)? == wanted,
+            "{nested} {inner} {other}"
+        );
+    }
+    Ok(())
+}
