@@ -13,6 +13,8 @@ mod lists;
 mod names;
 mod printing;
 mod reading;
+#[cfg(test)]
+mod reading_tests;
 mod refusal;
 mod resolving;
 #[cfg(test)]
