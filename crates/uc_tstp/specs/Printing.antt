@@ -77,9 +77,13 @@ module _ (table : Table) (names : List (List ℕ)) where
   lines_text (file ∷ files) (line ∷ lines) = line_text file line ++ lines_text files lines
   lines_text files lines = []
 
+-- a start or end line: its words, and the name of the proof
+abbrev pub border_text : List ℕ → List ℕ → List ℕ
+border_text words name = words ++ name ++ codes "\n"
+
 -- the proof of this name
 abbrev pub proof_text : Table → List ℕ → List (List ℕ) → List Line → List ℕ
-proof_text table name file_of lines = start_words ++ name ++ codes "\n" ++ lines_text table (names_in lines) file_of lines ++ end_words ++ name ++ codes "\n"
+proof_text table name file_of lines = border_text start_words name ++ lines_text table (names_in lines) file_of lines ++ border_text end_words name
 
 -- each is the number of one of so many lines
 abbrev pub AreNumbers : ℕ → List ℕ → Type 0

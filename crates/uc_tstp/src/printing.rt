@@ -5,7 +5,10 @@ ghost use Rattle.std.specs.List.{AllByRecursion};
 ghost use Rattle.uc_term.specs.Table.{IsOf};
 ghost use Rattle.uc_clause.specs.Names.{spelling, name_spelling};
 ghost use Rattle.uc_clause.specs.Printing.{term_text, role_text};
-ghost use Rattle.uc_tstp.specs.Printing.{proof_text, lines_text, line_text, body_text, source_text, inference_text, replacement_text, step_text, line_name, path_text, way_text, role_of, is_refutation, names_in, listed, further, AreNumbers, IsStepOf, IsSourceOf, IsLineOf, AreLinesOf};
+ghost use Rattle.uc_tstp.specs.Printing.{border_text, proof_text, lines_text, line_text, body_text, source_text, inference_text, replacement_text, step_text, line_name, path_text, way_text, role_of, is_refutation, names_in, listed, further, AreNumbers, IsStepOf, IsSourceOf, IsLineOf, AreLinesOf};
+
+#[cfg(test)]
+mod tests;
 
 use itoa::Buffer;
 use std::alloc::{AllocError, Global};
@@ -13,7 +16,11 @@ use uc_check::{Line, LineSource, LineStep, Proof};
 use uc_clause::{Name, print_equation, print_name, print_term, print_word};
 use uc_term::{Symbols, Term, Text};
 
-/// A proof of this name as a text, from its start line to its end line, with one file name for each of its lines.
+/// A proof of this name as a text, from its start line to its end line, each line of the proof on a line of its own.
+/// `file_of` has one file name for each line of the proof, and each number of a line in it must be that of one of its lines.
+///
+/// Names and files stand bare where they are lower-case words and else in quotes, variable `n` is `X` and `n + 1`, and terms
+/// and paths have no spaces.
 pub fn print_proof(
     alloc: Global,
     proof: &Proof,
@@ -26,14 +33,19 @@ pub fn print_proof(
     ensures text { IfOk result (λ text. text ≡ proof_text symbols.now name.now file_of.now proof.now.lines) }
 {
     let mut out = Text::new(alloc);
-    out.extend(b"% SZS output start CNFRefutation for ")?;
-    out.extend(name)?;
-    out.extend(b"\n")?;
+    write_border(&mut out, b"% SZS output start CNFRefutation for ", name)?;
     write_lines(alloc, &mut out, file_of, proof.lines.as_slice(), symbols)?;
-    out.extend(b"% SZS output end CNFRefutation for ")?;
-    out.extend(name)?;
-    out.extend(b"\n")?;
+    write_border(&mut out, b"% SZS output end CNFRefutation for ", name)?;
     Ok(out)
+}
+
+// A start or end line: its words, and the name of the proof.
+fn write_border(out: &mut Text, words: &[u8], name: &[u8]) -> Result<(), AllocError>
+    ensures { OnOk result (out.new ≡ out.old ++ border_text words.now name.now) }
+{
+    out.extend(words)?;
+    out.extend(name)?;
+    out.extend(b"\n")
 }
 
 fn write_lines(
