@@ -10,3 +10,8 @@ pub mod Problems
 pub mod Sides
 pub mod OpenGoals
 pub mod FreshMarks
+pub mod Outcomes
+pub mod ReadsOnce
+pub mod LoadsOnce
+pub mod SignatureOnce
+pub mod HoldsOnce

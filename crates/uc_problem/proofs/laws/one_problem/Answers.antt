@@ -1,0 +1,14 @@
+use Rattle.uc_problem.proofs.HoldsOnce.{problem_is_once, refusal_is_once, held_or_refused, marks_once}
+use Rattle.uc_problem.proofs.laws.one_problem.Goals as goal
+
+pub returns-clause-problem : goal.returns-clause-problem
+returns-clause-problem c table files root name a b distinct x y = problem_is_once table distinct files root name a b x y
+
+pub returns-clause-refusal : goal.returns-clause-refusal
+returns-clause-refusal c table files root name a b distinct x y = refusal_is_once table distinct files root name x y
+
+pub returns-clause-never_both : goal.returns-clause-never_both
+returns-clause-never_both c table files root name held why distinct x y = held_or_refused table distinct files root name x y
+
+pub returns-clause-marks : goal.returns-clause-marks
+returns-clause-marks c table problem a b distinct x y = marks_once table distinct problem a b x y
