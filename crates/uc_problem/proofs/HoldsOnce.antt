@@ -1,12 +1,11 @@
 -- A library holds one problem under a name, or refuses it for one reason.
-use Rattle.std.proofs.Common.{◌≡◌, ℕ, true, false, List, [], slice_get, Option, Some, None, Result, Ok, Err, refl, sym, ap, ◌∙◌, subst}
+use Rattle.std.proofs.Common.{◌≡◌, ℕ, true, false, List, [], slice_get, Option, Some, Result, Ok, Err, refl, sym, ap, ◌∙◌, subst}
 use Rattle.uc_term.specs.declared.node.Sym.{Sym}
 use Rattle.uc_term.specs.declared.node.Pos.{Pos}
 use Rattle.uc_term.specs.declared.node.Node.{Node}
 use Rattle.uc_term.specs.declared.node.Node.TheVariants.{App}
 use Rattle.uc_term.specs.declared.fault.TermFault.{TermFault}
 use Rattle.uc_term.specs.declared.fault.TermFault.TheVariants as of_terms
-use Rattle.uc_term.specs.declared.fresh.Fresh.{Fresh}
 use Rattle.uc_term.specs.Flat.{flat}
 use Rattle.uc_term.specs.Table.{Table, IsDistinct}
 use Rattle.uc_term.specs.Signatures.{Gathers, occurrences_of, IsSignatureOf}
@@ -19,11 +18,10 @@ use Rattle.uc_problem.specs.declared.fault.LoadFault.{LoadFault}
 use Rattle.uc_problem.specs.Candidates.{folder_of}
 use Rattle.uc_problem.specs.Loading.{Loaded}
 use Rattle.uc_problem.specs.Holds.{ReadsAs, Flattens, terms_of, numbers_of, located, Holds, Refuses, is_not_flat, has_clash, has_too_many}
-use Rattle.uc_problem.specs.Marks.{Marks}
-use Rattle.uc_problem.proofs.Outcomes.{yes_or_no, some_once, err_once, ok_or_err, first_once, second_once}
+use Rattle.uc_problem.proofs.Outcomes.{some_once, err_once, ok_or_err, first_once, second_once}
 use Rattle.uc_problem.proofs.ReadsOnce.{reads_once}
 use Rattle.uc_problem.proofs.LoadsOnce.{given_once, problem_once}
-use Rattle.uc_problem.proofs.SignatureOnce.{gathers_once, fresh_once, signature_once}
+use Rattle.uc_problem.proofs.SignatureOnce.{gathers_once, signature_once}
 
 same_clash : {a b c d i j : ℕ} {p q : Pos} → Path (Result (List Sym) TermFault) (Err (of_terms.ArityClash a p c d)) (Err (of_terms.ArityClash b q i j)) → (b ≡ a) × (q ≡ p) × (c ≡ i) × (d ≡ j)
 same_clash e = (cc, cc, cc, cc)
@@ -93,14 +91,3 @@ module _ (table : Table) (distinct : IsDistinct table) where
     held_or_refused x (is_not_flat y) = ok_or_err (flat_once x.flat y)
     held_or_refused x (has_clash y g t n l) = ok_or_err (gathered_once x.flat y x.agrees.signature.gathers g)
     held_or_refused x (has_too_many y g l) = ok_or_err (gathered_once x.flat y x.agrees.signature.gathers g)
-
-  pub marks_once : (problem : Problem) (a b : Option Fresh) → Marks table problem (Ok a) → Marks table problem (Ok b) → a ≡ b
-  marks_once problem None None x y = refl
-  marks_once problem None (Some b) x y = absurd (yes_or_no y.0 x)
-  marks_once problem (Some a) None x y = absurd (yes_or_no x.0 y)
-  marks_once problem (Some a) (Some b) x y =
-      let eqs : a.eq ≡ b.eq = fresh_once table distinct x.2.eq y.2.eq in
-      let yeses : a.yes ≡ b.yes = fresh_once table distinct x.2.yes y.2.yes in
-      let noes : a.no ≡ b.no = fresh_once table distinct x.2.no y.2.no in
-      let all : record { eq = a.eq; yes = a.yes; no = a.no } ≡ (let m : Fresh = record { eq = b.eq; yes = b.yes; no = b.no } in m) = rw (eqs, yeses, noes) refl in
-      ap Some all

@@ -15,3 +15,4 @@ pub mod ReadsOnce
 pub mod LoadsOnce
 pub mod SignatureOnce
 pub mod HoldsOnce
+pub mod MarksOnce

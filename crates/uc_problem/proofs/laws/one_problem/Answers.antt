@@ -1,4 +1,5 @@
-use Rattle.uc_problem.proofs.HoldsOnce.{problem_is_once, refusal_is_once, held_or_refused, marks_once}
+use Rattle.uc_problem.proofs.HoldsOnce.{problem_is_once, refusal_is_once, held_or_refused}
+use Rattle.uc_problem.proofs.MarksOnce.{marks_once, large_once, marked_or_large}
 use Rattle.uc_problem.proofs.laws.one_problem.Goals as goal
 
 pub returns-clause-problem : goal.returns-clause-problem
@@ -11,4 +12,10 @@ pub returns-clause-never_both : goal.returns-clause-never_both
 returns-clause-never_both c table files root name held why distinct x y = held_or_refused table distinct files root name x y
 
 pub returns-clause-marks : goal.returns-clause-marks
-returns-clause-marks c table problem a b distinct x y = marks_once table distinct problem a b x y
+returns-clause-marks c table problem a b distinct x y = marks_once table problem distinct a b x y
+
+pub returns-clause-too_large : goal.returns-clause-too_large
+returns-clause-too_large c table problem a b x y = large_once table problem a b x y
+
+pub returns-clause-marked_or_not : goal.returns-clause-marked_or_not
+returns-clause-marked_or_not c table problem marks number x y = marked_or_large table problem marks number x y
