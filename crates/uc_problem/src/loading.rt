@@ -23,10 +23,12 @@ use uc_term::{Seq, Symbols, Text};
 /// the problem file and then in the root, where one is given, and under a name that begins with a slash as it stands. A
 /// selection keeps the clauses of the listed names in the file's order.
 ///
-/// The first refusal in this order is answered: `Absent`, `ReadFault` where the library failed and its count of faults rose,
-/// `Clause` for a file that isn't read, `Limit` at the 10,001st clause and at the 257th included file, `TooDeep` at an include
-/// in a file that is nested 16 deep, `NoSuchName` at the first listed name that the file doesn't give, and at last
-/// `ArityClash` at the first name with two arities and `Limit` at the 60,001st symbol, whichever is first.
+/// The first refusal in the order of loading is answered. A fetch answers `ReadFault` where the library failed and its count of
+/// faults rose, and `Absent` where there is no such file. A file that isn't read answers `Clause` before all its items. A clause
+/// answers `Limit` where it is the 10,001st. An include answers `TooDeep` in a file that is nested 16 deep, then `Limit` where
+/// it is the 257th included file, then what its fetches answer, one after the other up to the first file that is there, then
+/// what the included file answers, and then `NoSuchName` at the first listed name that the file doesn't give. At last the
+/// signature answers `ArityClash` at the first name with two arities or `Limit` at the 60,001st symbol, whichever is first.
 pub fn load<L: Library>(
     alloc: Global,
     library: &mut L,

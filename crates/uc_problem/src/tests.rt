@@ -2,7 +2,7 @@ use crate::{EncodeFault, LoadFault, Problem, load, marks};
 use std::alloc::{AllocError, Global};
 use std::test::Fail;
 use uc_clause::{ClauseFault, Place};
-use uc_edge::MemoryLibrary;
+use uc_edge::{Fetched, Library, MemoryLibrary};
 use uc_term::{Fresh, Symbols, Text};
 
 const FILES: [(&str, &str); 9] = [
@@ -24,12 +24,12 @@ fn text(alloc: Global, text: &str) -> Result<Text, AllocError> {
     Text::from_bytes(alloc, text.as_bytes())
 }
 
-fn library(alloc: Global, failing: u32) -> Result<MemoryLibrary, AllocError> {
+fn library(alloc: Global, failing: &[u32]) -> Result<MemoryLibrary, AllocError> {
     let mut files = Vec::new(alloc);
     for (name, bytes) in FILES {
         files.push((text(alloc, name)?, text(alloc, bytes)?))?;
     }
-    MemoryLibrary::new(alloc, files, vec![in alloc; failing]?)
+    MemoryLibrary::new(alloc, files, Vec::from_slice(alloc, failing)?)
 }
 
 // what loading came to: a letter, and for a problem how many axioms, goals and symbols there are and whether one was added, for
@@ -83,7 +83,7 @@ fn told_fault(fault: &LoadFault) -> Told {
 }
 
 fn told(alloc: Global, name: &str, failing: u32) -> Result<Told, AllocError> {
-    let mut library = library(alloc, failing)?;
+    let mut library = library(alloc, &[failing])?;
     let mut symbols = Symbols::new(alloc);
     match load(
         alloc,
@@ -116,6 +116,34 @@ fn problems(rt: HostRuntime) -> Result<(), Fail> {
             told(rt.alloc(), name, failing)? == wanted,
             "{name} {failing}"
         );
+    }
+    Ok(())
+}
+
+fn failed_at(loaded: &Result<Problem, LoadFault>) -> &[u8] {
+    match loaded {
+        Err(LoadFault::ReadFault { file }) => file.as_bytes(),
+        _ => b"",
+    }
+}
+
+// one row a fetch that fails: the file that is named, whatever the next fetch would find; the next call fails too, and it isn't one
+// of loading
+#[test]
+fn files_that_fail(rt: HostRuntime) -> Result<(), Fail> {
+    let alloc = rt.alloc();
+    for (call, wanted) in [
+        (1, "p/good.p"),
+        (2, "p/inc.ax"),
+        (3, "p/more.ax"),
+        (4, "r/more.ax"),
+    ] {
+        let mut library = library(alloc, &[call, call + 1])?;
+        let mut symbols = Symbols::new(alloc);
+        let loaded = load(alloc, &mut library, Some(b"r"), b"p/good.p", &mut symbols);
+        assert!(rt; failed_at(&loaded) == wanted.as_bytes(), "{wanted}");
+        let next = library.fetch(alloc, "r/more.ax", 1)?;
+        assert!(rt; matches!(next, Fetched::Failed), "the call behind {wanted}");
     }
     Ok(())
 }
