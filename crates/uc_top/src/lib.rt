@@ -2,11 +2,13 @@
 #![tactic(auto)]
 
 mod checking;
+mod laws;
 mod lines;
 mod output;
 mod program;
 #[cfg(test)]
 mod tests;
 
+pub use laws::one_answer;
 pub use output::tell_memory_out;
 pub use program::run;

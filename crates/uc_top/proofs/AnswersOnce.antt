@@ -1,0 +1,128 @@
+-- Words and files have one answer.
+use Rattle.std.proofs.Common.{◌⊎◌, inl, inr, ℕ, ◌≡◌, ◌<◌, ◌≤◌, List, [], ◌∷◌, length, slice_get, Option, Some, Result, Ok, Err, refl, sym, ap, ◌∙◌, subst, arith}
+use Rattle.uc_term.specs.declared.fresh.Fresh.{Fresh}
+use Rattle.uc_term.specs.Table.{Table, IsDistinct}
+use Rattle.uc_edge.specs.Files.{Files}
+use Rattle.uc_edge.specs.Faults.{Rose}
+use Rattle.uc_clause.specs.declared.clause.Sourced.{Sourced}
+use Rattle.uc_clause.specs.declared.fault.What.TheVariants as what
+use Rattle.uc_problem.specs.declared.problem.Problem.{Problem}
+use Rattle.uc_problem.proofs.Outcomes.{some_once, some_or_none, ok_once, err_once, ok_or_err}
+use Rattle.uc_problem.proofs.HoldsOnce.{problem_is_once, refusal_is_once, held_or_refused}
+use Rattle.uc_problem.proofs.MarksOnce.{marks_once, large_once, marked_or_large}
+use Rattle.uc_tstp.specs.declared.fault.ProofFault.{ProofFault}
+use Rattle.uc_tstp.specs.declared.fault.ProofFault.TheVariants.{Syntax, UnknownRule, UnknownName, Truncated, RepeatedName, Limit, NoMemory}
+use Rattle.uc_tstp.specs.Framing.{max_proof, first_place}
+use Rattle.uc_tstp.specs.Reading.{ReadsProof, IsReading}
+use Rattle.uc_tstp.proofs.ReadingOnce.{reading_once}
+use Rattle.uc_check.specs.declared.proof.Proof.{Proof}
+use Rattle.uc_check.specs.Checks.{IsChecked}
+use Rattle.uc_check.proofs.Once.{checked_once}
+use Rattle.uc_words.specs.declared.command.Command.{Command}
+use Rattle.uc_words.specs.declared.command.Verb.TheVariants as verb
+use Rattle.uc_words.specs.Reads.{Reads}
+use Rattle.uc_words.proofs.Only.{only}
+use Rattle.uc_top.specs.Lines.{load_line, proof_line}
+use Rattle.uc_top.specs.Answers.{checked_status, large_line, IsBuilt, TextAnswers, is_not_read, is_checked, ProofAnswers, is_absent, isnt_fetched, is_found, ProblemAnswers, has_large_goal, is_marked, CheckAnswers, fetch_fails, is_refused, is_loaded, Answers, has_no_reading, isnt_built, checks}
+
+-- what a text reads as where memory isn't wanted: it is too long, or it is read
+module _ (table : Table) (text : List ℕ) where
+  abbrev LongOrRead : Result Proof ProofFault → Type 0
+  LongOrRead r = ((max_proof < length text) × (r ≡ Err (Limit what.Bytes first_place))) ⊎ ((length text ≤ max_proof) × ReadsProof table text r)
+
+  long_or_read : (r : Result Proof ProofFault) → (r ≡ Err NoMemory → ⊥) → IsReading table text r → LongOrRead r
+  long_or_read (Ok proof) n h = inr h
+  long_or_read (Err (Syntax p)) n h = inr h
+  long_or_read (Err (UnknownRule p)) n h = inr h
+  long_or_read (Err (UnknownName p)) n h = inr h
+  long_or_read (Err Truncated) n h = inr h
+  long_or_read (Err (RepeatedName p)) n h = inr h
+  long_or_read (Err (Limit what.Bytes p)) n h = inl (h.0, ap (λ q. Err (Limit what.Bytes q)) h.1)
+  long_or_read (Err (Limit what.Nodes p)) n h = inr h
+  long_or_read (Err (Limit what.Parentheses p)) n h = inr h
+  long_or_read (Err (Limit what.Arity p)) n h = inr h
+  long_or_read (Err (Limit what.Clauses p)) n h = inr h
+  long_or_read (Err (Limit what.Files p)) n h = inr h
+  long_or_read (Err (Limit what.Symbols p)) n h = inr h
+  long_or_read (Err NoMemory) n h = absurd (n refl)
+
+  either_once : IsDistinct table → {a b : Result Proof ProofFault} → LongOrRead a → LongOrRead b → a ≡ b
+  either_once distinct (inl p) (inl q) = p.1 ∙ sym q.1
+  either_once distinct (inl p) (inr q) = absurd (omega (arith, p.0, q.0))
+  either_once distinct (inr p) (inl q) = absurd (omega (arith, p.0, q.0))
+  either_once distinct (inr p) (inr q) = reading_once text table distinct p.1 q.1
+
+  is_reading_once : IsDistinct table → (a b : Result Proof ProofFault) → (a ≡ Err NoMemory → ⊥) → (b ≡ Err NoMemory → ⊥) → IsReading table text a → IsReading table text b → a ≡ b
+  is_reading_once distinct a b m n x y = either_once distinct (long_or_read a m x) (long_or_read b n y)
+
+not_memory : {why : ProofFault} → (why ≡ NoMemory → ⊥) → Path (Result Proof ProofFault) (Err why) (Err NoMemory) → ⊥
+not_memory n e = n (err_once e)
+
+read_not_memory : {proof : Proof} → Path (Result Proof ProofFault) (Ok proof) (Err NoMemory) → ⊥
+read_not_memory e = ok_or_err e
+
+first_name : {a b c d : List ℕ} → Path (List (List ℕ)) (a ∷ b ∷ []) (c ∷ d ∷ []) → a ≡ c
+first_name e = cc
+
+second_name : {a b c d : List ℕ} → Path (List (List ℕ)) (a ∷ b ∷ []) (c ∷ d ∷ []) → b ≡ d
+second_name e = cc
+
+module _ (table : Table) (distinct : IsDistinct table) where
+  module _ (clauses : List Sourced) (marks : Option Fresh) (name text : List ℕ) where
+    text_once : {s t : ℕ} {a b : List ℕ} → TextAnswers table clauses marks name text s a → TextAnswers table clauses marks name text t b → (s ≡ t) × (a ≡ b)
+    text_once (is_not_read {why = why} x m) (is_not_read {why = other} y n) = (refl, ap (proof_line name) (err_once (is_reading_once table text distinct (Err why) (Err other) (not_memory m) (not_memory n) x y)))
+    text_once (is_not_read {why = why} x m) (is_checked {proof = proof} y d) = absurd (ok_or_err (is_reading_once table text distinct (Ok proof) (Err why) read_not_memory (not_memory m) y x))
+    text_once (is_checked {proof = proof} x c) (is_not_read {why = why} y n) = absurd (ok_or_err (is_reading_once table text distinct (Ok proof) (Err why) read_not_memory (not_memory n) x y))
+    text_once (is_checked {proof = proof} {answer = answer} x c) (is_checked {proof = other} {answer = told} y d) =
+        let proofs : proof ≡ other = ok_once (is_reading_once table text distinct (Ok proof) (Ok other) read_not_memory read_not_memory x y) in
+        let answers : answer ≡ told = checked_once clauses marks proof.lines c (subst (λ (p : Proof). IsChecked clauses marks p.lines told) (sym proofs) d) in
+        (ap checked_status answers, rw (proofs, answers) refl)
+
+  module _ (files : Files) (before now : ℕ) (well : Rose before now → ⊥) where
+    module _ (clauses : List Sourced) (marks : Option Fresh) (name : List ℕ) where
+      proof_once : {s t : ℕ} {a b : List ℕ} → ProofAnswers table (Some files) before now clauses marks name s a → ProofAnswers table (Some files) before now clauses marks name t b → (s ≡ t) × (a ≡ b)
+      proof_once (isnt_fetched r) y = absurd (well r)
+      proof_once (is_absent e) (isnt_fetched r) = absurd (well r)
+      proof_once (is_absent e) (is_absent f) = (refl, refl)
+      proof_once (is_absent e) (is_found f y) = absurd (some_or_none f e)
+      proof_once (is_found e x) (isnt_fetched r) = absurd (well r)
+      proof_once (is_found e x) (is_absent f) = absurd (some_or_none e f)
+      proof_once {t = t} {b = b} (is_found {text = text} e x) (is_found {text = other} f y) = text_once clauses marks name text x (subst (λ (bytes : List ℕ). TextAnswers table clauses marks name bytes t b) (some_once f e) y)
+
+    module _ (problem : Problem) (proof : List ℕ) where
+      problem_once : {s t : ℕ} {a b : List ℕ} → ProblemAnswers table (Some files) before now problem proof s a → ProblemAnswers table (Some files) before now problem proof t b → (s ≡ t) × (a ≡ b)
+      problem_once (has_large_goal {number = number} m g) (has_large_goal {number = other} n h) =
+          let numbers : other ≡ number = large_once table problem other number n m in
+          (refl, ap large_line (some_once g (ap (slice_get problem.clauses) (sym numbers) ∙ h)))
+      problem_once (has_large_goal {number = number} m g) (is_marked {marks = marks} n y) = absurd (marked_or_large table problem marks number n m)
+      problem_once (is_marked {marks = marks} m x) (has_large_goal {number = number} n h) = absurd (marked_or_large table problem marks number m n)
+      problem_once {t = t} {b = b} (is_marked {marks = marks} m x) (is_marked {marks = other} n y) = proof_once problem.clauses marks proof x (subst (λ (o : Option Fresh). ProofAnswers table (Some files) before now problem.clauses o proof t b) (marks_once table problem distinct other marks n m) y)
+
+    module _ (root : Option (List ℕ)) (name proof : List ℕ) where
+      check_once : {s t : ℕ} {a b : List ℕ} → CheckAnswers table (Some files) before now root name proof s a → CheckAnswers table (Some files) before now root name proof t b → (s ≡ t) × (a ≡ b)
+      check_once (fetch_fails file r) y = absurd (well r)
+      check_once (is_refused why x e) (fetch_fails file r) = absurd (well r)
+      check_once (is_refused why x e) (is_refused other y f) = (refl, ap load_line (refusal_is_once table distinct files root name x y))
+      check_once (is_refused why x e) (is_loaded y p) = absurd (held_or_refused table distinct files root name y x)
+      check_once (is_loaded x p) (fetch_fails file r) = absurd (well r)
+      check_once (is_loaded x p) (is_refused why y e) = absurd (held_or_refused table distinct files root name x y)
+      check_once {t = t} {b = b} (is_loaded {problem = problem} x p) (is_loaded {problem = other} y q) = problem_once problem proof p (subst (λ (held : Problem). ProblemAnswers table (Some files) before now held proof t b) (problem_is_once table distinct files root name other problem y x) q)
+
+    module _ (words : List (List ℕ)) where
+      built : {command other : Command} → Reads words command → Reads words other → (IsBuilt command.verb → ⊥) → other.verb ≡ verb.Check → ⊥
+      built {command} {other} x y n e = n (subst IsBuilt (sym (ap (λ (c : Command). c.verb) (only words command other x y) ∙ e)) tt)
+
+      pub answer_once : {s t : ℕ} {a b : List ℕ} → Answers table (Some files) before now words s a → Answers table (Some files) before now words t b → (s ≡ t) × (a ≡ b)
+      answer_once (has_no_reading n) (has_no_reading m) = (refl, refl)
+      answer_once (has_no_reading n) (isnt_built y m) = (refl, refl)
+      answer_once (has_no_reading n) (checks {command = command} y v p q) = absurd (n command y)
+      answer_once (isnt_built x n) (has_no_reading m) = (refl, refl)
+      answer_once (isnt_built x n) (isnt_built y m) = (refl, refl)
+      answer_once (isnt_built x n) (checks y v p q) = absurd (built x y n v)
+      answer_once (checks {command = command} x v p q) (has_no_reading m) = absurd (m command x)
+      answer_once (checks x v p q) (isnt_built y m) = absurd (built y x m v)
+      answer_once {t = t} {b = b} (checks {command = command} {name = name} {proof = proof} x v p c) (checks {command = other} {name = named} {proof = proved} y w q d) =
+          let commands : other ≡ command = only words other command y x in
+          let names : named ∷ proved ∷ [] ≡ name ∷ proof ∷ [] = sym q ∙ ap (λ (k : Command). k.positionals) commands ∙ p in
+          let moved : CheckAnswers table (Some files) before now command.root name proof t b = subst (λ n. CheckAnswers table (Some files) before now command.root n proof t b) (first_name names) (subst (λ n. CheckAnswers table (Some files) before now command.root named n t b) (second_name names) (subst (λ (k : Command). CheckAnswers table (Some files) before now k.root named proved t b) commands d)) in
+          check_once command.root name proof c moved
