@@ -67,7 +67,7 @@ impl Print for Pipe {
         match self {
             Pipe::TakesTwo => Ok(bytes.len().min(2)),
             Pipe::TakesNone => Ok(0),
-            Pipe::Fails => broken(),
+            Pipe::Fails => Err(io::Error::from(ErrorKind::BrokenPipe)),
         }
     }
 }
