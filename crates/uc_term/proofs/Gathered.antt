@@ -19,7 +19,7 @@ use Rattle.uc_term.specs.Table.{Table, Entry, name_of, Has, IsSymbol, IsDistinct
 use Rattle.uc_term.specs.Signatures.{Occurrence, Gathers, seen_before, is_new, clashes, is_too_many, first_named, same_symbol, occurrences_in, occurrences_from, occurrences_of, IsSignatureFault, all_seen}
 use Rattle.uc_term.specs.Gathering.{name_entry, names_of, GoesOn, StopsAt, IsNamed, IsClash, occurrence}
 use Rattle.uc_term.proofs.Gets.{get-map, map-get}
-use Rattle.uc_term.proofs.Tables.{get_pushed}
+use Rattle.uc_term.proofs.Gets.{get_pushed}
 
 same_number : (f g : Sym) → f.0 ≡ g.0 → f ≡ g
 same_number f g e = ap (λ (x : ℕ). let s : Sym = record { 0 = x } in s) e

@@ -1,5 +1,5 @@
 -- Elements of lists by their numbers.
-use Rattle.std.proofs.Common.{◌≡◌, ℕ, zero, suc, List, [], ◌∷◌, ◌++◌, map, slice_get, Some, refl, ◌⊎◌, inl, inr}
+use Rattle.std.proofs.Common.{◌≡◌, ℕ, zero, suc, List, [], ◌∷◌, ◌++◌, map, length, slice_get, Some, refl, ◌⊎◌, inl, inr, arith}
 
 pub get-append_left : {A : Type 0} (xs ys : List A) (i : ℕ) (x : A) → slice_get xs i ≡ Some x → slice_get (xs ++ ys) i ≡ Some x
 get-append_left [] ys i x e = absurd cc
@@ -25,3 +25,9 @@ pub map-get : {A B : Type 0} (f : A → B) (xs : List A) (i : ℕ) (x : A) → s
 map-get f [] i x e = absurd cc
 map-get f (z ∷ xs) zero x e = let q : z ≡ x = cc in rw q refl
 map-get f (z ∷ xs) (suc i) x e = map-get f xs i x e
+
+pub get_pushed : {A : Type 0} (xs : List A) (y : A) (i : ℕ) (x : A) → slice_get (xs ++ y ∷ []) i ≡ Some x → (slice_get xs i ≡ Some x) ⊎ ((i ≡ length xs) × (x ≡ y))
+get_pushed [] y zero x e = inr (refl, cc)
+get_pushed [] y (suc i) x e = absurd cc
+get_pushed (z ∷ xs) y zero x e = inl e
+get_pushed (z ∷ xs) y (suc i) x e = elim (get_pushed xs y i x e) [ inl h ↦ inl h | inr h ↦ inr (let q = h.0 in omega arith, h.1) ]

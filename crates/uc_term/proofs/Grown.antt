@@ -10,7 +10,7 @@ use Rattle.uc_term.specs.Table.{Table, Entry, entry_of, name_of, arity_of, Has, 
 use Rattle.uc_term.specs.Signatures.{Occurrence, occurrences_in, occurrences_from, occurrences_of, Gathers, has_constant, gets_constant, IsSignatureOf, all_seen, seen_before, is_new, clashes, is_too_many, first_named, first_constant, tried_name, IsFree, IsFreshFor, least_word}
 use Rattle.uc_term.specs.Gathering.{HasAll, HasNodes, AreOf}
 use Rattle.uc_term.proofs.Gets.{get-append_cases}
-use Rattle.uc_term.proofs.Tables.{get_pushed}
+use Rattle.uc_term.proofs.Gets.{get_pushed}
 use Rattle.uc_term.proofs.Gathered.{occurrences_in-append}
 
 get_front : {A : Type 0} (xs ys : List A) (i : ℕ) → i < length xs → slice_get (xs ++ ys) i ≡ slice_get xs i

@@ -22,3 +22,5 @@ pub mod NodeVars
 pub mod Gathered
 pub mod Grown
 pub mod Upwards
+pub mod Finds
+pub mod NameLists

@@ -11,6 +11,7 @@ mod fresh;
 mod fresh_symbol;
 mod gather;
 mod laws;
+mod names;
 mod node;
 mod position;
 mod seq;

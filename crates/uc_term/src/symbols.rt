@@ -1,24 +1,28 @@
 //! The table of symbols.
 
-ghost use Rattle.std.specs.Prelude.{◌≡◌, ◌<◌, ◌^◌, ℕ, [], ◌∷◌, ◌++◌, length, IfOk, OnErr, MatchOption, position, ◌&&◌, ◌==◌};
-ghost use Rattle.std.specs.Str.{bytes_eq};
+ghost use Rattle.std.specs.Prelude.{◌≡◌, ◌<◌, ◌^◌, ℕ, [], ◌∷◌, ◌++◌, length, IfOk, OnErr, MatchOption};
 ghost use Rattle.uc_term.specs.declared.node.Sym.{Sym};
 ghost use Rattle.uc_term.specs.Table.{IsSymbol, IsDistinct, IsInterned, Has, name_of, arity_of};
 
 use crate::Sym;
+use crate::names::Names;
 use indexmap::IndexSet;
 use std::alloc::{AllocError, Global};
 use std::marker::Model;
 
-#[derive(PartialEq, Eq, Hash, Drop)]
+/// The place of a symbol's name among the names, with its arity.
+#[derive(Clone, Copy, PartialEq, Eq, Hash)]
 struct Key {
-    name: Vec<u8>,
+    place: usize,
     arity: u32,
 }
 
 /// A table that numbers names with arities in the order in which they came. A name with two arities is two symbols.
+///
+/// Names and keys are hashed, so that no look-up goes over the table, and each name is kept once.
 #[derive(Drop)]
 pub struct Symbols {
+    names: Names,
     keys: IndexSet<Key>,
 }
 
@@ -29,14 +33,14 @@ impl Model for Symbols {
 
     ghost coded = { table_code };
 
-    ghost use Rattle.uc_term.specs.Keys.{table_of};
+    ghost use Rattle.uc_term.specs.Keys.{table_of, AreNamed};
 
-    ghost view = { λ s. table_of s.keys.keys };
+    ghost view = { λ s. table_of s.names s.keys.keys };
 
     ghost use Rattle.std.specs.Prelude.{◌<◌, ◌^◌, length};
     ghost use Rattle.uc_term.specs.Table.{IsDistinct};
 
-    ghost invariant = { λ s. IsDistinct (table_of s.keys.keys) × (length s.keys.keys < 2 ^ 32) };
+    ghost invariant = { λ s. IsDistinct (table_of s.names s.keys.keys) × AreNamed s.names s.keys.keys × (length s.keys.keys < 2 ^ 32) };
 }
 
 impl Symbols {
@@ -45,6 +49,7 @@ impl Symbols {
         ensures { result ≡ [] }
     {
         Symbols {
+            names: Names::new(alloc),
             keys: IndexSet::new(alloc),
         }
     }
@@ -67,11 +72,8 @@ impl Symbols {
         if self.keys.len() >= MOST {
             return Err(AllocError);
         }
-        let key = Key {
-            name: Vec::from_slice(alloc, name)?,
-            arity,
-        };
-        let (index, _) = self.keys.insert_full(key)?;
+        let place = self.names.insert(alloc, name)?;
+        let (index, _) = self.keys.insert_full(Key { place, arity })?;
         Ok(Sym(index as u32))
     }
 
@@ -79,10 +81,9 @@ impl Symbols {
     pub fn find(&self, name: &[u8], arity: u32) -> Option<Sym>
         ensures { MatchOption result ((f : Sym) → IsSymbol self.now f name.now arity → ⊥) (λ f. IsSymbol self.now f name.now arity) }
     {
-        match index_of(&self.keys, name, arity) {
-            Some(index) => Some(Sym(index as u32)),
-            None => None,
-        }
+        let place = self.names.place_of(name)?;
+        let index = self.keys.get_index_of(&Key { place, arity })?;
+        Some(Sym(index as u32))
     }
 
     /// The name of a symbol.
@@ -91,7 +92,7 @@ impl Symbols {
         ensures { result.now ≡ name_of self.now sym }
     {
         let key = self.keys.get_index(sym.0 as usize).unwrap();
-        &key.name
+        self.names.at(key.place)
     }
 
     /// The arity of a symbol.
@@ -104,11 +105,3 @@ impl Symbols {
 }
 
 const MOST: usize = u32::MAX as usize;
-
-// The place of the key of this name and this arity.
-fn index_of(keys: &IndexSet<Key>, name: &[u8], arity: u32) -> Option<usize>
-    ensures { result ≡ position (λ key. bytes_eq key.name.items name.now && key.arity == arity) keys.now.keys }
-{
-    keys.iter()
-        .position(|key| key.name.as_slice() == name && key.arity == arity)
-}
