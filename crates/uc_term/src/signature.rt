@@ -24,12 +24,13 @@ impl Signature {
     /// last: `least`, or the first of `least_1`, `least_2` and so on whose name no symbol of the terms has.
     ///
     /// `ArityClash` comes at the first occurrence whose name stood before with another number of arguments, and `TooMany` at
-    /// that of the 60,001st symbol, whichever comes first. Then the table stays as it was.
+    /// that of the 60,001st symbol, whichever comes first. For these and for want of memory the table stays as it was.
     pub fn of(alloc: Global, symbols: &mut Symbols, terms: &[Term]) -> Result<Signature, TermFault>
         requires of { AreOf symbols.old terms.now }
         requires few { length terms.now < 2 ^ 32 }
         ensures ok { IfOk result (IsSignatureOf symbols.new terms.now) }
         ensures err { IfErr result (IsSignatureFault symbols.old terms.now) }
+        ensures kept { OnErr result (symbols.new ≡ symbols.old) }
         ensures only { IfOk result (λ signature. AddsAtMost symbols.old symbols.new signature.least) }
         ensures grows { Grows symbols.old symbols.new }
     {
@@ -41,6 +42,8 @@ impl Signature {
                 least_is_fresh: false,
             });
         }
+        // room is made first, so that nothing fails once the table has the new symbol
+        seen.reserve(1)?;
         let least = add_fresh(alloc, symbols, seen.as_slice(), b"least", 0)?;
         seen.push(least)?;
         Ok(Signature {
