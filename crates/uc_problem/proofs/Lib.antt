@@ -16,3 +16,4 @@ pub mod LoadsOnce
 pub mod SignatureOnce
 pub mod HoldsOnce
 pub mod MarksOnce
+pub mod NameKeys

@@ -6,3 +6,4 @@ pub mod Parts
 pub mod Sound
 pub mod Assembly
 pub mod Marks
+pub mod NameSets

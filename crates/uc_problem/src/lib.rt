@@ -11,6 +11,7 @@ mod laws;
 mod loading;
 mod locating;
 mod marking;
+mod names;
 mod problem;
 mod selection;
 #[cfg(test)]

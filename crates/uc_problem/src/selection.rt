@@ -1,10 +1,14 @@
 //! The clauses of an included file that are kept.
 
-ghost use Rattle.std.specs.Prelude.{◌≡◌, IfOk, MatchOption, Some, None, filter};
+ghost use Rattle.std.specs.Prelude.{◌≡◌, IfOk, List, MatchOption, Some, None, filter};
+ghost use Rattle.uc_clause.specs.declared.clause.Name.{Name};
+ghost use Rattle.uc_clause.specs.declared.clause.Sourced.{Sourced};
 ghost use Rattle.uc_problem.specs.Loading.{gives_name, lists_name, first_missing};
+ghost use Rattle.uc_problem.specs.NameSets.{has_name};
 ghost use Rattle.uc_problem.specs.Parts.{IsSelection};
 
 use crate::LoadFault;
+use crate::names::Names;
 use std::alloc::{AllocError, Global};
 use uc_clause::{Include, Name, Place, Sourced};
 use uc_term::{Seq, Text};
@@ -21,7 +25,7 @@ pub(crate) fn select(
     let Some(names) = &include.names else {
         return Ok(given);
     };
-    if let Some(missing) = first_missing(given.as_slice(), names.as_slice()) {
+    if let Some(missing) = first_missing(alloc, given.as_slice(), names.as_slice())? {
         return Err(LoadFault::NoSuchName {
             file: name.copy(alloc)?,
             place: missing.1,
@@ -32,11 +36,23 @@ pub(crate) fn select(
 }
 
 // The first listed name that no clause has.
-fn first_missing<'a>(clauses: &[Sourced], names: &'a [(Name, Place)]) -> Option<&'a (Name, Place)>
-    ensures { MatchOption result (first_missing clauses.now names.entry.now ≡ None) (λ missing. first_missing clauses.now names.entry.now ≡ Some missing.now) }
+fn first_missing<'a>(
+    alloc: Global,
+    clauses: &[Sourced],
+    names: &'a [(Name, Place)],
+) -> Result<Option<&'a (Name, Place)>, AllocError>
+    ensures { IfOk result (λ first. MatchOption first (first_missing clauses.now names.entry.now ≡ None) (λ missing. first_missing clauses.now names.entry.now ≡ Some missing.now)) }
+{
+    let given = names_of(alloc, clauses)?;
+    Ok(first_outside(&given, names))
+}
+
+// The first listed name that isn't in a set.
+fn first_outside<'a>(given: &Names, names: &'a [(Name, Place)]) -> Option<&'a (Name, Place)>
+    ensures { (clauses : List Sourced) → ((name : Name) → has_name given.now.words.keys given.now.integers.keys name ≡ gives_name clauses name) → MatchOption result (first_missing clauses names.entry.now ≡ None) (λ missing. first_missing clauses names.entry.now ≡ Some missing.now) }
 {
     for listed in names {
-        if !gives_name(clauses, &listed.0) {
+        if !given.contains(&listed.0) {
             return Some(listed);
         }
     }
@@ -51,27 +67,47 @@ fn kept_of(
 ) -> Result<Seq<Sourced>, AllocError>
     ensures { IfOk result (λ kept. kept ≡ filter (λ s. lists_name names.now s.clause.name) given) }
 {
+    let listed = names_listed(alloc, names)?;
+    kept_among(alloc, &listed, given)
+}
+
+// The clauses whose names are in a set, in order.
+fn kept_among(
+    alloc: Global,
+    listed: &Names,
+    given: Seq<Sourced>,
+) -> Result<Seq<Sourced>, AllocError>
+    ensures { IfOk result (λ kept. kept ≡ filter (λ s. has_name listed.now.words.keys listed.now.integers.keys s.clause.name) given) }
+{
     let mut kept = Seq::new(alloc);
     for sourced in given.into_vec() {
-        if lists_name(names, &sourced.clause.name) {
+        if listed.contains(&sourced.clause.name) {
             kept.push(sourced)?;
         }
     }
     Ok(kept)
 }
 
-// Whether a clause has this name.
-fn gives_name(clauses: &[Sourced], name: &Name) -> bool
-    ensures { result ≡ gives_name clauses.now name.now }
+// The names of the clauses.
+fn names_of(alloc: Global, clauses: &[Sourced]) -> Result<Names, AllocError>
+    ensures { IfOk result (λ set. (name : Name) → has_name set.words.keys set.integers.keys name ≡ gives_name clauses.now name) }
 {
-    clauses.iter().any(|sourced| sourced.clause.name.same(name))
+    let mut given = Names::new(alloc);
+    for sourced in clauses {
+        given.insert(alloc, &sourced.clause.name)?;
+    }
+    Ok(given)
 }
 
-// Whether this name is listed.
-fn lists_name(names: &[(Name, Place)], name: &Name) -> bool
-    ensures { result ≡ lists_name names.now name.now }
+// The names that are listed.
+fn names_listed(alloc: Global, names: &[(Name, Place)]) -> Result<Names, AllocError>
+    ensures { IfOk result (λ set. (name : Name) → has_name set.words.keys set.integers.keys name ≡ lists_name names.now name) }
 {
-    names.iter().any(|listed| listed.0.same(name))
+    let mut listed = Names::new(alloc);
+    for (name, _) in names {
+        listed.insert(alloc, name)?;
+    }
+    Ok(listed)
 }
 
 // An equal name.
