@@ -1,5 +1,5 @@
 -- Terms and equations that are whole texts.
-use Rattle.std.proofs.Common.{◌≡◌, ℕ, List, [], refl, sym, ap, ◌∙◌, subst}
+use Rattle.std.proofs.Common.{◌≡◌, ℕ, List, [], refl, subst}
 use Rattle.std.specs.Prelude.{◌≢◌}
 use Rattle.uc_term.specs.Tree.{Tree}
 use Rattle.uc_term.specs.Table.{Table, IsDistinct}
@@ -10,7 +10,7 @@ use Rattle.uc_clause.specs.declared.grammar.literal.Pair.{Pair}
 use Rattle.uc_clause.specs.declared.grammar.stop.Why.TheVariants.{NoToken, NoEnd, NoSign}
 use Rattle.uc_clause.specs.declared.grammar.stop.Stop.{Stop}
 use Rattle.uc_clause.specs.Terminals.{terminal_at}
-use Rattle.uc_clause.specs.Rules.{read, stop, Stops, goes_on, stops_first}
+use Rattle.uc_clause.specs.Rules.{stop, Stops, goes_on, stops_first}
 use Rattle.uc_clause.specs.Parse.{Parse, Sides}
 use Rattle.uc_clause.specs.Terms.{Term}
 use Rattle.uc_clause.specs.Items.{term, equals, term_alone, equals_alone}

@@ -1,10 +1,9 @@
 -- Where a token stands, and where the text ends.
-use Rattle.std.proofs.Common.{◌≡◌, ℕ, zero, suc, ◌+◌, ◌<◌, ◌≤◌, List, [], ◌∷◌, length, refl, sym, ap, ◌∙◌, subst, arith, Bool}
-use Rattle.std.specs.Prelude.{◌≢◌, slice_get, Some, None}
+use Rattle.std.proofs.Common.{◌≡◌, ℕ, zero, suc, ◌<◌, List, [], ◌∷◌, length, refl, sym, ap, ◌∙◌, arith, Bool}
+use Rattle.std.specs.Prelude.{◌≢◌, Some}
 use Rattle.uc_clause.specs.declared.token.Token.{Token}
 use Rattle.uc_clause.specs.declared.terminal.Terminal.{Terminal}
 use Rattle.uc_clause.specs.declared.terminal.Terminal.TheVariants.{End}
-use Rattle.uc_clause.specs.declared.grammar.head.Head.{Head}
 use Rattle.uc_clause.specs.declared.grammar.head.Head.TheVariants.{Neither}
 use Rattle.uc_clause.specs.Terminals.{terminal_at}
 use Rattle.uc_clause.specs.Terms.{head_at, head_of}

@@ -1,5 +1,5 @@
 -- How items are gathered.
-use Rattle.std.proofs.Common.{◌≡◌, ℕ, ◌+◌, ◌<◌, List, [], ◌∷◌, ◌++◌, length, refl, sym, ap, ◌∙◌, subst, arith, append_assoc, append-nil}
+use Rattle.std.proofs.Common.{◌≡◌, ℕ, List, [], ◌∷◌, ◌++◌, sym, ◌∙◌, subst, append-nil}
 use Rattle.std.specs.Prelude.{◌≢◌}
 use Rattle.uc_term.specs.Table.{Table, Grows}
 use Rattle.uc_clause.specs.declared.token.Token.{Token}
@@ -10,13 +10,12 @@ use Rattle.uc_clause.specs.declared.clause.Item.TheVariants as item
 use Rattle.uc_clause.specs.declared.terminal.Terminal.{Terminal}
 use Rattle.uc_clause.specs.declared.terminal.Terminal.TheVariants.{End}
 use Rattle.uc_clause.specs.declared.grammar.item.Opening.{Opening}
-use Rattle.uc_clause.specs.declared.grammar.stop.Why.{Why}
 use Rattle.uc_clause.specs.declared.grammar.stop.Stop.{Stop}
 use Rattle.uc_clause.specs.Terminals.{terminal_at, bytes_at, place_at}
 use Rattle.uc_clause.specs.Rules.{Outcome, read, stop, mapped, Stops}
 use Rattle.uc_clause.specs.Parse.{Entry, formula, inclusion}
 use Rattle.uc_clause.specs.Items as items
-use Rattle.uc_clause.specs.Meaning.{IsName, AreNames, no_names, one_name, MeansClause, MeansItem, MeanItems, no_items, one_item, MeansSides}
+use Rattle.uc_clause.specs.Meaning.{IsName, AreNames, no_names, one_name, MeansItem, MeanItems, no_items, one_item}
 use Rattle.uc_clause.specs.Given.{AreItems}
 use Rattle.uc_clause.proofs.Sequences.{passes}
 use Rattle.uc_clause.proofs.Lists.{after, after_none, after_one}

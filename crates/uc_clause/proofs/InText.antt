@@ -1,8 +1,8 @@
 -- What is read ends in the text.
-use Rattle.std.proofs.Common.{◌≡◌, ℕ, ◌+◌, ◌<◌, ◌≤◌, List, length, refl, sym, ap, ◌∙◌, arith}
+use Rattle.std.proofs.Common.{◌≡◌, ℕ, ◌≤◌, List, length, arith}
 use Rattle.uc_clause.specs.declared.token.Token.{Token}
-use Rattle.uc_clause.specs.declared.terminal.Terminal.TheVariants.{Open, Close, Comma, Dot, Tilde}
-use Rattle.uc_clause.specs.Rules.{Outcome, read, stop, mapped, Then, goes_on, Choice, is_first, is_second}
+use Rattle.uc_clause.specs.declared.terminal.Terminal.TheVariants.{Close, Dot}
+use Rattle.uc_clause.specs.Rules.{Outcome, read, stop, mapped, goes_on, is_first, is_second}
 use Rattle.uc_clause.specs.Parse.{Parse, Parses, Sides, Literal, Formula, Entry}
 use Rattle.uc_clause.specs.declared.grammar.item.Inclusion.{Inclusion}
 use Rattle.uc_clause.specs.Terms.{Term, Args, is_variable, is_constant, is_applied, is_node_too_many, is_no_term, stops_in_it, is_last, is_followed, is_one_too_many, is_followed_by_neither}

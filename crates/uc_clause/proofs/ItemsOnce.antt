@@ -1,6 +1,6 @@
 -- Items are read in one way, and say one thing.
-use Rattle.std.proofs.Common.{◌≡◌, ℕ, ◌+◌, ◌<◌, ◌≤◌, List, [], ◌∷◌, ◌++◌, refl, sym, ap, ◌∙◌, subst, arith, Bool, true, false}
-use Rattle.std.specs.Prelude.{◌≢◌, ◌↔◌, Option, Some, None}
+use Rattle.std.proofs.Common.{◌≡◌, ℕ, ◌+◌, List, [], ◌∷◌, ◌++◌, refl, sym, ap, ◌∙◌, subst, arith, Bool, true, false}
+use Rattle.std.specs.Prelude.{◌↔◌, Option, Some, None}
 use Rattle.uc_term.specs.Tree.{Tree}
 use Rattle.uc_term.specs.Table.{Table, IsDistinct}
 use Rattle.uc_clause.specs.declared.token.Token.{Token}
@@ -11,16 +11,15 @@ use Rattle.uc_clause.specs.declared.clause.Include.{Include}
 use Rattle.uc_clause.specs.declared.clause.Item.{Item}
 use Rattle.uc_clause.specs.declared.clause.Item.TheVariants as item
 use Rattle.uc_clause.specs.declared.terminal.Terminal.{Terminal}
-use Rattle.uc_clause.specs.declared.terminal.Terminal.TheVariants.{Lower, Integer, Open, Close, Comma, Dot, Equal, Tilde, OpenSquare, CloseSquare, End}
+use Rattle.uc_clause.specs.declared.terminal.Terminal.TheVariants.{Lower, Integer, Open, Close, Comma, Dot, Tilde, OpenSquare, CloseSquare}
 use Rattle.uc_clause.specs.declared.grammar.note.Bracket.{Bracket}
-use Rattle.uc_clause.specs.declared.grammar.note.Piece.TheVariants.{Plain, Opens, Closes, Behind, Misplaced}
 use Rattle.uc_clause.specs.declared.grammar.stop.Why.{Why}
-use Rattle.uc_clause.specs.declared.grammar.stop.Why.TheVariants.{NoItem, NoToken, NoSign, NoEnd, NoSelection}
-use Rattle.uc_clause.specs.Terminals.{terminal_at, word_at, place_at}
+use Rattle.uc_clause.specs.declared.grammar.stop.Why.TheVariants.{NoItem, NoToken, NoEnd, NoSelection}
+use Rattle.uc_clause.specs.Terminals.{terminal_at}
 use Rattle.uc_clause.specs.Rules.{Outcome, read, stop, mapped}
-use Rattle.uc_clause.specs.Parse.{Literal, Sides, Formula, Entry, formula, inclusion}
+use Rattle.uc_clause.specs.Parse.{Literal, Formula, Entry, formula, inclusion}
 use Rattle.uc_clause.specs.Items as items
-use Rattle.uc_clause.specs.Meaning.{IsName, AreNames, no_names, one_name, AreSelected, MeansClause, MeansInclude, MeansItem, MeanItems, no_items, one_item}
+use Rattle.uc_clause.specs.Meaning.{IsName, AreNames, no_names, one_name, AreSelected, MeansClause, MeansItem, MeanItems, no_items, one_item}
 use Rattle.uc_clause.proofs.ReadOnce.{Once, both_once, here_once, gives_once, the_once, choice_once, term_once}
 use Rattle.uc_clause.proofs.Alone.{equals_once, says_sides_once}
 
@@ -31,7 +30,7 @@ module _ (bytes : List ℕ) (tokens : List Token) where
   token_once : (terminal : Terminal) (why : Why) → Once (items.token bytes tokens terminal why)
   token_once terminal why = the_once bytes tokens terminal why
 
-  equation_once : Once (items.equation bytes tokens)
+  pub equation_once : Once (items.equation bytes tokens)
   equation_once = both_once _ _ here_once (λ first. both_once (items.term bytes tokens) _ term_rule (λ left. both_once (items.sign bytes tokens first) _ (λ at o p x y. x ∙ sym y) (λ positive. both_once (items.term bytes tokens) _ term_rule (λ right. gives_once _))))
 
   in_brackets_once : Once (items.equals_in_brackets bytes tokens)
@@ -193,13 +192,13 @@ module _ (bytes : List ℕ) (tokens : List Token) where
   items_once at o p x y = items_once_at x y
 
   -- names
-  integers_once : (a b : Bool) (P : Type 0) → (a ≡ true) ↔ P → (b ≡ true) ↔ P → a ≡ b
+  pub integers_once : (a b : Bool) (P : Type 0) → (a ≡ true) ↔ P → (b ≡ true) ↔ P → a ≡ b
   integers_once true true P p q = refl
   integers_once true false P p q = absurd (let e = q.1 (p.0 refl) in cc)
   integers_once false true P p q = absurd (let e = p.1 (q.0 refl) in cc)
   integers_once false false P p q = refl
 
-  name_is_once : (k : ℕ) (m n : Name) → IsName bytes tokens k m → IsName bytes tokens k n → m ≡ n
+  pub name_is_once : (k : ℕ) (m n : Name) → IsName bytes tokens k m → IsName bytes tokens k n → m ≡ n
   name_is_once k m n a b =
       let texts : m.text ≡ n.text = a.text ∙ sym b.text in
       let integers : m.integer ≡ n.integer = integers_once m.integer n.integer (terminal_at bytes tokens k ≡ Integer) a.integer b.integer in
@@ -235,7 +234,7 @@ module _ (bytes : List ℕ) (tokens : List Token) where
         let all : record { name = c.name; role = c.role; positive = c.positive; left = c.left; right = c.right; places = c.places; place = c.place } ≡ (let r : Clause = record { name = d.name; role = d.role; positive = d.positive; left = d.left; right = d.right; places = d.places; place = d.place } in r) = rw (names, roles, signs, lefts, rights, places, place) refl in
         all
 
-    item_is_once : (entry : Entry) (i j : Item) → MeansItem bytes tokens table entry i → MeansItem bytes tokens table entry j → i ≡ j
+    pub item_is_once : (entry : Entry) (i j : Item) → MeansItem bytes tokens table entry i → MeansItem bytes tokens table entry j → i ≡ j
     item_is_once (formula f) (item.Clause c) (item.Clause d) a b = ap item.Clause (clause_is_once f c d a b)
     item_is_once (formula f) (item.Clause c) (item.Include d) a b = absurd b
     item_is_once (formula f) (item.Include c) j a b = absurd a

@@ -1,22 +1,20 @@
 -- How literals are read of their parts.
-use Rattle.std.proofs.Common.{◌≡◌, ℕ, ◌+◌, ◌<◌, ◌≤◌, ◌++◌, List, refl, sym, ap, ◌∙◌, subst, true, false, Bool}
+use Rattle.std.proofs.Common.{◌≡◌, ℕ, ◌+◌, ◌<◌, List, refl, sym, ap, ◌∙◌, subst, false, Bool}
 use Rattle.std.proofs.lemmas.List.{map-append}
-use Rattle.std.specs.Prelude.{◌≢◌, map, Some, None}
+use Rattle.std.specs.Prelude.{◌≢◌, Some, None}
 use Rattle.uc_term.specs.Table.{Table, Grows}
 use Rattle.uc_clause.specs.declared.token.Token.{Token}
-use Rattle.uc_clause.specs.declared.token.Place.{Place}
-use Rattle.uc_clause.specs.declared.terminal.Terminal.TheVariants.{Equal, Unequal, Open, Close, Tilde}
+use Rattle.uc_clause.specs.declared.terminal.Terminal.TheVariants.{Equal, Open, Close, Tilde}
 use Rattle.uc_clause.specs.declared.grammar.term.Part.{Part}
 use Rattle.uc_clause.specs.declared.grammar.literal.Pair.{Pair}
 use Rattle.uc_clause.specs.declared.grammar.literal.Equation.{Equation}
-use Rattle.uc_clause.specs.declared.grammar.stop.Why.{Why}
 use Rattle.uc_clause.specs.declared.grammar.stop.Why.TheVariants.{NoSign, NoToken, NoEnd}
 use Rattle.uc_clause.specs.declared.grammar.stop.Stop.{Stop}
 use Rattle.uc_clause.specs.Terminals.{terminal_at, place_at}
-use Rattle.uc_clause.specs.Rules.{Outcome, read, stop, Rule, Stops, read_or_stop, goes_on, stops_first, is_first, is_second}
-use Rattle.uc_clause.specs.Parse.{Parse, leaves, Sides, Literal}
+use Rattle.uc_clause.specs.Rules.{stop, Stops, read_or_stop, goes_on, stops_first, is_first, is_second}
+use Rattle.uc_clause.specs.Parse.{leaves}
 use Rattle.uc_clause.specs.Terms.{Term}
-use Rattle.uc_clause.specs.Items.{equals, equals_in_brackets, denied, equation, denial, literal, sign_of, Clause, is_bare, is_bracketed, is_not_closed, stops_in_brackets, is_too_deep}
+use Rattle.uc_clause.specs.Items.{equals, equals_in_brackets, denied, equation, literal, sign_of, Clause, is_bare, is_bracketed, is_not_closed, stops_in_brackets}
 use Rattle.uc_clause.specs.Meaning.{Variables, with_names, variables_in, Means}
 use Rattle.uc_clause.specs.Drafts.{IsPart}
 use Rattle.uc_clause.specs.Sides.{AddsSide, AreSides, ReadsPair, ReadsLiteral}

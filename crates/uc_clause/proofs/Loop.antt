@@ -1,32 +1,31 @@
 -- What the reader of terms keeps from step to step.
-use Rattle.std.proofs.Common.{◌≡◌, ℕ, zero, suc, ◌+◌, ◌<◌, ◌≤◌, List, [], ◌∷◌, ◌++◌, length, length-append, refl, sym, ap, ◌∙◌, subst, arith, append-nil, append_assoc, Bool, true, false}
+use Rattle.std.proofs.Common.{◌≡◌, ℕ, ◌+◌, ◌<◌, ◌≤◌, List, [], ◌∷◌, ◌++◌, length, length-append, refl, sym, ap, ◌∙◌, subst, arith, append-nil, append_assoc, Bool, true, false}
 use Rattle.std.proofs.Math.Seq.{set-append_seam}
 use Rattle.std.proofs.lemmas.List.{map-append}
 use Rattle.std.specs.Prelude.{◌≢◌, map, slice_get, slice_set, Some}
 use Rattle.uc_term.specs.declared.node.Sym.{Sym}
-use Rattle.uc_term.specs.declared.node.Node.{Node}
 use Rattle.uc_term.specs.declared.node.Node.TheVariants.{Var, App}
-use Rattle.uc_term.specs.Tree.{Tree, var, app, Trees, none, more, count}
+use Rattle.uc_term.specs.Tree.{Tree, var, app, none, more, count}
 use Rattle.uc_term.specs.Flat.{flat, flat_all}
 use Rattle.uc_term.specs.Table.{Table, Grows, IsSymbol}
 use Rattle.uc_clause.specs.declared.token.Token.{Token}
 use Rattle.uc_clause.specs.declared.token.Place.{Place}
 use Rattle.uc_clause.specs.declared.terminal.Terminal.TheVariants.{Open, Close, Comma}
-use Rattle.uc_clause.specs.declared.grammar.head.Head.TheVariants.{Variable, Functor, Neither}
+use Rattle.uc_clause.specs.declared.grammar.head.Head.TheVariants.{Variable, Functor}
 use Rattle.uc_clause.specs.declared.grammar.draft.Pending.{Pending}
 use Rattle.uc_clause.specs.declared.grammar.stop.Why.{Why}
 use Rattle.uc_clause.specs.declared.grammar.stop.Stop.{Stop}
 use Rattle.uc_clause.specs.declared.grammar.stop.Stop.TheVariants.{At, NoMemory}
 use Rattle.uc_clause.specs.declared.grammar.stop.Why.TheVariants.{NoTerm, NoToken, Nodes, Arity}
 use Rattle.uc_clause.specs.Terminals.{terminal_at, bytes_at, word_at, place_at}
-use Rattle.uc_clause.specs.Rules.{Outcome, read, stop, mapped, Stops}
-use Rattle.uc_clause.specs.Parse.{Parse, variable, applied, Parses, no_more, also, leaves, leaves_all, variables, variables_all, size}
-use Rattle.uc_clause.specs.Terms.{head_at, Term, Args, is_variable, is_constant, is_applied, is_node_too_many, is_no_term, stops_in_it, is_last, is_followed, is_one_too_many, is_followed_by_neither}
+use Rattle.uc_clause.specs.Rules.{read, stop, Stops}
+use Rattle.uc_clause.specs.Parse.{Parse, variable, applied, no_more, also, leaves, leaves_all, variables, variables_all}
+use Rattle.uc_clause.specs.Terms.{head_at, Term, is_variable, is_constant, is_node_too_many, is_no_term, is_one_too_many, is_followed_by_neither}
 use Rattle.uc_clause.specs.Meaning.{Variables, with_name, with_names, Means, MeanAll, variable_means, functor_means, none_mean, more_mean}
 use Rattle.uc_clause.specs.Drafts.{State, blank, Moves, reads_variable, reads_constant, opens_functor, goes_to_next, closes_functor, Sticks, at_no_term, at_node_too_many, at_argument_too_many, behind_argument, IsStuck, IsRead}
 use Rattle.uc_clause.proofs.Ends.{some_head, some_other}
 use Rattle.uc_clause.proofs.Tables.{grows_not, grows_twice}
-use Rattle.uc_clause.proofs.Means.{Extends, extends_not, with_name_extends, with_names_both, means_grows, mean_all_grows, size_means, count_all, count_mean_all, append, append_trees, count_append, count_trees_append, leaves_append, variables_append, flat_append, mean_append}
+use Rattle.uc_clause.proofs.Means.{extends_not, with_name_extends, with_names_both, mean_all_grows, size_means, count_all, count_mean_all, append, append_trees, count_append, count_trees_append, leaves_append, variables_append, flat_append, mean_append}
 use Rattle.uc_clause.proofs.Stack.{Frame, content, leaves_of, variables_of, pending_of, applied_after, MeanFrames, mean_frames_grow, Stacked, stops_whole, stops_args, new_frame, opened, next_frame, followed, closed}
 
 snoc_once : {A : Type 0} (xs ys : List A) (x y : A) → xs ++ x ∷ [] ≡ ys ++ y ∷ [] → (xs ≡ ys) × (x ≡ y)

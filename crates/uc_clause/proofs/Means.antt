@@ -1,13 +1,13 @@
 -- What a parse says stays the same when the table or the list of variables grows.
-use Rattle.std.proofs.Common.{◌≡◌, ℕ, suc, ◌+◌, List, [], ◌∷◌, ◌++◌, length, length-append, refl, sym, ap, ◌∙◌, subst, arith, append-nil, append_assoc, Bool, true, false}
-use Rattle.std.specs.Prelude.{map, slice_get, Some, bytes_eq, if◌then◌else◌}
+use Rattle.std.proofs.Common.{◌≡◌, ℕ, ◌+◌, List, [], ◌∷◌, ◌++◌, length, length-append, refl, sym, ap, ◌∙◌, arith, append-nil, append_assoc, Bool, true, false}
+use Rattle.std.specs.Prelude.{bytes_eq, if◌then◌else◌}
 use Rattle.std.specs.List.{list_any}
-use Rattle.uc_term.specs.Tree.{Tree, var, app, Trees, none, more, count}
+use Rattle.uc_term.specs.Tree.{Tree, Trees, none, more, count}
 use Rattle.uc_term.specs.Flat.{flat, flat_all}
-use Rattle.uc_term.specs.Table.{Table, Grows, IsSymbol}
+use Rattle.uc_term.specs.Table.{Table, Grows}
 use Rattle.uc_clause.specs.declared.token.Token.{Token}
 use Rattle.uc_clause.specs.Terminals.{word_at}
-use Rattle.uc_clause.specs.Parse.{Parse, variable, applied, Parses, no_more, also, leaves, leaves_all, variables, variables_all, size, size_all}
+use Rattle.uc_clause.specs.Parse.{Parse, Parses, no_more, also, leaves, leaves_all, variables, variables_all, size, size_all}
 use Rattle.uc_clause.specs.Meaning.{Variables, with_name, with_names, Means, MeanAll, variable_means, functor_means, none_mean, more_mean}
 use Rattle.uc_clause.proofs.Tables.{get_within, symbol_grows}
 

@@ -1,16 +1,15 @@
 -- A parse says one thing in a table and a list of names.
-use Rattle.std.proofs.Common.{◌≡◌, ℕ, zero, suc, ◌+◌, ◌<◌, List, [], ◌∷◌, ◌++◌, length, length-append, refl, sym, ap, ◌∙◌, subst, arith, Bool, true, false, ◌⊎◌, inl, inr}
-use Rattle.std.specs.Prelude.{◌||◌, map, slice_get, Some, None, bytes_eq, if◌then◌else◌}
+use Rattle.std.proofs.Common.{◌≡◌, ℕ, zero, suc, List, [], ◌∷◌, ◌++◌, length, refl, sym, ap, ◌∙◌, arith, Bool, true, false, ◌⊎◌, inl, inr}
+use Rattle.std.specs.Prelude.{◌||◌, slice_get, Some, bytes_eq, if◌then◌else◌}
 use Rattle.std.specs.List.{list_any}
 use Rattle.std.specs.Cmp.Lexicographic.{bytes_decides}
 use Rattle.uc_term.specs.declared.node.Sym.{Sym}
-use Rattle.uc_term.specs.Tree.{Tree, var, app, Trees, none, more, count}
-use Rattle.uc_term.specs.Table.{Table, Entry, IsSymbol, IsDistinct}
+use Rattle.uc_term.specs.Tree.{Tree, var, Trees, count}
+use Rattle.uc_term.specs.Table.{Table, IsSymbol, IsDistinct}
 use Rattle.uc_clause.specs.declared.token.Token.{Token}
 use Rattle.uc_clause.specs.Terminals.{bytes_at, word_at}
-use Rattle.uc_clause.specs.Parse.{Parse, variable, applied, Parses, no_more, also}
+use Rattle.uc_clause.specs.Parse.{Parse, Parses}
 use Rattle.uc_clause.specs.Meaning.{Variables, with_name, with_names, Means, MeanAll, variable_means, functor_means, none_mean, more_mean}
-use Rattle.uc_clause.proofs.Means.{count_mean_all}
 
 -- each name stands at one place
 abbrev pub AreDistinct : Variables → Type 0

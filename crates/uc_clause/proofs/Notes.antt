@@ -1,19 +1,18 @@
 -- How notes are read.
-use Rattle.std.proofs.Common.{◌≡◌, ℕ, ◌+◌, ◌-◌, ◌<◌, ◌≤◌, List, [], ◌∷◌, ◌++◌, length, take, refl, sym, ap, ◌∙◌, subst, arith}
+use Rattle.std.proofs.Common.{◌≡◌, ℕ, ◌+◌, ◌-◌, ◌<◌, List, [], length, refl, sym, ap, ◌∙◌}
 use Rattle.std.specs.Prelude.{◌≢◌, Option, Some, None, slice_get, Result, Ok, Err}
 use Rattle.uc_clause.specs.declared.token.Token.{Token}
 use Rattle.uc_clause.specs.declared.terminal.Terminal.{Terminal}
 use Rattle.uc_clause.specs.declared.terminal.Terminal.TheVariants.{End, Comma, Close}
 use Rattle.uc_clause.specs.declared.grammar.note.Bracket.{Bracket}
 use Rattle.uc_clause.specs.declared.grammar.note.Piece.{Piece}
-use Rattle.uc_clause.specs.declared.grammar.note.Piece.TheVariants.{Plain, Opens, Closes, Behind, Misplaced}
-use Rattle.uc_clause.specs.declared.grammar.stop.Why.{Why}
+use Rattle.uc_clause.specs.declared.grammar.note.Piece.TheVariants.{Behind, Misplaced}
 use Rattle.uc_clause.specs.declared.grammar.stop.Why.TheVariants.{NoToken, NoEnd}
 use Rattle.uc_clause.specs.declared.grammar.stop.Stop.{Stop}
 use Rattle.uc_clause.specs.declared.grammar.stop.Stop.TheVariants.{At, NoMemory}
 use Rattle.uc_clause.specs.Terminals.{terminal_at}
-use Rattle.uc_clause.specs.Rules.{Outcome, read, stop, Stops, Goes, goes_on, stops_first, is_first, is_second, the}
-use Rattle.uc_clause.specs.Items.{piece_of, piece_at, Rest, has_token, has_opening, has_closing, ends_before, stops_before, Note, is_note, is_no_note, note, notes, more_notes, first_note, second_note}
+use Rattle.uc_clause.specs.Rules.{read, Stops, Goes, goes_on, stops_first, is_first, is_second, the}
+use Rattle.uc_clause.specs.Items.{piece_of, piece_at, Rest, Note, is_note, notes, more_notes, first_note}
 use Rattle.uc_clause.proofs.Ends.{some_token}
 use Rattle.uc_clause.proofs.Sequences.{passes}
 

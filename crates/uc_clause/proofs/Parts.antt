@@ -1,14 +1,13 @@
 -- What the reader of terms has when it is done, as a term.
 use Rattle.std.proofs.Common.{◌≡◌, ℕ, ◌≤◌, List, length, refl, sym, ap, ◌∙◌, subst, arith}
-use Rattle.uc_term.specs.Tree.{Tree}
-use Rattle.uc_term.specs.Flat.{flat, tree_of, IsWhole}
+use Rattle.uc_term.specs.Flat.{tree_of, IsWhole}
 use Rattle.uc_term.specs.Code.{tree_of-flat}
 use Rattle.uc_term.specs.Table.{Table}
 use Rattle.uc_clause.specs.declared.token.Token.{Token}
 use Rattle.uc_clause.specs.declared.grammar.draft.Draft.{Draft}
 use Rattle.uc_clause.specs.declared.grammar.term.Part.{Part}
 use Rattle.uc_clause.specs.Meaning.{Variables, Means}
-use Rattle.uc_clause.specs.Drafts.{State, state_of, IsRead, IsPart}
+use Rattle.uc_clause.specs.Drafts.{state_of, IsRead, IsPart}
 use Rattle.uc_clause.proofs.Means.{size_means}
 use Rattle.uc_clause.proofs.Sizes.{term_small}
 

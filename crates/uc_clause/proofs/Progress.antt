@@ -1,14 +1,14 @@
 -- What is read ends behind where it begins.
-use Rattle.std.proofs.Common.{◌≡◌, ℕ, ◌+◌, ◌<◌, ◌≤◌, List, [], ◌∷◌, refl, sym, ap, ◌∙◌, arith}
-use Rattle.std.specs.Prelude.{◌≢◌, Option, Some, None}
+use Rattle.std.proofs.Common.{◌≡◌, ℕ, ◌+◌, ◌<◌, ◌≤◌, List, arith}
+use Rattle.std.specs.Prelude.{Option, Some, None}
 use Rattle.uc_clause.specs.declared.token.Token.{Token}
 use Rattle.uc_clause.specs.declared.terminal.Terminal.{Terminal}
 use Rattle.uc_clause.specs.declared.terminal.Terminal.TheVariants.{Lower, Open, Close, Comma, Dot, Equal, Tilde, OpenSquare, CloseSquare}
 use Rattle.uc_clause.specs.declared.grammar.note.Bracket.{Bracket}
 use Rattle.uc_clause.specs.declared.grammar.stop.Why.{Why}
-use Rattle.uc_clause.specs.declared.grammar.stop.Why.TheVariants.{NoItem, NoToken, NoSign, NoEnd, NoRole, NoSelection}
-use Rattle.uc_clause.specs.Rules.{Outcome, read, stop, Rule, mapped, Then, goes_on, stops_first, the, pick, read_or_stop, gives, here, Choice, is_first, is_second}
-use Rattle.uc_clause.specs.Parse.{Parse, Parses, Sides, Literal, Entry}
+use Rattle.uc_clause.specs.declared.grammar.stop.Why.TheVariants.{NoItem, NoToken, NoSign, NoEnd, NoSelection}
+use Rattle.uc_clause.specs.Rules.{Outcome, read, stop, Rule, mapped, Then, goes_on, stops_first, the, read_or_stop, gives, here, Choice, is_first, is_second}
+use Rattle.uc_clause.specs.Parse.{Parse, Parses, Literal, Entry}
 use Rattle.uc_clause.specs.Terms.{Term, Args, is_variable, is_constant, is_applied, is_node_too_many, is_no_term, stops_in_it, is_last, is_followed, is_one_too_many, is_followed_by_neither}
 use Rattle.uc_clause.specs.Items as items
 
@@ -97,7 +97,7 @@ module _ (bytes : List ℕ) (tokens : List Token) where
     args_ahead_at (is_one_too_many x c f) = tt
     args_ahead_at (is_followed_by_neither x c d) = tt
 
-  term_ahead : GoesAhead (items.term bytes tokens)
+  pub term_ahead : GoesAhead (items.term bytes tokens)
   term_ahead at o x = term_ahead_at x
 
   term_not_back : GoesNotBack (items.term bytes tokens)

@@ -1,14 +1,11 @@
 -- A rule reads tokens in one way.
-use Rattle.std.proofs.Common.{◌≡◌, ℕ, ◌+◌, ◌<◌, ◌≤◌, List, [], ◌∷◌, refl, sym, ap, ◌∙◌, subst, arith}
-use Rattle.std.specs.Prelude.{◌≢◌, Option}
+use Rattle.std.proofs.Common.{◌≡◌, ℕ, List, refl, sym, ap, ◌∙◌, arith}
 use Rattle.uc_clause.specs.declared.token.Token.{Token}
 use Rattle.uc_clause.specs.declared.terminal.Terminal.{Terminal}
-use Rattle.uc_clause.specs.declared.grammar.head.Head.TheVariants.{Variable, Functor, Neither}
 use Rattle.uc_clause.specs.declared.grammar.stop.Why.{Why}
-use Rattle.uc_clause.specs.Terminals.{terminal_at}
-use Rattle.uc_clause.specs.Rules.{Outcome, read, stop, Rule, mapped, Then, goes_on, stops_first, the, pick, gives, here, Choice, is_first, is_second}
-use Rattle.uc_clause.specs.Parse.{Parse, Parses, applied, also, size}
-use Rattle.uc_clause.specs.Terms.{head_at, Term, Args, is_variable, is_constant, is_applied, is_node_too_many, is_no_term, stops_in_it, is_last, is_followed, is_one_too_many, is_followed_by_neither}
+use Rattle.uc_clause.specs.Rules.{Outcome, read, stop, Rule, mapped, Then, goes_on, stops_first, the, gives, here, Choice, is_first, is_second}
+use Rattle.uc_clause.specs.Parse.{Parse, Parses, applied}
+use Rattle.uc_clause.specs.Terms.{Term, Args, is_variable, is_constant, is_applied, is_node_too_many, is_no_term, stops_in_it, is_last, is_followed, is_one_too_many, is_followed_by_neither}
 
 -- a rule comes to one thing from any token on
 abbrev pub Once : {V : Type 0} → Rule V → Type 0

@@ -1,8 +1,8 @@
 -- A term that is read has no more than 4,096 nodes.
-use Rattle.std.proofs.Common.{◌≡◌, ℕ, suc, ◌+◌, ◌<◌, ◌≤◌, List, refl, sym, ap, ◌∙◌, arith}
+use Rattle.std.proofs.Common.{ℕ, ◌+◌, ◌≤◌, List, arith}
 use Rattle.uc_clause.specs.declared.token.Token.{Token}
 use Rattle.uc_clause.specs.Rules.{Outcome, read, stop, mapped}
-use Rattle.uc_clause.specs.Parse.{Parse, variable, applied, Parses, no_more, also, size, size_all}
+use Rattle.uc_clause.specs.Parse.{Parse, applied, Parses, also, size, size_all}
 use Rattle.uc_clause.specs.Terms.{Term, Args, is_variable, is_constant, is_applied, is_node_too_many, is_no_term, stops_in_it, is_last, is_followed, is_one_too_many, is_followed_by_neither}
 
 -- the sizes of what is read keep within the limit

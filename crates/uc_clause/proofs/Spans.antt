@@ -1,10 +1,10 @@
 -- Where the tokens of a text lie in it.
-use Rattle.std.proofs.Common.{◌≡◌, ℕ, zero, suc, ◌+◌, ◌-◌, ◌<◌, ◌≤◌, List, [], ◌∷◌, length, take, drop, length-drop, refl, sym, ap, ◌∙◌, subst, arith, true, false}
-use Rattle.std.specs.Prelude.{Result, Ok, Err, Some, slice_get, slice_range}
+use Rattle.std.proofs.Common.{◌≡◌, ℕ, zero, suc, ◌<◌, List, [], ◌∷◌, take, drop, length-drop, refl, sym, ◌∙◌, subst, arith, true, false}
+use Rattle.std.specs.Prelude.{Result, Ok, Err, Some, slice_get}
 use Rattle.uc_clause.specs.declared.token.Token.{Token}
 use Rattle.uc_clause.specs.declared.token.Kind.{Kind}
 use Rattle.uc_clause.proofs.Once.{nothing_spells}
-use Rattle.uc_clause.specs.Tokens.{spells, Cut, end, gap, token, stuck, onto, token_at, AreTokens, IsWithin}
+use Rattle.uc_clause.specs.Tokens.{spells, Cut, end, gap, token, stuck, token_at, AreTokens, IsWithin}
 
 positive : (kind : Kind) (n : ℕ) (text : List ℕ) → spells kind (take n text) ≡ true → 0 < n
 positive kind zero text e = absurd (let bad : false ≡ true = sym (nothing_spells kind) ∙ e in cc)

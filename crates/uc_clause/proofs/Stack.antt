@@ -1,29 +1,21 @@
 -- The functors whose arguments are being read, and how what is read of the present argument completes them.
-use Rattle.std.proofs.Common.{◌≡◌, ℕ, zero, suc, ◌+◌, ◌<◌, ◌≤◌, List, [], ◌∷◌, ◌++◌, length, length-append, refl, sym, ap, ◌∙◌, subst, arith, append-nil, append_assoc, Bool, true, false}
-use Rattle.std.proofs.Math.Seq.{set-append_seam}
-use Rattle.std.proofs.lemmas.List.{map-append}
-use Rattle.std.specs.Prelude.{◌≢◌, map, slice_get, slice_set, Some, MatchBool}
-use Rattle.uc_term.specs.declared.node.Sym.{Sym}
+use Rattle.std.proofs.Common.{◌≡◌, ℕ, ◌+◌, ◌<◌, List, [], ◌∷◌, ◌++◌, length, length-append, refl, sym, ap, ◌∙◌, subst, arith, append-nil, append_assoc}
 use Rattle.uc_term.specs.declared.node.Node.{Node}
-use Rattle.uc_term.specs.declared.node.Node.TheVariants.{Var, App}
-use Rattle.uc_term.specs.Tree.{Tree, var, app, Trees, none, more, count}
+use Rattle.uc_term.specs.Tree.{Tree, Trees, none, more}
 use Rattle.uc_term.specs.Flat.{flat, flat_all}
-use Rattle.uc_term.specs.Table.{Table, Grows, IsSymbol}
+use Rattle.uc_term.specs.Table.{Table, Grows}
 use Rattle.uc_clause.specs.declared.token.Token.{Token}
-use Rattle.uc_clause.specs.declared.token.Place.{Place}
 use Rattle.uc_clause.specs.declared.terminal.Terminal.TheVariants.{Open, Close, Comma}
-use Rattle.uc_clause.specs.declared.grammar.head.Head.TheVariants.{Variable, Functor, Neither}
+use Rattle.uc_clause.specs.declared.grammar.head.Head.TheVariants.{Functor}
 use Rattle.uc_clause.specs.declared.grammar.draft.Pending.{Pending}
 use Rattle.uc_clause.specs.declared.grammar.stop.Why.{Why}
-use Rattle.uc_clause.specs.declared.grammar.stop.Why.TheVariants.{NoTerm, NoToken, Nodes, Arity}
-use Rattle.uc_clause.specs.Terminals.{terminal_at, bytes_at, word_at, place_at}
+use Rattle.uc_clause.specs.Terminals.{terminal_at}
 use Rattle.uc_clause.specs.Rules.{Outcome, read, stop, mapped}
-use Rattle.uc_clause.specs.Parse.{Parse, variable, applied, Parses, no_more, also, leaves, leaves_all, variables, variables_all, size}
-use Rattle.uc_clause.specs.Terms.{head_at, Term, Args, is_variable, is_constant, is_applied, is_node_too_many, is_no_term, stops_in_it, is_last, is_followed, is_one_too_many, is_followed_by_neither}
-use Rattle.uc_clause.specs.Meaning.{Variables, with_name, with_names, Means, MeanAll, variable_means, functor_means, none_mean, more_mean}
-use Rattle.uc_clause.specs.Drafts.{State, blank, Moves, reads_variable, reads_constant, opens_functor, goes_to_next, closes_functor, Sticks, at_no_term, at_node_too_many, at_argument_too_many, behind_argument}
-use Rattle.uc_clause.proofs.Tables.{grows_not, grows_twice}
-use Rattle.uc_clause.proofs.Means.{Extends, extends_not, with_name_extends, with_names_both, means_grows, mean_all_grows, size_means, count_all, count_mean_all, append, append_trees, append_also, count_append, count_trees_append, leaves_append, variables_append, flat_append, mean_append}
+use Rattle.uc_clause.specs.Parse.{Parse, applied, Parses, no_more, also, leaves_all, variables_all, size}
+use Rattle.uc_clause.specs.Terms.{head_at, Term, Args, is_applied, stops_in_it, is_last, is_followed}
+use Rattle.uc_clause.specs.Meaning.{Variables, MeanAll}
+use Rattle.uc_clause.specs.Drafts.{blank}
+use Rattle.uc_clause.proofs.Means.{Extends, mean_all_grows, count_all, append, append_trees, append_also, count_append, flat_append}
 
 -- a functor, by its token, and its arguments before the present one
 pub record Frame : Type 0 where

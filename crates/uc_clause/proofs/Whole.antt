@@ -1,19 +1,18 @@
 -- A whole text reads as one thing, or is refused for one reason.
-use Rattle.std.proofs.Common.{◌≡◌, ℕ, ◌<◌, ◌≤◌, List, [], length, refl, sym, ap, ◌∙◌, subst, arith, ◌⊎◌, inl, inr}
-use Rattle.std.specs.Prelude.{Result, Ok, Err, IfOk, IfErr}
+use Rattle.std.proofs.Common.{◌≡◌, ℕ, List, refl, sym, ap, ◌∙◌, subst, inl, inr}
+use Rattle.std.specs.Prelude.{Result, Ok, Err}
 use Rattle.uc_clause.specs.declared.token.Token.{Token}
 use Rattle.uc_clause.specs.declared.token.Place.{Place}
 use Rattle.uc_clause.specs.declared.fault.ClauseFault.{ClauseFault}
 use Rattle.uc_clause.specs.declared.fault.ClauseFault.TheVariants as fault
 use Rattle.uc_clause.specs.declared.fault.TokenFault.{TokenFault}
 use Rattle.uc_clause.specs.declared.fault.TokenFault.TheVariants as token
-use Rattle.uc_clause.specs.declared.grammar.stop.Why.{Why}
 use Rattle.uc_clause.specs.declared.grammar.stop.Stop.{Stop}
 use Rattle.uc_clause.specs.declared.grammar.stop.Stop.TheVariants.{At, NoMemory}
 use Rattle.uc_clause.specs.Faults.{clause_fault}
-use Rattle.uc_clause.specs.Tokens.{AreTokens, StopsAt, IsRefused, Cut, place_of}
-use Rattle.uc_clause.specs.Rules.{Rule, Outcome, read, stop, Stops}
-use Rattle.uc_clause.specs.Refusals.{fault_of, IsFaultOf}
+use Rattle.uc_clause.specs.Tokens.{AreTokens, StopsAt, IsRefused, place_of}
+use Rattle.uc_clause.specs.Rules.{Rule, read, stop, Stops}
+use Rattle.uc_clause.specs.Refusals.{IsFaultOf}
 use Rattle.uc_clause.specs.Reading.{ReadsBy, Refuses, isnt_tokens, isnt_read, IsUnlessMemory, IsFault, IsAnswer}
 use Rattle.uc_clause.proofs.Once.{cut_once}
 use Rattle.uc_clause.proofs.ReadOnce.{Once}

@@ -1,5 +1,5 @@
 -- What the readers of items answer.
-use Rattle.std.specs.Prelude.{◌≡◌, ◌⊎◌, ℕ, Bool, List, [], ◌++◌}
+use Rattle.std.specs.Prelude.{◌≡◌, ℕ, Bool, List, []}
 use Rattle.uc_term.specs.Tree.{Tree}
 use Rattle.uc_term.specs.Table.{Table}
 use Rattle.uc_clause.specs.declared.token.Token.{Token}
@@ -7,7 +7,6 @@ use Rattle.uc_clause.specs.declared.token.Place.{Place}
 use Rattle.uc_clause.specs.declared.clause.Clause.{Clause}
 use Rattle.uc_clause.specs.declared.clause.Item.{Item}
 use Rattle.uc_clause.specs.declared.fault.ClauseFault.{ClauseFault}
-use Rattle.uc_clause.specs.declared.fault.ClauseFault.TheVariants.{NoMemory}
 use Rattle.uc_clause.specs.declared.grammar.item.Heading.{Heading}
 use Rattle.uc_clause.specs.declared.grammar.literal.Equation.{Equation}
 use Rattle.uc_clause.specs.declared.grammar.stop.Why.{Why}

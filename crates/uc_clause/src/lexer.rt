@@ -20,7 +20,7 @@ enum First {
     Neither,
 }
 
-// One look at each byte decides; only this and what it calls is as hot as the loop in `tokens`.
+// The first bytes decide which; only this and what it calls is as hot as the loop in `tokens`.
 #[inline]
 fn scan(text: &[u8]) -> First
     ensures { IsFirst text.now result }
@@ -222,7 +222,8 @@ pub fn tokens(alloc: Global, bytes: &[u8]) -> Result<Seq<Token>, TokenFault>
     let mut out = Vec::new(alloc);
     let mut at = 0;
     let mut place = Place { line: 1, column: 1 };
-    // Hot: it goes once over all bytes of a file, and takes memory for the tokens alone.
+    // Hot: each token and each gap is gone over twice, for its length and for the place behind it, and memory is taken for
+    // the tokens alone.
     while at < bytes.len() {
         let (_, rest) = bytes.split_at(at);
         let n = match scan(rest) {

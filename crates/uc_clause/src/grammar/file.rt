@@ -1,9 +1,11 @@
 //! A file of items.
 
-ghost use Rattle.std.specs.Prelude.{◌≡◌, ◌<◌, ◌^◌, List, [], Ok, Err, length, IfOk, IfErr};
+ghost use Rattle.std.specs.Prelude.{◌≡◌, ◌<◌, ◌^◌, ℕ, Bool, List, [], Ok, Err, length, IfOk, IfErr};
+ghost use Rattle.uc_term.specs.Tree.{Tree};
 ghost use Rattle.uc_clause.specs.Reading.{ReadsBy, ReadsFile, Refuses, RefusesFile, SaysItems, IsAnswer, IsFault, IsUnlessMemory};
 ghost use Rattle.uc_clause.specs.declared.clause.Item.{Item};
 ghost use Rattle.uc_clause.specs.declared.fault.ClauseFault.{ClauseFault};
+ghost use Rattle.uc_clause.specs.declared.token.Place.{Place};
 ghost use Rattle.uc_term.specs.Table.{Grows};
 ghost use Rattle.uc_clause.specs.Tokens.{AreTokens};
 ghost use Rattle.uc_clause.specs.Rules.{Stops};
@@ -268,9 +270,14 @@ pub fn item_at(
     requires within { from < length tokens.now }
     ensures reads { IfOk result (λ r. ReadsItemAt bytes.now tokens.now from symbols.new r.0 r.1) }
     ensures refused { IfErr result (IsFault (StopsWith (items.Item bytes.now tokens.now) bytes.now tokens.now from)) }
+    ensures complete { (item : Item) (end : ℕ) → ReadsItemAt bytes.now tokens.now from symbols.new item end → IsUnlessMemory (Ok (item, end)) result }
+    ensures refuses { (fault : ClauseFault) → StopsWith (items.Item bytes.now tokens.now) bytes.now tokens.now from fault → IsUnlessMemory (Err fault) result }
     ensures grows { Grows symbols.old symbols.new }
 {
-    match item_in(alloc, bytes, tokens, from as usize, symbols) {
+    let found = item_in(alloc, bytes, tokens, from as usize, symbols);
+    // The entries of the table are all different, so what was read is the only reading.
+    let _ = symbols.len();
+    match found {
         Ok((item, end)) => Ok((item, end as u32)),
         Err(stop) => Err(refusal(alloc, bytes, tokens, stop)),
     }
@@ -295,10 +302,16 @@ pub fn literal_at(
     requires within { from < length tokens.now }
     ensures reads { IfOk result (λ r. ReadsLiteralAt bytes.now tokens.now from symbols.new r.0 r.1 r.2 r.3 r.4) }
     ensures refused { IfErr result (IsFault (StopsWith (items.literal bytes.now tokens.now) bytes.now tokens.now from)) }
+    ensures complete { (positive : Bool) (left right : Tree) (places : List Place) (end : ℕ) → ReadsLiteralAt bytes.now tokens.now from symbols.new positive left right places end → IsUnlessMemory (Ok (positive, left, right, places, end)) result }
+    ensures refuses { (fault : ClauseFault) → StopsWith (items.literal bytes.now tokens.now) bytes.now tokens.now from fault → IsUnlessMemory (Err fault) result }
     ensures grows { Grows symbols.old symbols.new }
 {
     let mut variables = Variables::new(alloc);
-    match equation_or_denial_at(alloc, bytes, tokens, from as usize, &mut variables, symbols) {
+    let from = from as usize;
+    let found = equation_or_denial_at(alloc, bytes, tokens, from, &mut variables, symbols);
+    // The entries of the table are all different, so what was read is the only reading.
+    let _ = symbols.len();
+    match found {
         Ok(Equation { positive, pair }) => Ok((
             positive,
             pair.left,

@@ -89,17 +89,17 @@ pub(crate) fn expect(
 #[derive(Drop)]
 struct Note {
     at: usize,
-    open: Vec<Bracket>,
+    brackets: Vec<Bracket>,
 }
 
 impl Note {
     // Goes over the next token, and answers whether that is a part of the note.
     fn step(&mut self, bytes: &[u8], tokens: &[Token]) -> Result<bool, Stop>
         ensures goes { IfOk result (NoteGoes bytes.now tokens.now self.old self.new) }
-        ensures stops { IfErr result (Stops (items.Rest bytes.now tokens.now self.old.open.items self.old.at)) }
+        ensures stops { IfErr result (Stops (items.Rest bytes.now tokens.now self.old.brackets.items self.old.at)) }
     {
         match piece_of(
-            innermost(self.open.as_slice()),
+            innermost(self.brackets.as_slice()),
             terminal_at(bytes, tokens, self.at),
         ) {
             Piece::Plain => {
@@ -107,12 +107,12 @@ impl Note {
                 Ok(true)
             }
             Piece::Opens(bracket) => {
-                self.open.push(bracket)?;
+                self.brackets.push(bracket)?;
                 self.at += 1;
                 Ok(true)
             }
             Piece::Closes => {
-                let _ = self.open.pop();
+                let _ = self.brackets.pop();
                 self.at += 1;
                 Ok(true)
             }
@@ -131,7 +131,7 @@ fn note_at(alloc: Global, bytes: &[u8], tokens: &[Token], from: usize) -> Result
     }
     let mut note = Note {
         at: from,
-        open: Vec::new(alloc),
+        brackets: Vec::new(alloc),
     };
     'pieces: while note.step(bytes, tokens)? {}
     Ok(note.at)

@@ -1,4 +1,3 @@
-use Rattle.std.proofs.Common.{[]}
 use Rattle.std.proofs.lemmas.Result.{err_from_is_err_and}
 use Rattle.uc_clause.proofs.Alone.{alone_equals_stops, alone_equals_more, alone_equals}
 use Rattle.uc_clause.proofs.grammar.alone.equation_in.Goals as goal

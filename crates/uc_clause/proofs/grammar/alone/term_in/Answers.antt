@@ -1,4 +1,3 @@
-use Rattle.std.proofs.Common.{[]}
 use Rattle.std.proofs.lemmas.Result.{err_from_is_err_and}
 use Rattle.uc_clause.proofs.Alone.{alone_term_stops, alone_term_more, alone_term}
 use Rattle.uc_clause.proofs.grammar.alone.term_in.Goals as goal

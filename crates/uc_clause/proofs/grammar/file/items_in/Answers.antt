@@ -1,6 +1,5 @@
-use Rattle.std.proofs.Common.{[], ◌<◌, sym, subst, arith}
+use Rattle.std.proofs.Common.{◌<◌, sym, subst, arith}
 use Rattle.std.proofs.lemmas.Result.{err_from_is_err_and}
-use Rattle.uc_clause.specs.Rules.{read}
 use Rattle.uc_clause.specs.Given.{AreItems}
 use Rattle.uc_clause.proofs.Ends.{some_token}
 use Rattle.uc_clause.proofs.Progress.{item_ahead}

@@ -1,7 +1,6 @@
-use Rattle.std.proofs.Common.{[], ◌∷◌, ◌++◌, subst, sym, ap, ◌∙◌, take, get_or, arith}
+use Rattle.std.proofs.Common.{[], ◌∷◌, ◌++◌, subst, sym, ap, ◌∙◌, take, get_or}
 use Rattle.std.proofs.lemmas.List.{take_more}
 use Rattle.uc_clause.specs.Meaning.{AreNames, no_names}
-use Rattle.uc_clause.specs.Terminals.{place_at}
 use Rattle.uc_clause.proofs.Gathered.{names_snoc}
 use Rattle.uc_clause.proofs.grammar.file.names_of.Goals as goal
 

@@ -1,8 +1,8 @@
 use Rattle.std.proofs.Common.{refl}
 use Rattle.std.proofs.lemmas.Result.{err_from_is_err_and}
-use Rattle.uc_clause.specs.declared.terminal.Terminal.TheVariants.{Lower, Open, Close, Comma, Dot, OpenSquare, CloseSquare}
-use Rattle.uc_clause.specs.declared.grammar.stop.Why.TheVariants.{NoItem, NoToken, NoSelection}
-use Rattle.uc_clause.specs.Rules.{the, goes_on, stops_first, is_first, is_second}
+use Rattle.uc_clause.specs.declared.terminal.Terminal.TheVariants.{Lower, Open, Comma}
+use Rattle.uc_clause.specs.declared.grammar.stop.Why.TheVariants.{NoItem, NoToken}
+use Rattle.uc_clause.specs.Rules.{the, goes_on, stops_first}
 use Rattle.uc_clause.specs.Items as items
 use Rattle.uc_clause.proofs.Sequences.{passes}
 use Rattle.uc_clause.proofs.grammar.item.heading_at.Goals as goal

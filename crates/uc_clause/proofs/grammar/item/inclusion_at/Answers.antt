@@ -1,11 +1,10 @@
-use Rattle.std.proofs.Common.{refl, arith}
+use Rattle.std.proofs.Common.{refl}
 use Rattle.std.proofs.lemmas.Result.{err_from_is_err_and}
-use Rattle.uc_clause.specs.declared.terminal.Terminal.TheVariants.{Lower, Open, Close, Comma, Dot, OpenSquare, CloseSquare}
-use Rattle.uc_clause.specs.declared.grammar.stop.Why.TheVariants.{NoItem, NoToken, NoSelection}
-use Rattle.uc_clause.specs.Rules.{the, goes_on, stops_first, is_first, is_second}
+use Rattle.uc_clause.specs.declared.terminal.Terminal.TheVariants.{Lower, Open, Dot}
+use Rattle.uc_clause.specs.declared.grammar.stop.Why.TheVariants.{NoItem, NoToken}
+use Rattle.uc_clause.specs.Rules.{the, goes_on, stops_first}
 use Rattle.uc_clause.specs.Items as items
-use Rattle.uc_clause.proofs.Ends.{some_other}
-use Rattle.uc_clause.proofs.Sequences.{passes, gives_more}
+use Rattle.uc_clause.proofs.Sequences.{passes}
 use Rattle.uc_clause.proofs.grammar.item.inclusion_at.Goals as goal
 
 pub returns-in_err-at : goal.returns-in_err-at

@@ -1,7 +1,7 @@
 use Rattle.std.proofs.Common.{refl, arith}
 use Rattle.std.proofs.lemmas.Result.{err_from_is_err_and}
-use Rattle.uc_clause.specs.declared.terminal.Terminal.TheVariants.{Lower, Open, Close, Comma, Dot, OpenSquare, CloseSquare}
-use Rattle.uc_clause.specs.declared.grammar.stop.Why.TheVariants.{NoItem, NoToken, NoSelection}
+use Rattle.uc_clause.specs.declared.terminal.Terminal.TheVariants.{OpenSquare, CloseSquare}
+use Rattle.uc_clause.specs.declared.grammar.stop.Why.TheVariants.{NoSelection}
 use Rattle.uc_clause.specs.Rules.{the, goes_on, stops_first, is_first, is_second}
 use Rattle.uc_clause.specs.Items as items
 use Rattle.uc_clause.proofs.Ends.{some_other}

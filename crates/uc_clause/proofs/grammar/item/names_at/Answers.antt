@@ -1,8 +1,6 @@
 use Rattle.std.proofs.Common.{sym, subst, arith, ◌∙◌, ◌+◌}
 use Rattle.std.proofs.lemmas.Result.{err_from_is_err_and}
 use Rattle.uc_clause.specs.declared.terminal.Terminal.TheVariants.{CloseSquare, Comma}
-use Rattle.uc_clause.specs.Rules.{read}
-use Rattle.uc_clause.specs.Items as items
 use Rattle.uc_clause.proofs.Ends.{some_other}
 use Rattle.uc_clause.proofs.Lists.{Lists, name_stops, last_name, next_name, no_name, name_end}
 use Rattle.uc_clause.proofs.grammar.item.names_at.Goals as goal

@@ -1,5 +1,4 @@
 use Rattle.std.proofs.lemmas.Result.{err_from_is_err_and}
-use Rattle.uc_clause.specs.Rules.{Goes}
 use Rattle.uc_clause.proofs.Notes.{more_comma_stops, more_second}
 use Rattle.uc_clause.proofs.grammar.note.more_notes_at.Goals as goal
 

@@ -13,7 +13,7 @@ returns-in-Behind c = is_no_note (ap (piece_of None) (sym c.terminal_at.ensures)
 pub returns-in_err-step : goal.returns-in_err-step
 returns-in_err-step c =
     let p = err_from_is_err_and c.from_residual.result c.from_residual.ensures.1 in
-    rw (p.1, p.2) (note_reads c.args.bytes.now c.args.tokens.now c.args.from c.in_err-step.field-0.0 (λ e. c.in_default.not-Behind (c.piece_of.ensures ∙ ap (piece_of None) c.terminal_at.ensures ∙ e)) (passes (Rest c.args.bytes.now c.args.tokens.now c.pieces.note.open.items c.pieces.note.at) (Rest c.args.bytes.now c.args.tokens.now [] c.args.from) c.in_err-step.field-0.0 (λ why k s. c.pieces.invariant (stop why k) s) c.in_err-step.ensures.stops))
+    rw (p.1, p.2) (note_reads c.args.bytes.now c.args.tokens.now c.args.from c.in_err-step.field-0.0 (λ e. c.in_default.not-Behind (c.piece_of.ensures ∙ ap (piece_of None) c.terminal_at.ensures ∙ e)) (passes (Rest c.args.bytes.now c.args.tokens.now c.pieces.note.brackets.items c.pieces.note.at) (Rest c.args.bytes.now c.args.tokens.now [] c.args.from) c.in_err-step.field-0.0 (λ why k s. c.pieces.invariant (stop why k) s) c.in_err-step.ensures.stops))
 
 pub returns : goal.returns
 returns c =

@@ -4,7 +4,7 @@ use Rattle.uc_clause.specs.Items.{Rest}
 use Rattle.uc_clause.proofs.grammar.note.note_at.Given as goal
 
 abbrev pub invariant-pieces : goal.invariant-pieces
-invariant-pieces l = (o : Outcome (Unit {0})) → Rest l.bytes l.tokens l.note.open.items l.note.at o → Rest l.bytes l.tokens [] l.from o
+invariant-pieces l = (o : Outcome (Unit {0})) → Rest l.bytes l.tokens l.note.brackets.items l.note.at o → Rest l.bytes l.tokens [] l.from o
 
 abbrev pub decreases-pieces : goal.decreases-pieces
 decreases-pieces l = length l.tokens - l.note.at

@@ -1,4 +1,4 @@
-use Rattle.std.proofs.Common.{refl, sym, ◌∙◌, arith}
+use Rattle.std.proofs.Common.{sym, ◌∙◌, arith}
 use Rattle.uc_clause.specs.Drafts.{at_no_term, at_node_too_many}
 use Rattle.uc_clause.proofs.Tables.{grows_not}
 use Rattle.uc_clause.proofs.grammar.draft.Draft.begin.Goals as goal

@@ -1,5 +1,5 @@
 use Rattle.std.proofs.Common.{refl, sym, ◌∙◌, arith}
-use Rattle.uc_clause.specs.declared.terminal.Terminal.TheVariants.{Comma, Close}
+use Rattle.uc_clause.specs.declared.terminal.Terminal.TheVariants.{Comma}
 use Rattle.uc_clause.specs.Drafts.{closes_functor, goes_to_next, at_argument_too_many, behind_argument}
 use Rattle.uc_clause.proofs.Ends.{some_other}
 use Rattle.uc_clause.proofs.Tables.{grows_not, interned_grows}

@@ -1,4 +1,4 @@
-use Rattle.std.proofs.Common.{arith, true}
+use Rattle.std.proofs.Common.{arith}
 use Rattle.std.proofs.lemmas.Result.{err_from_is_err_and}
 use Rattle.uc_clause.specs.Drafts.{state_of}
 use Rattle.uc_clause.proofs.Tables.{grows_twice}

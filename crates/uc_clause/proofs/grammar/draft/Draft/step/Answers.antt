@@ -1,5 +1,4 @@
 use Rattle.std.proofs.lemmas.Result.{err_from_is_err_and}
-use Rattle.uc_clause.specs.Drafts.{IsStuck, state_of}
 use Rattle.uc_clause.proofs.grammar.draft.Draft.step.Goals as goal
 
 pub returns-in_err-behind-clause-stops : goal.returns-in_err-behind-clause-stops
