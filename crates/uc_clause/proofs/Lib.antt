@@ -22,6 +22,7 @@ pub mod ReadOnce
 pub mod Sequences
 pub mod Literals
 pub mod MeansOnce
+pub mod TermsOnce
 pub mod Whole
 pub mod Alone
 pub mod Printed

@@ -7,13 +7,10 @@ use Rattle.uc_term.specs.declared.node.Sym.{Sym}
 use Rattle.uc_term.specs.Tree.{Tree, var, Trees, count}
 use Rattle.uc_term.specs.Table.{Table, IsSymbol, IsDistinct}
 use Rattle.uc_clause.specs.declared.token.Token.{Token}
+use Rattle.uc_clause.specs.Distinct.{AreDistinct}
 use Rattle.uc_clause.specs.Terminals.{bytes_at, word_at}
 use Rattle.uc_clause.specs.Parse.{Parse, Parses}
 use Rattle.uc_clause.specs.Meaning.{Variables, with_name, with_names, Means, MeanAll, variable_means, functor_means, none_mean, more_mean}
-
--- each name stands at one place
-abbrev pub AreDistinct : Variables → Type 0
-AreDistinct seen = (i j : ℕ) (x : List ℕ) → slice_get seen i ≡ Some x → slice_get seen j ≡ Some x → i ≡ j
 
 get_snoc : (xs : Variables) (y : List ℕ) (i : ℕ) (x : List ℕ) → slice_get (xs ++ y ∷ []) i ≡ Some x → (slice_get xs i ≡ Some x) ⊎ ((i ≡ length xs) × (x ≡ y))
 get_snoc [] y zero x e = inr (refl, cc)
@@ -33,7 +30,7 @@ not_among x (y ∷ seen) (suc i) e at = not_among x seen i (later (bytes_eq x y)
     later true b e = absurd (cc)
     later false b e = e
 
-with_name_distinct : (seen : Variables) (x : List ℕ) → AreDistinct seen → AreDistinct (with_name seen x)
+pub with_name_distinct : (seen : Variables) (x : List ℕ) → AreDistinct seen → AreDistinct (with_name seen x)
 with_name_distinct seen x d = go (list_any (bytes_eq x) seen) refl
   where
     snoc : list_any (bytes_eq x) seen ≡ false → AreDistinct (seen ++ x ∷ [])

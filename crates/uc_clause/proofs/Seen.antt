@@ -1,5 +1,5 @@
 -- Names of variables.
-use Rattle.std.proofs.Common.{◌≡◌, ℕ, List, [], ◌∷◌, ◌++◌, Bool, true, false, refl, sym, ap, ◌∙◌}
+use Rattle.std.proofs.Common.{◌≡◌, ℕ, List, [], ◌∷◌, ◌++◌, Bool, true, false, refl, sym, ap, ◌∙◌, subst}
 use Rattle.std.specs.Prelude.{map, Some, slice_get, ◌==◌, ◌||◌, bytes_eq, if◌then◌else◌, Vec}
 use Rattle.std.specs.List.{list_any}
 use Rattle.std.specs.declared.alloc.Global.{Global}
@@ -7,7 +7,9 @@ use Rattle.std.specs.Cmp.Lexicographic.{pointwise, bytes_decides}
 use Rattle.std.specs.Option.{option_map}
 use Rattle.std.proofs.lemmas.List.{map-append}
 use Rattle.std.proofs.lemmas.Option.{slice_get-map}
+use Rattle.uc_clause.specs.Distinct.{AreDistinct}
 use Rattle.uc_clause.specs.Meaning.{Variables, with_name}
+use Rattle.uc_clause.proofs.MeansOnce.{with_name_distinct}
 
 abbrev pub names_of : List (Vec ℕ Global) → Variables
 names_of keys = map (λ name. name.items) keys
@@ -29,3 +31,6 @@ names_insert ks new k e = rw (e, ← any_same k ks) (go (list_any (same k) ks))
 pub name_stored : (new : List (Vec ℕ Global)) (i : ℕ) (stored k : Vec ℕ Global) → slice_get new i ≡ Some stored → same k stored ≡ true → slice_get (names_of new) i ≡ Some k.items
 name_stored new i stored k at like =
     slice_get-map (λ (name : Vec ℕ Global). name.items) new i ∙ ap (option_map (λ (name : Vec ℕ Global). name.items)) at ∙ ap Some (sym ((bytes_decides k.items stored.items).0 like))
+
+pub distinct_insert : (ks new : List (Vec ℕ Global)) (k : Vec ℕ Global) → new ≡ (if list_any (same k) ks then ks else ks ++ k ∷ []) → AreDistinct (names_of ks) → AreDistinct (names_of new)
+distinct_insert ks new k e apart = subst AreDistinct (sym (names_insert ks new k e)) (with_name_distinct (names_of ks) k.items apart)

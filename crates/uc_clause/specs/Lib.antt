@@ -1,4 +1,5 @@
 pub mod Bytes
+pub mod Distinct
 pub mod Tokens
 pub mod Names
 pub mod Printing

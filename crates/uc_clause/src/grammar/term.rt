@@ -1,9 +1,11 @@
 //! Terms among tokens, and a term that is a whole text.
 
-ghost use Rattle.std.specs.Prelude.{◌≡◌, IfOk, IfErr};
+ghost use Rattle.std.specs.Prelude.{◌≡◌, ◌⊎◌, ℕ, Ok, Err, IfOk, IfErr};
+ghost use Rattle.uc_term.specs.Tree.{Tree};
 ghost use Rattle.uc_term.specs.Table.{Grows};
 ghost use Rattle.uc_clause.specs.Tokens.{AreTokens};
-ghost use Rattle.uc_clause.specs.Rules.{Stops};
+ghost use Rattle.uc_clause.specs.Rules.{stop, Stops};
+ghost use Rattle.uc_clause.specs.declared.grammar.stop.Why.{Why};
 ghost use Rattle.uc_clause.specs.Terms.{Term as Reads};
 ghost use Rattle.uc_clause.specs.Reading.{ReadsTermAt};
 ghost use Rattle.uc_clause.specs.Drafts.{IsPart};
@@ -55,8 +57,14 @@ pub fn term_at(
     requires tokens { AreTokens bytes.now tokens.now }
     ensures reads { IfOk result (λ r. ReadsTermAt bytes.now tokens.now from r.1 variables.old variables.new symbols.new r.0) }
     ensures stops { IfErr result (Stops (Reads bytes.now tokens.now 0 from)) }
+    ensures complete { (t : Tree) (end : ℕ) → ReadsTermAt bytes.now tokens.now from end variables.old variables.new symbols.new t → (result ≡ Ok (t, end)) ⊎ (result ≡ Err Stop.NoMemory) }
+    ensures refuses { (why : Why) (k : ℕ) → Reads bytes.now tokens.now 0 from (stop why k) → (result ≡ Err (Stop.At why k)) ⊎ (result ≡ Err Stop.NoMemory) }
     ensures grows { Grows symbols.old symbols.new }
 {
-    let part = part_at(alloc, bytes, tokens, from, variables, symbols)?;
+    let found = part_at(alloc, bytes, tokens, from, variables, symbols);
+    // The entries of the table are all different, and so are the names, so what was read is the only reading.
+    let _ = symbols.len();
+    let _ = variables.len();
+    let part = found?;
     Ok((part.term, part.end))
 }

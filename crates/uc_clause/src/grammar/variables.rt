@@ -1,6 +1,7 @@
 //! The names of variables.
 
-ghost use Rattle.std.specs.Prelude.{◌≡◌, [], Some, slice_get, IfOk, OnErr};
+ghost use Rattle.std.specs.Prelude.{◌≡◌, [], Some, slice_get, length, IfOk, OnErr};
+ghost use Rattle.uc_clause.specs.Distinct.{AreDistinct};
 ghost use Rattle.uc_clause.specs.Meaning.{with_name};
 
 use indexmap::IndexSet;
@@ -19,6 +20,10 @@ impl Model for Variables {
     ghost Value = { List (List ℕ) };
 
     ghost view = { λ s. map (λ name. name.items) s.names.keys };
+
+    ghost use Rattle.uc_clause.specs.Distinct.{AreDistinct};
+
+    ghost invariant = { λ s. AreDistinct (map (λ name. name.items) s.names.keys) };
 }
 
 impl Variables {
@@ -29,6 +34,14 @@ impl Variables {
         Variables {
             names: IndexSet::new(alloc),
         }
+    }
+
+    /// How many names there are.
+    pub(crate) fn len(&self) -> usize
+        ensures count { result ≡ length self.now }
+        ensures distinct { AreDistinct self.now }
+    {
+        self.names.len()
     }
 
     /// The number of a name, which may be new. Room for 2^32 - 1 names is enough for every text that is read; past it the
