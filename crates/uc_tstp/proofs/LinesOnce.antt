@@ -9,6 +9,7 @@ use Rattle.uc_clause.specs.Terminals.{terminal_at, bytes_at}
 use Rattle.uc_clause.specs.Rules.{Outcome, read, stop, Rule, mapped}
 use Rattle.uc_clause.specs.Items as items
 use Rattle.uc_clause.proofs.ReadOnce.{Once, both_once, here_once, gives_once, the_once, choice_once, term_once}
+use Rattle.uc_clause.proofs.ItemsOnce.{equation_once}
 use Rattle.uc_tstp.specs.declared.words.Inference.{Inference}
 use Rattle.uc_tstp.specs.declared.words.Inference.TheVariants.{Chain, Encode, Refute}
 use Rattle.uc_tstp.specs.Parse.{Body, says, Source, Line}
@@ -26,9 +27,6 @@ module _ (bytes : List ℕ) (tokens : List Token) where
 
   token_once : (terminal : Terminal) → Once (lines.token bytes tokens terminal)
   token_once terminal = the_once bytes tokens terminal NoToken
-
-  equation_once : Once (items.equation bytes tokens)
-  equation_once = both_once _ _ here_once (λ first. both_once (items.term bytes tokens) _ term_rule (λ left. both_once (items.sign bytes tokens first) _ (λ at o p x y. x ∙ sym y) (λ positive. both_once (items.term bytes tokens) _ term_rule (λ right. gives_once _))))
 
   word_once : (w : List ℕ) → Once (lines.word bytes tokens w)
   word_once w at (read v end) (read u other) x y = ap (read v) (x.1 ∙ sym y.1)
@@ -89,7 +87,7 @@ module _ (bytes : List ℕ) (tokens : List Token) where
   body_once_at (is_false e) (is_false f) = refl
   body_once_at (is_false e) (is_equation f y) = absurd (yes_or_no e f)
   body_once_at (is_equation e x) (is_false f) = absurd (yes_or_no f e)
-  body_once_at {at} (is_equation {outcome = o} e x) (is_equation {outcome = p} f y) = ap (mapped says) (equation_once at o p x y)
+  body_once_at {at} (is_equation {outcome = o} e x) (is_equation {outcome = p} f y) = ap (mapped says) (equation_once bytes tokens at o p x y)
 
   body_once : Once (lines.body bytes tokens)
   body_once at o p x y = body_once_at x y

@@ -1,13 +1,12 @@
 -- What lines say in a table of symbols and with their names all different is one thing.
-use Rattle.std.proofs.Common.{◌≡◌, ℕ, List, [], ◌++◌, refl, sym, ap, ◌∙◌, Bool, true, false}
-use Rattle.std.specs.Prelude.{◌↔◌}
+use Rattle.std.proofs.Common.{◌≡◌, ℕ, List, [], ◌++◌, refl, sym, ap, ◌∙◌}
 use Rattle.uc_term.specs.Table.{Table, IsDistinct}
 use Rattle.uc_clause.specs.declared.token.Token.{Token}
-use Rattle.uc_clause.specs.declared.clause.Name.{Name}
-use Rattle.uc_clause.specs.declared.terminal.Terminal.TheVariants.{Integer}
-use Rattle.uc_clause.specs.Terminals.{terminal_at, bytes_at}
-use Rattle.uc_clause.specs.Meaning.{Variables, IsName}
-use Rattle.uc_clause.proofs.MeansOnce.{AreDistinct, none_distinct, with_names_distinct, means_once}
+use Rattle.uc_clause.specs.Terminals.{bytes_at}
+use Rattle.uc_clause.specs.Meaning.{Variables}
+use Rattle.uc_clause.proofs.ItemsOnce.{name_is_once}
+use Rattle.uc_clause.specs.Distinct.{AreDistinct}
+use Rattle.uc_clause.proofs.MeansOnce.{none_distinct, with_names_distinct, means_once}
 use Rattle.uc_check.specs.declared.proof.Line.{Line}
 use Rattle.uc_check.specs.declared.proof.LineStep.{LineStep}
 use Rattle.uc_check.specs.declared.proof.LineSource.{LineSource}
@@ -16,20 +15,7 @@ use Rattle.uc_tstp.specs.Parse as parse
 use Rattle.uc_tstp.specs.Parse.{Body, says, falsum, Source, from_file, by_chain, by_reflexive, by_goal, by_refute}
 use Rattle.uc_tstp.specs.Meaning.{body_variables, source_variables, variables_of, IsNamed, AreNamed, none_named, one_named, MeansStep, MeanSteps, no_steps, one_step, MeansSource, MeansBody, MeansLine, MeanLines, no_lines, one_line}
 
-integers_once : (a b : Bool) (P : Type 0) → (a ≡ true) ↔ P → (b ≡ true) ↔ P → a ≡ b
-integers_once true true P p q = refl
-integers_once true false P p q = absurd (let e = q.1 (p.0 refl) in cc)
-integers_once false true P p q = absurd (let e = p.1 (q.0 refl) in cc)
-integers_once false false P p q = refl
-
 module _ (bytes : List ℕ) (tokens : List Token) where
-  name_is_once : (k : ℕ) (m n : Name) → IsName bytes tokens k m → IsName bytes tokens k n → m ≡ n
-  name_is_once k m n a b =
-      let texts : m.text ≡ n.text = a.text ∙ sym b.text in
-      let integers : m.integer ≡ n.integer = integers_once m.integer n.integer (terminal_at bytes tokens k ≡ Integer) a.integer b.integer in
-      let both : record { text = m.text; integer = m.integer } ≡ (let r : Name = record { text = n.text; integer = n.integer } in r) = rw (texts, integers) refl in
-      both
-
   module _ (names : List (List ℕ)) (different : AreDistinct names) where
     named_once : (k m n : ℕ) → IsNamed bytes tokens names k m → IsNamed bytes tokens names k n → m ≡ n
     named_once k m n a b = different m n (bytes_at bytes tokens k) a b
@@ -60,7 +46,7 @@ module _ (bytes : List ℕ) (tokens : List Token) where
             rw (first, rest) refl
 
         source_is_once : (s : Source) (a b : LineSource) → MeansSource bytes tokens table names seen s a → MeansSource bytes tokens table names seen s b → a ≡ b
-        source_is_once (from_file k) (File m) (File n) x y = ap File (name_is_once k m n x y)
+        source_is_once (from_file k) (File m) (File n) x y = ap File (name_is_once bytes tokens k m n x y)
         source_is_once (by_chain p ss ks) (Chain t xs ms) (Chain u ys ns) x y =
             let starts : t ≡ u = means_once bytes tokens table seen distinct apart x.0 y.0 in
             let steps : xs ≡ ys = steps_are_once x.1 y.1 in

@@ -6,7 +6,8 @@ use Rattle.std.specs.Cmp.Lexicographic.{bytes_decides}
 use Rattle.uc_clause.specs.declared.token.Token.{Token}
 use Rattle.uc_clause.specs.Terminals.{bytes_at}
 use Rattle.uc_clause.specs.Rules.{Outcome, read, stop, Rule, Then, goes_on, stops_first, gives}
-use Rattle.uc_clause.proofs.MeansOnce.{AreDistinct, none_distinct}
+use Rattle.uc_clause.specs.Distinct.{AreDistinct}
+use Rattle.uc_clause.proofs.MeansOnce.{none_distinct}
 use Rattle.uc_tstp.specs.Parse.{Line}
 use Rattle.uc_tstp.specs.Lines as lines
 use Rattle.uc_tstp.specs.Lines.{LineName, is_new, is_repeated, is_no_line_name, LinesAt, is_no_line, has_line, stops_in_line}

@@ -1,11 +1,9 @@
 -- A step ends behind where it begins.
-use Rattle.std.proofs.Common.{◌≡◌, ℕ, ◌+◌, ◌≤◌, List, arith}
+use Rattle.std.proofs.Common.{◌≡◌, ℕ, ◌+◌, ◌<◌, ◌≤◌, List, arith}
 use Rattle.uc_clause.specs.declared.token.Token.{Token}
 use Rattle.uc_clause.specs.Terminals.{terminal_at, bytes_at}
 use Rattle.uc_clause.specs.Rules.{Outcome, read, stop, Rule, mapped, goes_on, is_first, is_second}
-use Rattle.uc_clause.specs.Parse.{Parse, Parses}
-use Rattle.uc_clause.specs.Terms.{Term, Args, is_variable, is_constant, is_applied, is_node_too_many, is_no_term, stops_in_it, is_last, is_followed, is_one_too_many, is_followed_by_neither}
-use Rattle.uc_clause.proofs.Progress.{NotBehind}
+use Rattle.uc_clause.proofs.Progress.{NotBehind, term_ahead}
 use Rattle.uc_tstp.specs.Parse as parse
 use Rattle.uc_tstp.specs.Lines as lines
 use Rattle.uc_tstp.specs.Lines.{Members, stops_in_member, is_last_member, is_member, stops_behind_member, lower_by, number_by, way_by}
@@ -16,21 +14,6 @@ over f from at (read v end) h a = omega arith
 over f from at (stop why k) h a = tt
 
 module _ (bytes : List ℕ) (tokens : List Token) where
-  mutual
-    term_ends : {used at : ℕ} {o : Outcome Parse} → Term bytes tokens used at o → NotBehind at o
-    term_ends (is_variable h r) = omega arith
-    term_ends (is_constant h r a) = omega arith
-    term_ends (is_applied {at = at} {outcome = o} h r b args) = over _ at (at + 2) o (omega arith) (args_end args)
-    term_ends (is_node_too_many h r) = tt
-    term_ends (is_no_term h) = tt
-
-    args_end : {functor number used at : ℕ} {o : Outcome Parses} → Args bytes tokens functor number used at o → NotBehind at o
-    args_end (stops_in_it x) = tt
-    args_end (is_last x c) = let h = term_ends x in omega arith
-    args_end (is_followed {at = at} {end = end} {outcome = o} x c f args) = let h = term_ends x in over _ at (end + 1) o (omega arith) (args_end args)
-    args_end (is_one_too_many x c f) = tt
-    args_end (is_followed_by_neither x c d) = tt
-
   module _ {V : Type 0} (member : Rule V) (ends : (at end : ℕ) (v : V) → member at (read v end) → at ≤ end) where
     members_end : {at : ℕ} {o : Outcome (List V)} → Members bytes tokens member at o → NotBehind at o
     members_end (stops_in_member s) = tt
@@ -53,5 +36,5 @@ module _ (bytes : List ℕ) (tokens : List Token) where
   pub step_ends : (at end : ℕ) (s : parse.Step) → lines.step bytes tokens at (read s end) → at ≤ end
   step_ends at end s (goes_on {v = head} {middle = m} h (goes_on {v = p} {middle = n} t (goes_on {middle = k} c g))) =
       let same : end ≡ k = cc in
-      let term : m ≤ n = term_ends t in
+      let term : m < n = term_ahead bytes tokens m (read p n) t in
       omega (arith, head_ends at m head h, c.1)
