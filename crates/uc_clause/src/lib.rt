@@ -9,6 +9,8 @@ mod grammar;
 mod lexer;
 mod printer;
 mod quotes;
+#[cfg(test)]
+mod reading_tests;
 mod terminal;
 #[cfg(test)]
 mod text_tests;
