@@ -14,11 +14,11 @@ use Rattle.uc_problem.specs.declared.fetch.Found.{Found}
 use Rattle.uc_problem.specs.declared.fault.LoadFault.{LoadFault}
 use Rattle.uc_problem.specs.declared.fault.LoadFault.TheVariants.{Absent, ReadFault, TooDeep, NoSuchName, ArityClash, Limit, Clause, NoMemory}
 use Rattle.uc_problem.specs.Candidates.{candidates}
-use Rattle.uc_problem.specs.Fetching.{cut, IsFirst}
-use Rattle.uc_problem.specs.Loading.{Loaded, LoadsFile, LoadsItems, clause, too_many_clauses, too_deep, too_many_files, absent, stops_inside, misses_name, includes, all_before, before, first_held, selected, listed_or, first_missing}
-use Rattle.uc_problem.specs.Holds.{ReadsAs}
-use Rattle.uc_problem.specs.Parts.{ForFiles, IsPart, ItemComesTo, IsTaken, IsSelection}
-use Rattle.uc_problem.proofs.Items.{all_files, for_both, refused_part}
+use Rattle.uc_problem.specs.Fetching.{cut, IsFirst, IsTriedFault}
+use Rattle.uc_problem.specs.Loading.{Loaded, LoadsFile, LoadsItems, clause, too_many_clauses, too_deep, too_many_files, fetch_fails, absent, stops_inside, misses_name, includes, all_before, before, first_held, selected, listed_or, first_missing}
+use Rattle.uc_problem.specs.Holds.{ReadsAs, ForFiles}
+use Rattle.uc_problem.specs.Parts.{IsPart, ItemComesTo, IsTaken, IsSelection}
+use Rattle.uc_problem.proofs.Items.{all_files, later_rise, for_both, refused_part}
 
 module _ (holds : Option Files) (folder : List ℕ) (root : Option (List ℕ)) (depth : ℕ) (name : List ℕ) (old : Counts) where
   taken_before : (s : Sourced) (loaded : Loaded) → before s loaded ≡ all_before (s ∷ []) loaded
@@ -27,14 +27,14 @@ module _ (holds : Option Files) (folder : List ℕ) (root : Option (List ℕ)) (
 
   pub taken : (c : read.Clause) (t : Table) (first now : ℕ) (new : Counts) (r : Result (List Sourced) LoadFault) → IsTaken name c old new r → IsPart holds first now t new (ItemComesTo folder root depth name old (item.Clause c)) r
   taken c t first now new (Ok clauses) h =
-      all_files holds t (λ files T. ItemComesTo folder root depth name old (item.Clause c) files T (Ok (clauses, new)))
-      (λ files T rest loaded l. subst (λ (cs : List Sourced). LoadsItems (ReadsAs T) files folder root depth name old (item.Clause c ∷ rest) (all_before cs loaded)) (sym h.1)
-      (subst (λ (x : Loaded). LoadsItems (ReadsAs T) files folder root depth name old (item.Clause c ∷ rest) x) (taken_before (record { file = name; clause = c }) loaded)
-      (clause h.0 (subst (λ (n : Counts). LoadsItems (ReadsAs T) files folder root depth name n rest loaded) h.2 l))))
+      all_files holds t (λ files T. (failing : Option (List ℕ)) → ItemComesTo folder root depth name old (item.Clause c) files T failing (Ok (clauses, new)))
+      (λ files T failing rest loaded l. subst (λ (cs : List Sourced). LoadsItems (ReadsAs T) files failing folder root depth name old (item.Clause c ∷ rest) (all_before cs loaded)) (sym h.1)
+      (subst (λ (x : Loaded). LoadsItems (ReadsAs T) files failing folder root depth name old (item.Clause c ∷ rest) x) (taken_before (record { file = name; clause = c }) loaded)
+      (clause h.0 (subst (λ (n : Counts). LoadsItems (ReadsAs T) files failing folder root depth name n rest loaded) h.2 l))))
   taken c t first now new (Err NoMemory) h = tt
   taken c t first now new (Err (Limit file place what)) h =
-      all_files holds t (λ files T. ItemComesTo folder root depth name old (item.Clause c) files T (Err (Limit file place what)))
-      (λ files T rest. subst (λ (e : LoadFault). LoadsItems (ReadsAs T) files folder root depth name old (item.Clause c ∷ rest) (Err e)) (sym h.1) (too_many_clauses h.0))
+      all_files holds t (λ files T. ItemComesTo folder root depth name old (item.Clause c) files T None (Err (Limit file place what)))
+      (λ files T rest. subst (λ (e : LoadFault). LoadsItems (ReadsAs T) files None folder root depth name old (item.Clause c ∷ rest) (Err e)) (sym h.1) (too_many_clauses h.0))
   taken c t first now new (Err (Absent file from)) h = absurd cc
   taken c t first now new (Err (ReadFault file)) h = absurd cc
   taken c t first now new (Err (TooDeep file place)) h = absurd cc
@@ -43,24 +43,42 @@ module _ (holds : Option Files) (folder : List ℕ) (root : Option (List ℕ)) (
   taken c t first now new (Err (Clause file fault)) h = absurd cc
 
   module _ (i : Include) where
-    abbrev pub Comes : Files → Table → Loaded → Type 0
+    abbrev pub Comes : Files → Table → Option (List ℕ) → Loaded → Type 0
     Comes = ItemComesTo folder root depth name old (item.Include i)
 
     pub deep : (t : Table) (first now : ℕ) (new : Counts) → 16 ≤ depth → IsPart holds first now t new Comes (Err (TooDeep name i.place))
-    deep t first now new h = all_files holds t (λ files T. Comes files T (Err (TooDeep name i.place))) (λ files T rest. too_deep h)
+    deep t first now new h = all_files holds t (λ files T. Comes files T None (Err (TooDeep name i.place))) (λ files T rest. too_deep h)
 
     pub many : (t : Table) (first now : ℕ) (new : Counts) → depth < 16 → 256 ≤ old.files → IsPart holds first now t new Comes (Err (Limit name i.place FileCount))
-    many t first now new h k = all_files holds t (λ files T. Comes files T (Err (Limit name i.place FileCount))) (λ files T rest. too_many_files h k)
+    many t first now new h k = all_files holds t (λ files T. Comes files T None (Err (Limit name i.place FileCount))) (λ files T rest. too_many_files h k)
 
     abbrev names : List (List ℕ)
     names = candidates folder root i.file
 
-    none_held : (holds : Option Files) (t : Table) (first now : ℕ) → depth < 16 → old.files < 256 → IsFirst holds first now names (Ok None) → ForFiles holds t (λ files T. Comes files T (Err (Absent i.file (Some (name, i.place)))))
+    none_held : (holds : Option Files) (t : Table) (first now : ℕ) → depth < 16 → old.files < 256 → IsFirst holds first now names (Ok None) → ForFiles holds t (λ files T. Comes files T None (Err (Absent i.file (Some (name, i.place)))))
     none_held None t first now h k f = tt
     none_held (Some files) t first now h k f = λ T g rest. absent h k f
 
     pub missing : (t : Table) (first before now : ℕ) (new : Counts) → depth < 16 → old.files < 256 → IsFirst holds before now names (Ok None) → IsPart holds first now t new Comes (Err (Absent i.file (Some (name, i.place))))
     missing t first before now new h k f = none_held holds t before now h k f
+
+    -- the library failed at a name that was tried
+    fails_here : (holds : Option Files) (t : Table) (first before now : ℕ) (new : Counts) (file : List ℕ) → depth < 16 → old.files < 256 → first ≤ before → IsTriedFault holds before now names (ReadFault file) → IsPart holds first now t new Comes (Err (ReadFault file))
+    fails_here None t first before now new file h k le f = (later_rise first before now le f.0, tt)
+    fails_here (Some files) t first before now new file h k le f = (later_rise first before now le f.0, λ T g rest. fetch_fails h k f.1 refl)
+
+    tried_fault : (t : Table) (first before now : ℕ) (new : Counts) (e : LoadFault) → depth < 16 → old.files < 256 → first ≤ before → IsTriedFault holds before now names e → IsPart holds first now t new Comes (Err e)
+    tried_fault t first before now new (ReadFault file) h k le f = fails_here holds t first before now new file h k le f
+    tried_fault t first before now new NoMemory h k le f = tt
+    tried_fault t first before now new (Absent file from) h k le f = absurd f
+    tried_fault t first before now new (TooDeep file place) h k le f = absurd f
+    tried_fault t first before now new (NoSuchName file place n) h k le f = absurd f
+    tried_fault t first before now new (ArityClash file place n a b) h k le f = absurd f
+    tried_fault t first before now new (Limit file place what) h k le f = absurd f
+    tried_fault t first before now new (Clause file fault) h k le f = absurd f
+
+    pub failed : (t : Table) (first before now : ℕ) (new : Counts) (ns : List (List ℕ)) (e : LoadFault) → ns ≡ names → depth < 16 → old.files < 256 → first ≤ before → IsTriedFault holds before now ns e → IsPart holds first now t new Comes (Err e)
+    failed t first before now new ns e q h k le f = tried_fault t first before now new e h k le (subst (λ (l : List (List ℕ)). IsTriedFault holds before now l e) q f)
 
     -- the file that was found
     pub record Held (found : Found) (files : Files) : Type 0 where
@@ -76,23 +94,23 @@ module _ (holds : Option Files) (folder : List ℕ) (root : Option (List ℕ)) (
     one_more = record { clauses = old.clauses; files = old.files + 1 }
 
     -- what the found file comes to
-    abbrev pub Inside : Found → Files → Table → Loaded → Type 0
-    Inside found files T loaded = (whole : List ℕ) → found.bytes ≡ cut whole → LoadsFile (ReadsAs T) files folder root (depth + 1) found.name whole one_more loaded
+    abbrev pub Inside : Found → Files → Table → Option (List ℕ) → Loaded → Type 0
+    Inside found files T failing loaded = (whole : List ℕ) → found.bytes ≡ cut whole → LoadsFile (ReadsAs T) files failing folder root (depth + 1) found.name whole one_more loaded
 
     pub inside_stops : (t u : Table) (first before now : ℕ) (new : Counts) (found : Found) (e : LoadFault) → depth < 16 → old.files < 256 → first ≤ before → Grows t u → ForFiles holds t (λ files T. Held found files) → IsPart holds before now u new (Inside found) (Err e) → IsPart holds first now u new Comes (Err e)
     inside_stops t u first before now new found e h k le g f p =
         refused_part holds first before now t u new (λ files T. Held found files) (Inside found) Comes e le g f
-        (λ files T m held inside rest. stops_inside h k held.held (inside held.whole held.bytes)) p
+        (λ files T m held failing inside rest. stops_inside h k held.held (inside held.whole held.bytes)) p
 
     pub kept : (t u : Table) (first before now : ℕ) (new : Counts) (found : Found) (given chosen : List Sourced) → depth < 16 → old.files < 256 → Grows t u → ForFiles holds t (λ files T. Held found files) → IsPart holds before now u new (Inside found) (Ok given) → Ok chosen ≡ selected name i.names given → IsPart holds first now u new Comes (Ok chosen)
     kept t u first before now new found given chosen h k g f p e =
-        for_both holds t u (λ files T. Held found files) (λ files T. Inside found files T (Ok (given, new))) (λ files T. Comes files T (Ok (chosen, new))) g
-        (λ files T m held inside rest loaded l. includes h k held.held (inside held.whole held.bytes) (sym e) l) f p
+        for_both holds t u (λ files T. Held found files) (λ files T. (failing : Option (List ℕ)) → Inside found files T failing (Ok (given, new))) (λ files T. (failing : Option (List ℕ)) → Comes files T failing (Ok (chosen, new))) g
+        (λ files T m held inside failing rest loaded l. includes h k held.held (inside failing held.whole held.bytes) (sym e) l) f p
 
-    misses : (t u : Table) (new : Counts) (found : Found) (given : List Sourced) (why : LoadFault) → depth < 16 → old.files < 256 → Grows t u → ForFiles holds t (λ files T. Held found files) → ForFiles holds u (λ files T. Inside found files T (Ok (given, new))) → Err why ≡ selected name i.names given → ForFiles holds u (λ files T. Comes files T (Err why))
+    misses : (t u : Table) (new : Counts) (found : Found) (given : List Sourced) (why : LoadFault) → depth < 16 → old.files < 256 → Grows t u → ForFiles holds t (λ files T. Held found files) → ForFiles holds u (λ files T. (failing : Option (List ℕ)) → Inside found files T failing (Ok (given, new))) → Err why ≡ selected name i.names given → ForFiles holds u (λ files T. Comes files T None (Err why))
     misses t u new found given why h k g f p e =
-        for_both holds t u (λ files T. Held found files) (λ files T. Inside found files T (Ok (given, new))) (λ files T. Comes files T (Err why)) g
-        (λ files T m held inside rest. misses_name h k held.held (inside held.whole held.bytes) (sym e)) f p
+        for_both holds t u (λ files T. Held found files) (λ files T. (failing : Option (List ℕ)) → Inside found files T failing (Ok (given, new))) (λ files T. Comes files T None (Err why)) g
+        (λ files T m held inside rest. misses_name h k held.held (inside None held.whole held.bytes) (sym e)) f p
 
     -- the one refusal of a selection
     abbrev IsName : LoadFault → Type 0

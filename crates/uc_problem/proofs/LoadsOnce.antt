@@ -1,5 +1,5 @@
--- Files and items come to one thing, where a text does.
-use Rattle.std.proofs.Common.{◌≡◌, ℕ, List, Option, Some, Result, Ok, Err, refl, sym, ap, subst}
+-- Files and items come to one thing, where a text does and no fetch fails.
+use Rattle.std.proofs.Common.{◌≡◌, ℕ, List, Option, Some, None, Result, Ok, Err, refl, sym, ap, subst}
 use Rattle.uc_edge.specs.Files.{Files}
 use Rattle.uc_clause.specs.declared.token.Place.{Place}
 use Rattle.uc_clause.specs.declared.clause.Name.{Name}
@@ -9,7 +9,7 @@ use Rattle.uc_clause.specs.declared.fault.ClauseFault.{ClauseFault}
 use Rattle.uc_problem.specs.declared.fault.LoadFault.{LoadFault}
 use Rattle.uc_problem.specs.declared.fault.LoadFault.TheVariants.{Clause}
 use Rattle.uc_problem.specs.declared.counts.Counts.{Counts}
-use Rattle.uc_problem.specs.Loading.{Loaded, LoadsFile, LoadsItems, LoadsProblem, reads, refused, no_item, before, all_before, first_held, selected, no_problem, loads}
+use Rattle.uc_problem.specs.Loading.{Loaded, LoadsFile, LoadsItems, LoadsProblem, reads, refused, no_item, before, all_before, first_held, selected, no_fetch, no_problem, loads}
 use Rattle.uc_problem.specs.Loading as loading
 use Rattle.uc_problem.proofs.Outcomes.{less_or_not, some_once, some_or_none, ok_once, err_once, ok_or_err, is_err_once, is_ok_once, is_ok_or_err, first_once, second_once}
 
@@ -19,12 +19,16 @@ given_once e = let both = ok_once e in (first_once both, second_once both)
 found_once : {o : Option (List ℕ × List ℕ)} {a b c d : List ℕ} → o ≡ Some (a, b) → o ≡ Some (c, d) → (c ≡ a) × (d ≡ b)
 found_once e f = let both = some_once f e in (first_once both, second_once both)
 
+-- where no fetch fails, none fails at a name
+none_fails : {name : List ℕ} → Path (Option (List ℕ)) None (Some name) → ⊥
+none_fails e = absurd cc
+
 module _ (Reads : List ℕ → Result (List Item) ClauseFault → Type 0) (reads_once : (bytes : List ℕ) (a b : Result (List Item) ClauseFault) → Reads bytes a → Reads bytes b → a ≡ b) (files : Files) (folder : List ℕ) (root : Option (List ℕ)) where
   abbrev File : ℕ → List ℕ → List ℕ → Counts → Loaded → Type 0
-  File = LoadsFile Reads files folder root
+  File = LoadsFile Reads files None folder root
 
   abbrev Items : ℕ → List ℕ → Counts → List Item → Loaded → Type 0
-  Items = LoadsItems Reads files folder root
+  Items = LoadsItems Reads files None folder root
 
   -- an included file is one
   moved : {o : Option (List ℕ × List ℕ)} {depth : ℕ} {counts : Counts} {found bytes other others : List ℕ} {loaded : Loaded} → o ≡ Some (found, bytes) → o ≡ Some (other, others) → File depth other others counts loaded → File depth found bytes counts loaded
@@ -49,36 +53,43 @@ module _ (Reads : List ℕ → Result (List Item) ClauseFault → Type 0) (reads
     items_once (loading.clause h l) (loading.too_many_clauses k) = absurd (less_or_not h k)
     items_once (loading.too_many_clauses k) (loading.clause h l) = absurd (less_or_not h k)
     items_once (loading.too_many_clauses h) (loading.too_many_clauses k) = refl
+    items_once (loading.fetch_fails da na ta fa) y = absurd (none_fails fa)
+    items_once (loading.too_deep da) (loading.fetch_fails db nb tb fb) = absurd (none_fails fb)
     items_once (loading.too_deep da) (loading.too_deep db) = refl
     items_once (loading.too_deep da) (loading.too_many_files db nb) = absurd (less_or_not db da)
     items_once (loading.too_deep da) (loading.absent db nb eb) = absurd (less_or_not db da)
     items_once (loading.too_deep da) (loading.stops_inside db nb eb xb) = absurd (less_or_not db da)
     items_once (loading.too_deep da) (loading.misses_name db nb eb xb sb) = absurd (less_or_not db da)
     items_once (loading.too_deep da) (loading.includes db nb eb xb sb lb) = absurd (less_or_not db da)
+    items_once (loading.too_many_files da na) (loading.fetch_fails db nb tb fb) = absurd (none_fails fb)
     items_once (loading.too_many_files da na) (loading.too_deep db) = absurd (less_or_not da db)
     items_once (loading.too_many_files da na) (loading.too_many_files db nb) = refl
     items_once (loading.too_many_files da na) (loading.absent db nb eb) = absurd (less_or_not nb na)
     items_once (loading.too_many_files da na) (loading.stops_inside db nb eb xb) = absurd (less_or_not nb na)
     items_once (loading.too_many_files da na) (loading.misses_name db nb eb xb sb) = absurd (less_or_not nb na)
     items_once (loading.too_many_files da na) (loading.includes db nb eb xb sb lb) = absurd (less_or_not nb na)
+    items_once (loading.absent da na ea) (loading.fetch_fails db nb tb fb) = absurd (none_fails fb)
     items_once (loading.absent da na ea) (loading.too_deep db) = absurd (less_or_not da db)
     items_once (loading.absent da na ea) (loading.too_many_files db nb) = absurd (less_or_not na nb)
     items_once (loading.absent da na ea) (loading.absent db nb eb) = refl
     items_once (loading.absent da na ea) (loading.stops_inside db nb eb xb) = absurd (some_or_none eb ea)
     items_once (loading.absent da na ea) (loading.misses_name db nb eb xb sb) = absurd (some_or_none eb ea)
     items_once (loading.absent da na ea) (loading.includes db nb eb xb sb lb) = absurd (some_or_none eb ea)
+    items_once (loading.stops_inside da na ea xa) (loading.fetch_fails db nb tb fb) = absurd (none_fails fb)
     items_once (loading.stops_inside da na ea xa) (loading.too_deep db) = absurd (less_or_not da db)
     items_once (loading.stops_inside da na ea xa) (loading.too_many_files db nb) = absurd (less_or_not na nb)
     items_once (loading.stops_inside da na ea xa) (loading.absent db nb eb) = absurd (some_or_none ea eb)
     items_once (loading.stops_inside da na ea xa) (loading.stops_inside db nb eb xb) = file_once xa (moved ea eb xb)
     items_once (loading.stops_inside da na ea xa) (loading.misses_name db nb eb xb sb) = absurd (ok_or_err (sym (file_once xa (moved ea eb xb))))
     items_once (loading.stops_inside da na ea xa) (loading.includes db nb eb xb sb lb) = absurd (ok_or_err (sym (file_once xa (moved ea eb xb))))
+    items_once (loading.misses_name da na ea xa sa) (loading.fetch_fails db nb tb fb) = absurd (none_fails fb)
     items_once (loading.misses_name da na ea xa sa) (loading.too_deep db) = absurd (less_or_not da db)
     items_once (loading.misses_name da na ea xa sa) (loading.too_many_files db nb) = absurd (less_or_not na nb)
     items_once (loading.misses_name da na ea xa sa) (loading.absent db nb eb) = absurd (some_or_none ea eb)
     items_once (loading.misses_name da na ea xa sa) (loading.stops_inside db nb eb xb) = absurd (ok_or_err (file_once xa (moved ea eb xb)))
     items_once {name = name} (loading.misses_name {i = i} da na ea xa sa) (loading.misses_name db nb eb xb sb) = let same = given_once (file_once xa (moved ea eb xb)) in ap Err (is_err_once sa (chosen name i.names same.0 sb))
     items_once {name = name} (loading.misses_name {i = i} da na ea xa sa) (loading.includes db nb eb xb sb lb) = let same = given_once (file_once xa (moved ea eb xb)) in absurd (is_ok_or_err (chosen name i.names same.0 sb) sa)
+    items_once (loading.includes da na ea xa sa la) (loading.fetch_fails db nb tb fb) = absurd (none_fails fb)
     items_once (loading.includes da na ea xa sa la) (loading.too_deep db) = absurd (less_or_not da db)
     items_once (loading.includes da na ea xa sa la) (loading.too_many_files db nb) = absurd (less_or_not na nb)
     items_once (loading.includes da na ea xa sa la) (loading.absent db nb eb) = absurd (some_or_none ea eb)
@@ -90,8 +101,11 @@ module _ (Reads : List ℕ → Result (List Item) ClauseFault → Type 0) (reads
         let rests : ra ≡ rb = items_once la (subst (λ c. Items depth name c is rb) (sym same.1) lb) in
         rw (kepts, rests) refl
 
-  pub problem_once : {name : List ℕ} {a b : Loaded} → LoadsProblem Reads files folder root name a → LoadsProblem Reads files folder root name b → a ≡ b
+  pub problem_once : {name : List ℕ} {a b : Loaded} → LoadsProblem Reads files None folder root name a → LoadsProblem Reads files None folder root name b → a ≡ b
+  problem_once (no_fetch e) y = absurd (none_fails e)
+  problem_once (no_problem e) (no_fetch f) = absurd (none_fails f)
   problem_once (no_problem e) (no_problem f) = refl
   problem_once (no_problem e) (loads f x) = absurd (some_or_none f e)
+  problem_once (loads e x) (no_fetch f) = absurd (none_fails f)
   problem_once (loads e x) (no_problem f) = absurd (some_or_none e f)
   problem_once {name} {b = b} (loads {bytes = bs} e x) (loads {bytes = cs} f y) = file_once x (subst (λ c. File 0 name c (record { clauses = 0; files = 0 }) b) (some_once f e) y)

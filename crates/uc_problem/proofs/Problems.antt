@@ -1,5 +1,5 @@
 -- A problem of clauses that were loaded is the problem that the library holds.
-use Rattle.std.proofs.Common.{◌≡◌, ℕ, ◌≤◌, List, [], true, false, Option, Some, None, Result, Ok, Err, IfOk, IfErr, sym, ap, ◌∙◌, subst}
+use Rattle.std.proofs.Common.{◌≡◌, ℕ, ◌≤◌, List, [], true, false, Option, Some, None, Result, Ok, Err, IfOk, IfErr, refl, sym, ap, ◌∙◌, subst}
 use Rattle.uc_term.specs.declared.node.Sym.{Sym}
 use Rattle.uc_term.specs.declared.node.Pos.{Pos}
 use Rattle.uc_term.specs.declared.fault.TermFault.{TermFault}
@@ -10,6 +10,8 @@ use Rattle.uc_term.specs.Gathering.{AreOf}
 use Rattle.uc_term.specs.Signatures.{Gathers, occurrences_of, IsSignatureOf, IsSignatureFault}
 use Rattle.uc_term.proofs.Grown.{name-grows}
 use Rattle.uc_edge.specs.Files.{Files}
+use Rattle.uc_edge.specs.Faults.{Rose}
+use Rattle.uc_clause.specs.declared.fault.ClauseFault.TheVariants as text
 use Rattle.uc_clause.specs.declared.token.Place.{Place}
 use Rattle.uc_clause.specs.declared.clause.Sourced.{Sourced}
 use Rattle.uc_problem.specs.declared.counts.Counts.{Counts}
@@ -17,9 +19,9 @@ use Rattle.uc_problem.specs.declared.problem.Problem.{Problem}
 use Rattle.uc_problem.specs.declared.fault.LoadFault.{LoadFault}
 use Rattle.uc_problem.specs.declared.fault.LoadFault.TheVariants as fault
 use Rattle.uc_problem.specs.Candidates.{folder_of}
-use Rattle.uc_problem.specs.Fetching.{cut, IsAnswer}
+use Rattle.uc_problem.specs.Fetching.{cut, IsAnswer, IsFetchFault}
 use Rattle.uc_problem.specs.Holds.{ReadsAs, Flattens, Agrees, Refuses, has_clash as clash_held, has_too_many, is_not_flat, IsProblem, IsLoadFault, terms_of, numbers_of, located}
-use Rattle.uc_problem.specs.Loading.{Loaded, LoadsFile, no_problem, loads}
+use Rattle.uc_problem.specs.Loading.{Loaded, LoadsFile, no_fetch, no_problem, loads}
 use Rattle.uc_problem.specs.Parts.{IsPart}
 use Rattle.uc_problem.specs.Sound.{AreSound}
 use Rattle.uc_problem.specs.Assembly.{IsFlat, StandsAt, HasNoSignature, clashes, is_too_many, wants_memory}
@@ -68,14 +70,33 @@ module _ (root : Option (List ℕ)) (name : List ℕ) where
       subst (λ (n : List ℕ). IsLoadFault t holds before now root name (fault.Absent n None)) (sym e)
       (absent_file holds t before now (subst (λ (r : Option (List ℕ)). IsAnswer holds before now name (Ok r)) q (subst (λ (n : List ℕ). IsAnswer holds before now n (Ok answer)) e a)))
 
+  -- a problem file whose fetch fails
+  fails_here : (holds : Option Files) (t : Table) (before now : ℕ) → Rose before now → IsLoadFault t holds before now root name (fault.ReadFault name)
+  fails_here None t before now r = (r, tt)
+  fails_here (Some files) t before now r = (r, λ T g. no_fetch refl)
+
+  fetch_fault : (holds : Option Files) (t : Table) (before now : ℕ) (e : LoadFault) → IsFetchFault before now name e → IsLoadFault t holds before now root name e
+  fetch_fault holds t before now (fault.ReadFault file) f = subst (λ (n : List ℕ). IsLoadFault t holds before now root name (fault.ReadFault n)) (sym f.1) (fails_here holds t before now f.0)
+  fetch_fault holds t before now fault.NoMemory f = tt
+  fetch_fault holds t before now (fault.Absent file from) f = absurd f
+  fetch_fault holds t before now (fault.TooDeep file place) f = absurd f
+  fetch_fault holds t before now (fault.NoSuchName file place n) f = absurd f
+  fetch_fault holds t before now (fault.ArityClash file place n one two) f = absurd f
+  fetch_fault holds t before now (fault.Limit file place what) f = absurd f
+  fetch_fault holds t before now (fault.Clause file why) f = absurd f
+
+  pub no_fetch_of : (holds : Option Files) (t : Table) (before now : ℕ) (file : List ℕ) (e : LoadFault) → file ≡ name → IsFetchFault before now file e → IsLoadFault t holds before now root name e
+  no_fetch_of holds t before now file e q f = fetch_fault holds t before now e (subst (λ (n : List ℕ). IsFetchFault before now n e) q f)
+
   -- what a problem file with these bytes comes to
-  abbrev pub FileIs : List ℕ → Files → Table → Loaded → Type 0
-  FileIs bytes files T loaded = (whole : List ℕ) → bytes ≡ cut whole → LoadsFile (ReadsAs T) files (folder_of name) root 0 name whole (record { clauses = 0; files = 0 }) loaded
+  abbrev pub FileIs : List ℕ → Files → Table → Option (List ℕ) → Loaded → Type 0
+  FileIs bytes files T failing loaded = (whole : List ℕ) → bytes ≡ cut whole → LoadsFile (ReadsAs T) files failing (folder_of name) root 0 name whole (record { clauses = 0; files = 0 }) loaded
 
   pub of_file : (holds : Option Files) (first before now : ℕ) (t : Table) (bytes : List ℕ) (counts : Counts) (r : Result (List Sourced) LoadFault) → first ≤ before → IsAnswer holds first before name (Ok (Some bytes)) → IsPart holds before now t counts (FileIs bytes) r → IsFlat t holds first now root name r
   of_file None first before now t bytes counts (Ok clauses) h a p = tt
-  of_file (Some files) first before now t bytes counts (Ok clauses) h a p = λ T g. (counts, loads a.1 (p T g a.0 a.2))
-  of_file holds first before now t bytes counts (Err (fault.ReadFault file)) h a p = later_rise first before now h p
+  of_file (Some files) first before now t bytes counts (Ok clauses) h a p = λ T g. (counts, loads a.1 (p T g None a.0 a.2))
+  of_file None first before now t bytes counts (Err (fault.ReadFault file)) h a p = (later_rise first before now h p.0, tt)
+  of_file (Some files) first before now t bytes counts (Err (fault.ReadFault file)) h a p = (later_rise first before now h p.0, λ T g. loads a.1 (p.1 T g a.0 a.2))
   of_file holds first before now t bytes counts (Err fault.NoMemory) h a p = tt
   of_file None first before now t bytes counts (Err (fault.Absent file from)) h a p = tt
   of_file (Some files) first before now t bytes counts (Err (fault.Absent file from)) h a p = λ T g. is_not_flat (loads a.1 (p T g a.0 a.2))
@@ -87,10 +108,21 @@ module _ (root : Option (List ℕ)) (name : List ℕ) where
   of_file (Some files) first before now t bytes counts (Err (fault.ArityClash file place n one two)) h a p = λ T g. is_not_flat (loads a.1 (p T g a.0 a.2))
   of_file None first before now t bytes counts (Err (fault.Limit file place what)) h a p = tt
   of_file (Some files) first before now t bytes counts (Err (fault.Limit file place what)) h a p = λ T g. is_not_flat (loads a.1 (p T g a.0 a.2))
-  of_file None first before now t bytes counts (Err (fault.Clause file why)) h a p = tt
-  of_file (Some files) first before now t bytes counts (Err (fault.Clause file why)) h a p = λ T g. is_not_flat (loads a.1 (p T g a.0 a.2))
+  of_file None first before now t bytes counts (Err (fault.Clause file (text.Syntax place))) h a p = tt
+  of_file (Some files) first before now t bytes counts (Err (fault.Clause file (text.Syntax place))) h a p = λ T g. is_not_flat (loads a.1 (p T g a.0 a.2))
+  of_file None first before now t bytes counts (Err (fault.Clause file (text.NotUnit place))) h a p = tt
+  of_file (Some files) first before now t bytes counts (Err (fault.Clause file (text.NotUnit place))) h a p = λ T g. is_not_flat (loads a.1 (p T g a.0 a.2))
+  of_file None first before now t bytes counts (Err (fault.Clause file (text.NotEquality place))) h a p = tt
+  of_file (Some files) first before now t bytes counts (Err (fault.Clause file (text.NotEquality place))) h a p = λ T g. is_not_flat (loads a.1 (p T g a.0 a.2))
+  of_file None first before now t bytes counts (Err (fault.Clause file (text.BadRole place w))) h a p = tt
+  of_file (Some files) first before now t bytes counts (Err (fault.Clause file (text.BadRole place w))) h a p = λ T g. is_not_flat (loads a.1 (p T g a.0 a.2))
+  of_file None first before now t bytes counts (Err (fault.Clause file (text.Unsupported place w))) h a p = tt
+  of_file (Some files) first before now t bytes counts (Err (fault.Clause file (text.Unsupported place w))) h a p = λ T g. is_not_flat (loads a.1 (p T g a.0 a.2))
+  of_file None first before now t bytes counts (Err (fault.Clause file (text.Limit place w))) h a p = tt
+  of_file (Some files) first before now t bytes counts (Err (fault.Clause file (text.Limit place w))) h a p = λ T g. is_not_flat (loads a.1 (p T g a.0 a.2))
+  of_file holds first before now t bytes counts (Err (fault.Clause file text.NoMemory)) h a p = absurd p
 
-  pub of_fetched : (holds : Option Files) (first before now : ℕ) (t : Table) (file folder bytes shown : List ℕ) (answer : Option (List ℕ)) (counts : Counts) (r : Result (List Sourced) LoadFault) → first ≤ before → file ≡ name → folder ≡ folder_of name → shown ≡ bytes → answer ≡ Some bytes → IsAnswer holds first before file (Ok answer) → IsPart holds before now t counts (λ files T loaded. (whole : List ℕ) → shown ≡ cut whole → LoadsFile (ReadsAs T) files folder root 0 file whole (record { clauses = 0; files = 0 }) loaded) r → IsFlat t holds first now root name r
+  pub of_fetched : (holds : Option Files) (first before now : ℕ) (t : Table) (file folder bytes shown : List ℕ) (answer : Option (List ℕ)) (counts : Counts) (r : Result (List Sourced) LoadFault) → first ≤ before → file ≡ name → folder ≡ folder_of name → shown ≡ bytes → answer ≡ Some bytes → IsAnswer holds first before file (Ok answer) → IsPart holds before now t counts (λ files T failing loaded. (whole : List ℕ) → shown ≡ cut whole → LoadsFile (ReadsAs T) files failing folder root 0 file whole (record { clauses = 0; files = 0 }) loaded) r → IsFlat t holds first now root name r
   of_fetched holds first before now t file folder bytes shown answer counts r h e f s q a p =
       of_file holds first before now t bytes counts r h
       (subst (λ (x : Option (List ℕ)). IsAnswer holds first before name (Ok x)) q (subst (λ (n : List ℕ). IsAnswer holds first before n (Ok answer)) e a))

@@ -15,8 +15,7 @@ use Rattle.uc_clause.specs.declared.fault.What.TheVariants.{Symbols}
 use Rattle.uc_problem.specs.declared.counts.Counts.{Counts}
 use Rattle.uc_problem.specs.declared.fault.LoadFault.{LoadFault}
 use Rattle.uc_problem.specs.declared.fault.LoadFault.TheVariants as fault
-use Rattle.uc_problem.specs.Holds.{Flattens, IsLoadFault, terms_of, located}
-use Rattle.uc_problem.specs.Parts.{ForFiles}
+use Rattle.uc_problem.specs.Holds.{Flattens, ForFiles, IsLoadFault, terms_of, located}
 use Rattle.uc_problem.specs.Sound.{AreSound}
 
 -- the problem's flat list of clauses, or the refusal of a file

@@ -15,6 +15,7 @@ use Rattle.uc_clause.specs.declared.token.Place.{Place}
 use Rattle.uc_clause.specs.declared.clause.Item.{Item}
 use Rattle.uc_clause.specs.declared.clause.Sourced.{Sourced}
 use Rattle.uc_clause.specs.declared.fault.ClauseFault.{ClauseFault}
+use Rattle.uc_clause.specs.declared.fault.ClauseFault.TheVariants as unread
 use Rattle.uc_clause.specs.declared.fault.What.TheVariants.{Symbols}
 use Rattle.uc_clause.specs.Reading.{ReadsFile, RefusesFile}
 use Rattle.uc_problem.specs.declared.fault.LoadFault.{LoadFault}
@@ -29,9 +30,13 @@ abbrev pub ReadsAs : Table → List ℕ → Result (List Item) ClauseFault → T
 ReadsAs table bytes (Ok items) = ReadsFile bytes table items
 ReadsAs table bytes (Err why) = RefusesFile bytes why
 
--- the flat list of a problem's clauses, or the refusal
+-- the flat list of a problem's clauses, or the refusal, where no fetch fails
 abbrev pub Flattens : Table → Files → Option (List ℕ) → List ℕ → Loaded → Type 0
-Flattens table files root name loaded = LoadsProblem (ReadsAs table) files (folder_of name) root name loaded
+Flattens table files root name loaded = LoadsProblem (ReadsAs table) files None (folder_of name) root name loaded
+
+-- loading comes to the file of this name, whose fetch fails: the problem file, or the file of an include as it is tried
+abbrev pub FailsAt : Table → Files → Option (List ℕ) → List ℕ → List ℕ → Type 0
+FailsAt table files root name file = LoadsProblem (ReadsAs table) files (Some file) (folder_of name) root name (Err (fault.ReadFault file))
 
 -- the terms of clauses, in order, the left side first
 abbrev pub terms_of : List Sourced → List Tree
@@ -71,15 +76,19 @@ pub data Refuses (table : Table) (files : Files) (root : Option (List ℕ)) (nam
   has_clash : {clauses : List Sourced} {counts : Counts} {term first second n : ℕ} {pos : Pos} {t : Tree} {f : Sym} {file : List ℕ} {place : Place} → Flattens table files root name (Ok (clauses, counts)) → Gathers table [] (occurrences_of (terms_of clauses)) (Err (of_terms.ArityClash term pos first second)) → slice_get (terms_of clauses) term ≡ Some t → slice_get (flat t) pos.0 ≡ Some (App f n) → located clauses term pos.0 ≡ Some (file, place) → Refuses table files root name (fault.ArityClash file place (name_of table f) first second)
   has_too_many : {clauses : List Sourced} {counts : Counts} {term : ℕ} {pos : Pos} {file : List ℕ} {place : Place} → Flattens table files root name (Ok (clauses, counts)) → Gathers table [] (occurrences_of (terms_of clauses)) (Err (of_terms.TooMany term pos)) → located clauses term pos.0 ≡ Some (file, place) → Refuses table files root name (fault.Limit file place Symbols)
 
--- What a library may answer that tells its files or doesn't: the problem that it holds, in this table and in each that it
--- grows into.
-abbrev pub IsProblem : Table → Option Files → Option (List ℕ) → List ℕ → Problem → Type 0
-IsProblem table None root name problem = Unit {0}
-IsProblem table (Some files) root name problem = (T : Table) → Grows table T → Holds T files root name problem
+-- this holds of the files, where they are told, in this table and in each that it grows into
+abbrev pub ForFiles : Option Files → Table → (Files → Table → Type 0) → Type 0
+ForFiles None table P = Unit {0}
+ForFiles (Some files) table P = (T : Table) → Grows table T → P files T
 
--- And why there is none: a fault of the library only where its count rose; want of memory is free.
+-- What a library may answer that tells its files or doesn't: the problem that it holds.
+abbrev pub IsProblem : Table → Option Files → Option (List ℕ) → List ℕ → Problem → Type 0
+IsProblem table holds root name problem = ForFiles holds table (λ files T. Holds T files root name problem)
+
+-- And why there is none: a fault of the library only where its count rose, at the file to which loading comes; want of memory is
+-- free, and has one name.
 abbrev pub IsLoadFault : Table → Option Files → ℕ → ℕ → Option (List ℕ) → List ℕ → LoadFault → Type 0
-IsLoadFault table holds before now root name (fault.ReadFault file) = Rose before now
+IsLoadFault table holds before now root name (fault.ReadFault file) = Rose before now × ForFiles holds table (λ files T. FailsAt T files root name file)
 IsLoadFault table holds before now root name fault.NoMemory = Unit {0}
-IsLoadFault table None before now root name why = Unit {0}
-IsLoadFault table (Some files) before now root name why = (T : Table) → Grows table T → Refuses T files root name why
+IsLoadFault table holds before now root name (fault.Clause file unread.NoMemory) = ⊥
+IsLoadFault table holds before now root name why = ForFiles holds table (λ files T. Refuses T files root name why)

@@ -30,6 +30,11 @@ abbrev pub first_held : Files → List (List ℕ) → Option (List ℕ × List �
 first_held files [] = None
 first_held files (name ∷ names) = held_or name (held files name) (first_held files names)
 
+-- this name is tried among these: it is one of them, and the library holds none of those before it
+pub data IsTried (files : Files) (name : List ℕ) : List (List ℕ) → Type 0 where
+  is_next : {names : List (List ℕ)} → IsTried files name (name ∷ names)
+  comes_later : {other : List ℕ} {names : List (List ℕ)} → held files other ≡ None → IsTried files name names → IsTried files name (other ∷ names)
+
 abbrev pub same_bool : Bool → Bool → Bool
 same_bool true b = b
 same_bool false true = false
@@ -75,8 +80,9 @@ abbrev pub all_before : List Sourced → Loaded → Loaded
 all_before clauses (Ok r) = Ok (clauses ++ r.0, r.1)
 all_before clauses (Err e) = Err e
 
--- `Reads` is what the text of a file comes to: its items, or why it isn't read
-module _ (Reads : List ℕ → Result (List Item) ClauseFault → Type 0) (files : Files) (folder : List ℕ) (root : Option (List ℕ)) where
+-- `Reads` is what the text of a file comes to: its items, or why it isn't read. `failing` is the file whose fetch fails, where one
+-- does.
+module _ (Reads : List ℕ → Result (List Item) ClauseFault → Type 0) (files : Files) (failing : Option (List ℕ)) (folder : List ℕ) (root : Option (List ℕ)) where
   mutual
     -- the file of this name with this content, nested so deep, behind so many clauses and files
     pub data LoadsFile : ℕ → List ℕ → List ℕ → Counts → Loaded → Type 0 where
@@ -90,6 +96,7 @@ module _ (Reads : List ℕ → Result (List Item) ClauseFault → Type 0) (files
       too_many_clauses : {depth : ℕ} {name : List ℕ} {counts : Counts} {c : Clause} {items : List Item} → 10000 ≤ counts.clauses → LoadsItems depth name counts (item.Clause c ∷ items) (Err (fault.Limit name c.place Clauses))
       too_deep : {depth : ℕ} {name : List ℕ} {counts : Counts} {i : Include} {items : List Item} → 16 ≤ depth → LoadsItems depth name counts (item.Include i ∷ items) (Err (fault.TooDeep name i.place))
       too_many_files : {depth : ℕ} {name : List ℕ} {counts : Counts} {i : Include} {items : List Item} → depth < 16 → 256 ≤ counts.files → LoadsItems depth name counts (item.Include i ∷ items) (Err (fault.Limit name i.place FileCount))
+      fetch_fails : {depth : ℕ} {name candidate : List ℕ} {counts : Counts} {i : Include} {items : List Item} → depth < 16 → counts.files < 256 → IsTried files candidate (candidates folder root i.file) → failing ≡ Some candidate → LoadsItems depth name counts (item.Include i ∷ items) (Err (fault.ReadFault candidate))
       absent : {depth : ℕ} {name : List ℕ} {counts : Counts} {i : Include} {items : List Item} → depth < 16 → counts.files < 256 → first_held files (candidates folder root i.file) ≡ None → LoadsItems depth name counts (item.Include i ∷ items) (Err (fault.Absent i.file (Some (name, i.place))))
       stops_inside : {depth : ℕ} {name : List ℕ} {counts : Counts} {i : Include} {items : List Item} {found bytes : List ℕ} {why : LoadFault} → depth < 16 → counts.files < 256 → first_held files (candidates folder root i.file) ≡ Some (found, bytes) → LoadsFile (depth + 1) found bytes (record { clauses = counts.clauses; files = counts.files + 1 }) (Err why) → LoadsItems depth name counts (item.Include i ∷ items) (Err why)
       misses_name : {depth : ℕ} {name : List ℕ} {counts later : Counts} {i : Include} {items : List Item} {found bytes : List ℕ} {given : List Sourced} {why : LoadFault} → depth < 16 → counts.files < 256 → first_held files (candidates folder root i.file) ≡ Some (found, bytes) → LoadsFile (depth + 1) found bytes (record { clauses = counts.clauses; files = counts.files + 1 }) (Ok (given, later)) → selected name i.names given ≡ Err why → LoadsItems depth name counts (item.Include i ∷ items) (Err why)
@@ -97,5 +104,6 @@ module _ (Reads : List ℕ → Result (List Item) ClauseFault → Type 0) (files
 
   -- the problem file of this name: its flat list of clauses, or the refusal
   pub data LoadsProblem (name : List ℕ) : Loaded → Type 0 where
+    no_fetch : failing ≡ Some name → LoadsProblem name (Err (fault.ReadFault name))
     no_problem : held files name ≡ None → LoadsProblem name (Err (fault.Absent name None))
     loads : {bytes : List ℕ} {loaded : Loaded} → held files name ≡ Some bytes → LoadsFile 0 name bytes (record { clauses = 0; files = 0 }) loaded → LoadsProblem name loaded

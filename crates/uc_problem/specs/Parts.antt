@@ -1,6 +1,6 @@
 -- What loading a part of a problem answers: in every table that the table of symbols grows into.
 use Rattle.std.specs.Prelude.{ℕ, ◌≡◌, ◌<◌, ◌≤◌, ◌+◌, List, [], ◌∷◌, Option, Some, None, Result, Ok, Err}
-use Rattle.uc_term.specs.Table.{Table, Grows}
+use Rattle.uc_term.specs.Table.{Table}
 use Rattle.uc_edge.specs.Files.{Files}
 use Rattle.uc_edge.specs.Faults.{Rose}
 use Rattle.uc_clause.specs.declared.clause.Clause as read
@@ -14,26 +14,22 @@ use Rattle.uc_problem.specs.declared.counts.Counts.{Counts}
 use Rattle.uc_problem.specs.declared.fault.LoadFault.{LoadFault}
 use Rattle.uc_problem.specs.declared.fault.LoadFault.TheVariants.{ReadFault, NoMemory, Clause, Limit}
 use Rattle.uc_problem.specs.Loading.{Loaded, LoadsItems, all_before, selected}
-use Rattle.uc_problem.specs.Holds.{ReadsAs}
+use Rattle.uc_problem.specs.Holds.{ReadsAs, ForFiles}
 
--- this holds of the files, where they are told, and of every later table
-abbrev pub ForFiles : Option Files → Table → (Files → Table → Type 0) → Type 0
-ForFiles None table P = Unit {0}
-ForFiles (Some files) table P = (T : Table) → Grows table T → P files T
-
--- the part comes to these clauses with these counts, or to this refusal; a fault of the library comes only where its count
--- rose, and want of memory is free
-abbrev pub IsPart : Option Files → ℕ → ℕ → Table → Counts → (Files → Table → Loaded → Type 0) → Result (List Sourced) LoadFault → Type 0
-IsPart holds before now table counts comes_to (Ok clauses) = ForFiles holds table (λ files T. comes_to files T (Ok (clauses, counts)))
-IsPart holds before now table counts comes_to (Err (ReadFault file)) = Rose before now
+-- The part comes to these clauses with these counts, or to this refusal. A fault of the library comes only where its count
+-- rose, at the file whose fetch failed, and want of memory is free, and has one name.
+abbrev pub IsPart : Option Files → ℕ → ℕ → Table → Counts → (Files → Table → Option (List ℕ) → Loaded → Type 0) → Result (List Sourced) LoadFault → Type 0
+IsPart holds before now table counts comes_to (Ok clauses) = ForFiles holds table (λ files T. (failing : Option (List ℕ)) → comes_to files T failing (Ok (clauses, counts)))
+IsPart holds before now table counts comes_to (Err (ReadFault file)) = Rose before now × ForFiles holds table (λ files T. comes_to files T (Some file) (Err (ReadFault file)))
 IsPart holds before now table counts comes_to (Err NoMemory) = Unit {0}
-IsPart holds before now table counts comes_to (Err why) = ForFiles holds table (λ files T. comes_to files T (Err why))
+IsPart holds before now table counts comes_to (Err (Clause file unread.NoMemory)) = ⊥
+IsPart holds before now table counts comes_to (Err why) = ForFiles holds table (λ files T. comes_to files T None (Err why))
 
 -- An item comes to these clauses: whatever the items behind it come to, all of them come to that with these before it. Or it
 -- comes to this refusal, whatever items stand behind it.
-abbrev pub ItemComesTo : List ℕ → Option (List ℕ) → ℕ → List ℕ → Counts → Item → Files → Table → Loaded → Type 0
-ItemComesTo folder root depth name old item files T (Ok r) = (rest : List Item) (loaded : Loaded) → LoadsItems (ReadsAs T) files folder root depth name r.1 rest loaded → LoadsItems (ReadsAs T) files folder root depth name old (item ∷ rest) (all_before r.0 loaded)
-ItemComesTo folder root depth name old item files T (Err why) = (rest : List Item) → LoadsItems (ReadsAs T) files folder root depth name old (item ∷ rest) (Err why)
+abbrev pub ItemComesTo : List ℕ → Option (List ℕ) → ℕ → List ℕ → Counts → Item → Files → Table → Option (List ℕ) → Loaded → Type 0
+ItemComesTo folder root depth name old item files T failing (Ok r) = (rest : List Item) (loaded : Loaded) → LoadsItems (ReadsAs T) files failing folder root depth name r.1 rest loaded → LoadsItems (ReadsAs T) files failing folder root depth name old (item ∷ rest) (all_before r.0 loaded)
+ItemComesTo folder root depth name old item files T failing (Err why) = (rest : List Item) → LoadsItems (ReadsAs T) files failing folder root depth name old (item ∷ rest) (Err why)
 
 -- the refusal of a file that isn't read
 abbrev pub IsNotRead : List ℕ → ClauseFault → LoadFault → Type 0

@@ -43,7 +43,7 @@ pub(crate) fn load_file<L: Library>(
     bytes: &[u8],
     depth: u32,
 ) -> Result<Seq<Sourced>, LoadFault>
-    ensures part { IsPart (L.holds library.old) (L.faults library.old) (L.faults library.new) symbols.new counts.new (λ files T loaded. (whole : List ℕ) → bytes.now ≡ cut whole → LoadsFile (ReadsAs T) files search.entry.folder.now (option_copied search.entry.root) depth name.now whole counts.old loaded) result }
+    ensures part { IsPart (L.holds library.old) (L.faults library.old) (L.faults library.new) symbols.new counts.new (λ files T failing loaded. (whole : List ℕ) → bytes.now ≡ cut whole → LoadsFile (ReadsAs T) files failing search.entry.folder.now (option_copied search.entry.root) depth name.now whole counts.old loaded) result }
     ensures sound { IfOk result (IsSoundPart symbols.new counts.old counts.new) }
     ensures grows { Grows symbols.old symbols.new }
     ensures same { L.holds library.new ≡ L.holds library.old }

@@ -8,7 +8,7 @@ use Rattle.uc_problem.specs.Holds.{ReadsAs}
 use Rattle.uc_problem.specs.Parts.{ItemComesTo}
 use Rattle.uc_problem.proofs.Later.{Grows-refl, Grows-trans}
 use Rattle.uc_problem.proofs.Items.{begin, go_on, end, stop, unread, none_left, same_part}
-use Rattle.uc_problem.proofs.Includes.{taken, deep, many, missing_of, held_of_names, inside_stops, chosen}
+use Rattle.uc_problem.proofs.Includes.{taken, deep, many, failed, missing_of, held_of_names, inside_stops, chosen}
 use Rattle.uc_problem.proofs.Sound.{none_sound, file_sound, go_on_sound, items_later, taken_sound, selected_sound}
 use Rattle.uc_problem.proofs.files.+files.Goals as goal
 
@@ -23,7 +23,7 @@ load_file-returns-in_err-more-clause-part g t c =
     c.loop-item.invariant.later c.loop-item.invariant.grows c.in_err-more.ensures.grows
     (rw (c.into_iter-item-iterator.ensures.into_iter_gives.0, c.into_vec-item-items.ensures) c.in-Ok.ensures.reads)
     (rw c.in-Some.ensures.steps.0 at c.loop-item.invariant.left)
-    (same_part (λ _ files T loaded. ItemComesTo c.args.search.folder.now (option_copied c.args.search.root) c.args.depth c.args.name.now c.loop-item.counts c.in-Some.item files T loaded) (g.L.Library.holds c.loop-item.library) (g.L.Library.holds c.args.library.now) [] [] (g.L.Library.faults c.loop-item.library) (g.L.Library.faults c.load_item.new.library) c.load_item.new.symbols c.load_item.new.counts (Err c.in_err-more.field-0.0) c.loop-item.invariant.same refl c.in_err-more.ensures.part))
+    (same_part (λ _. ItemComesTo c.args.search.folder.now (option_copied c.args.search.root) c.args.depth c.args.name.now c.loop-item.counts c.in-Some.item) (g.L.Library.holds c.loop-item.library) (g.L.Library.holds c.args.library.now) [] [] (g.L.Library.faults c.loop-item.library) (g.L.Library.faults c.load_item.new.library) c.load_item.new.symbols c.load_item.new.counts (Err c.in_err-more.field-0.0) c.loop-item.invariant.same refl c.in_err-more.ensures.part))
 
 pub load_file-loop-item-init : goal.load_file-loop-item-init
 load_file-loop-item-init g t c = record {
@@ -61,6 +61,12 @@ load_include-returns-then-depth-ge-MAX_DEPTH-clause-part g t c = rw c.in_ok-copy
 pub load_include-returns-then-counts-ge-MAX_FILES-clause-part : goal.load_include-returns-then-counts-ge-MAX_FILES-clause-part
 load_include-returns-then-counts-ge-MAX_FILES-clause-part g t c = rw c.in_ok-copy-2.ensures (many (g.L.Library.holds c.args.library.now) c.args.search.folder.now (option_copied c.args.search.root) c.args.depth c.args.name.now c.args.counts.now c.args.include.now c.args.symbols.now 0 0 c.args.counts.now c.if-depth-ge-MAX_DEPTH.false c.if-counts-ge-MAX_FILES.true)
 
+pub load_include-returns-in_err-found-clause-part : goal.load_include-returns-in_err-found-clause-part
+load_include-returns-in_err-found-clause-part g t c =
+    let p = err_from_is_err_and c.from_residual-in_err-found.result c.from_residual-in_err-found.ensures.1 in
+    rw (p.1, p.2) (failed (g.L.Library.holds c.args.library.now) c.args.search.folder.now (option_copied c.args.search.root) c.args.depth c.args.name.now c.args.counts.now c.args.include.now c.args.symbols.now (g.L.Library.faults c.args.library.now) (g.L.Library.faults c.args.library.now) (g.L.Library.faults c.fetch_first.new.library) c.args.counts.now c.as_slice.result.now c.in_err-found.field-0.0
+    (c.as_slice.ensures ∙ c.in_ok-names.ensures ∙ ap (candidates c.args.search.folder.now (option_copied c.args.search.root)) c.as_bytes.ensures) c.if-depth-ge-MAX_DEPTH.false c.if-counts-ge-MAX_FILES.false (omega arith) c.in_err-found.ensures.first)
+
 pub load_include-returns-in_default-clause-part : goal.load_include-returns-in_default-clause-part
 load_include-returns-in_default-clause-part g t c =
     missing_of (g.L.Library.holds c.args.library.now) c.args.search.folder.now (option_copied c.args.search.root) c.args.depth c.args.name.now c.args.counts.now c.args.include.now c.args.symbols.now (g.L.Library.faults c.args.library.now) (g.L.Library.faults c.args.library.now) (g.L.Library.faults c.fetch_first.new.library) c.args.counts.now c.as_slice.result.now c.in_ok-found.field-0 (c.as_slice.ensures ∙ c.in_ok-names.ensures ∙ ap (candidates c.args.search.folder.now (option_copied c.args.search.root)) c.as_bytes.ensures)
@@ -72,7 +78,7 @@ load_include-returns-in_err-given-clause-part g t c =
     rw (p.1, p.2) (inside_stops (g.L.Library.holds c.args.library.now) c.args.search.folder.now (option_copied c.args.search.root) c.args.depth c.args.name.now c.args.counts.now c.args.include.now c.args.symbols.now c.load_file.new.symbols (g.L.Library.faults c.args.library.now) (g.L.Library.faults c.fetch_first.new.library) (g.L.Library.faults c.load_file.new.library) c.load_file.new.counts c.in-Some.found c.in_err-given.field-0.0
     c.if-depth-ge-MAX_DEPTH.false c.if-counts-ge-MAX_FILES.false c.in_ok-found.ensures.later c.in_err-given.ensures.grows
     (held_of_names (g.L.Library.holds c.args.library.now) c.args.search.folder.now (option_copied c.args.search.root) c.args.depth c.args.name.now c.args.counts.now c.args.include.now c.args.symbols.now (g.L.Library.faults c.args.library.now) (g.L.Library.faults c.fetch_first.new.library) c.as_slice.result.now c.in_ok-found.field-0 c.in-Some.found (c.as_slice.ensures ∙ c.in_ok-names.ensures ∙ ap (candidates c.args.search.folder.now (option_copied c.args.search.root)) c.as_bytes.ensures) c.in-Some.is c.in_ok-found.ensures.first)
-    (same_part (λ bytes files T loaded. (whole : List ℕ) → bytes ≡ cut whole → LoadsFile (ReadsAs T) files c.args.search.folder.now (option_copied c.args.search.root) (c.args.depth + 1) c.in-Some.found.name whole (record { clauses = c.args.counts.now.clauses; files = c.args.counts.now.files + 1 }) loaded) (g.L.Library.holds c.fetch_first.new.library) (g.L.Library.holds c.args.library.now) c.as_bytes-bytes.result.now c.in-Some.found.bytes (g.L.Library.faults c.fetch_first.new.library) (g.L.Library.faults c.load_file.new.library) c.load_file.new.symbols c.load_file.new.counts (Err c.in_err-given.field-0.0) c.in_ok-found.ensures.same c.as_bytes-bytes.ensures c.in_err-given.ensures.part))
+    (same_part (λ bytes files T failing loaded. (whole : List ℕ) → bytes ≡ cut whole → LoadsFile (ReadsAs T) files failing c.args.search.folder.now (option_copied c.args.search.root) (c.args.depth + 1) c.in-Some.found.name whole (record { clauses = c.args.counts.now.clauses; files = c.args.counts.now.files + 1 }) loaded) (g.L.Library.holds c.fetch_first.new.library) (g.L.Library.holds c.args.library.now) c.as_bytes-bytes.result.now c.in-Some.found.bytes (g.L.Library.faults c.fetch_first.new.library) (g.L.Library.faults c.load_file.new.library) c.load_file.new.symbols c.load_file.new.counts (Err c.in_err-given.field-0.0) c.in_ok-found.ensures.same c.as_bytes-bytes.ensures c.in_err-given.ensures.part))
 
 pub load_include-returns-clause-part : goal.load_include-returns-clause-part
 load_include-returns-clause-part g t c =

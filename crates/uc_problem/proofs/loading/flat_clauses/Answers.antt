@@ -1,6 +1,12 @@
 use Rattle.std.specs.Option.{option_copied}
-use Rattle.uc_problem.proofs.Problems.{no_file, of_fetched}
+use Rattle.std.proofs.lemmas.Result.{err_from_is_err_and}
+use Rattle.uc_problem.proofs.Problems.{no_fetch_of, no_file, of_fetched}
 use Rattle.uc_problem.proofs.loading.flat_clauses.Goals as goal
+
+pub returns-in_err-bytes-clause-flat : goal.returns-in_err-bytes-clause-flat
+returns-in_err-bytes-clause-flat g c =
+    let p = err_from_is_err_and c.from_residual-in_err-bytes.result c.from_residual-in_err-bytes.ensures.1 in
+    rw (p.1, p.2) (no_fetch_of (option_copied c.args.root) c.args.name.now (g.L.Library.holds c.args.library.now) c.args.symbols.now (g.L.Library.faults c.args.library.now) (g.L.Library.faults c.fetch_text.new.library) c.in_ok-file.file c.in_err-bytes.field-0.0 c.in_ok-file.ensures c.in_err-bytes.ensures.answer)
 
 pub returns-in_default-clause-flat : goal.returns-in_default-clause-flat
 returns-in_default-clause-flat g c =
