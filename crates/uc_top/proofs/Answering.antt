@@ -30,7 +30,7 @@ use Rattle.uc_clause.specs.declared.fault.What.TheVariants as what
 use Rattle.uc_problem.specs.declared.fault.LoadFault.{LoadFault}
 use Rattle.uc_problem.specs.declared.fault.LoadFault.TheVariants as load
 use Rattle.uc_problem.specs.declared.problem.Problem.{Problem}
-use Rattle.uc_problem.specs.Holds.{Holds, Refuses, IsProblem, IsLoadFault}
+use Rattle.uc_problem.specs.Holds.{Holds, Refuses, FailsAt, IsProblem, IsLoadFault}
 use Rattle.uc_problem.specs.Marks.{IsMarked, is_too_large}
 use Rattle.uc_problem.specs.declared.fault.EncodeFault.TheVariants.{GoalTooLarge}
 use Rattle.uc_problem.specs.Loading.{held}
@@ -168,8 +168,18 @@ module _ (table : Table) (before now : ℕ) (root : Option (List ℕ)) (name pro
   refuses files (load.NoSuchName f p n) e h = h table (Grows-refl table)
   refuses files (load.ArityClash f p n a b) e h = h table (Grows-refl table)
   refuses files (load.Limit f p w) e h = h table (Grows-refl table)
-  refuses files (load.Clause f w) e h = h table (Grows-refl table)
+  refuses files (load.Clause f (clause.Syntax p)) e h = h table (Grows-refl table)
+  refuses files (load.Clause f (clause.NotUnit p)) e h = h table (Grows-refl table)
+  refuses files (load.Clause f (clause.NotEquality p)) e h = h table (Grows-refl table)
+  refuses files (load.Clause f (clause.BadRole p w)) e h = h table (Grows-refl table)
+  refuses files (load.Clause f (clause.Unsupported p w)) e h = h table (Grows-refl table)
+  refuses files (load.Clause f (clause.Limit p w)) e h = h table (Grows-refl table)
+  refuses files (load.Clause f clause.NoMemory) e h = absurd h
   refuses files load.NoMemory e h = absurd (omega (arith, e))
+
+  fails : (holds : Option Files) (file : List ℕ) → IsLoadFault table holds before now root name (load.ReadFault file) → WhereTold holds (λ files. FailsAt table files root name file)
+  fails None file h = tt
+  fails (Some files) file h = h.1 table (Grows-refl table)
 
   refused : (holds : Option Files) (why : LoadFault) → load_status why ≡ 3 → IsLoadFault table holds before now root name why → CheckAnswers table holds before now root name proof 3 (load_line why)
   refused None why e h = is_refused why tt e
@@ -186,7 +196,7 @@ module _ (table : Table) (before now : ℕ) (root : Option (List ℕ)) (name pro
 
   pub not_loaded : (holds : Option Files) (why : LoadFault) → (load_status why ≡ 7 → ⊥) → IsLoadFault table holds before now root name why → CheckAnswers table holds before now root name proof (load_status why) (load_line why)
   not_loaded holds (load.Absent f from) n h = refused holds (load.Absent f from) refl h
-  not_loaded holds (load.ReadFault f) n h = fetch_fails f h
+  not_loaded holds (load.ReadFault f) n h = fetch_fails f h.0 (fails holds f h)
   not_loaded holds (load.TooDeep f p) n h = refused holds (load.TooDeep f p) refl h
   not_loaded holds (load.NoSuchName f p m) n h = refused holds (load.NoSuchName f p m) refl h
   not_loaded holds (load.ArityClash f p m a b) n h = refused holds (load.ArityClash f p m a b) refl h

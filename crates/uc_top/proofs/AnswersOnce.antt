@@ -100,11 +100,11 @@ module _ (table : Table) (distinct : IsDistinct table) where
 
     module _ (root : Option (List ℕ)) (name proof : List ℕ) where
       check_once : {s t : ℕ} {a b : List ℕ} → CheckAnswers table (Some files) before now root name proof s a → CheckAnswers table (Some files) before now root name proof t b → (s ≡ t) × (a ≡ b)
-      check_once (fetch_fails file r) y = absurd (well r)
-      check_once (is_refused why x e) (fetch_fails file r) = absurd (well r)
+      check_once (fetch_fails file r f) y = absurd (well r)
+      check_once (is_refused why x e) (fetch_fails file r f) = absurd (well r)
       check_once (is_refused why x e) (is_refused other y f) = (refl, ap load_line (refusal_is_once table distinct files root name x y))
       check_once (is_refused why x e) (is_loaded y p) = absurd (held_or_refused table distinct files root name y x)
-      check_once (is_loaded x p) (fetch_fails file r) = absurd (well r)
+      check_once (is_loaded x p) (fetch_fails file r f) = absurd (well r)
       check_once (is_loaded x p) (is_refused why y e) = absurd (held_or_refused table distinct files root name x y)
       check_once {t = t} {b = b} (is_loaded {problem = problem} x p) (is_loaded {problem = other} y q) = problem_once problem proof p (subst (λ (held : Problem). ProblemAnswers table (Some files) before now held proof t b) (problem_is_once table distinct files root name other problem y x) q)
 

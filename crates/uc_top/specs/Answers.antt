@@ -16,7 +16,7 @@ use Rattle.uc_problem.specs.declared.fault.LoadFault.TheVariants as load
 use Rattle.uc_problem.specs.declared.fault.EncodeFault.TheVariants.{GoalTooLarge}
 use Rattle.uc_problem.specs.declared.problem.Problem.{Problem}
 use Rattle.uc_problem.specs.Loading.{held}
-use Rattle.uc_problem.specs.Holds.{Holds, Refuses}
+use Rattle.uc_problem.specs.Holds.{Holds, Refuses, FailsAt}
 use Rattle.uc_problem.specs.Marks.{Marks}
 use Rattle.uc_tstp.specs.declared.fault.ProofFault.{ProofFault}
 use Rattle.uc_tstp.specs.Framing.{max_proof}
@@ -94,7 +94,7 @@ module _ (table : Table) where
     -- the answer to `check` for the problem file and the proof file of these names, with this root
     module _ (root : Option (List ℕ)) (name proof : List ℕ) where
       pub data CheckAnswers : ℕ → List ℕ → Type 0 where
-        fetch_fails : (file : List ℕ) → Rose before now → CheckAnswers 5 (about_file file (codes "ReadFault"))
+        fetch_fails : (file : List ℕ) → Rose before now → WhereTold holds (λ files. FailsAt table files root name file) → CheckAnswers 5 (about_file file (codes "ReadFault"))
         is_refused : (why : LoadFault) → WhereTold holds (λ files. Refuses table files root name why) → load_status why ≡ 3 → CheckAnswers 3 (load_line why)
         is_loaded : {problem : Problem} {status : ℕ} {answer : List ℕ} → WhereTold holds (λ files. Holds table files root name problem) → ProblemAnswers problem proof status answer → CheckAnswers status answer
 
