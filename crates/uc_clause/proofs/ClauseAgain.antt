@@ -38,22 +38,22 @@ integer_some : (text : List ℕ) → spells Integer text ≡ true → 0 < length
 integer_some [] s = cc
 integer_some (b ∷ bs) s = omega arith
 
-name_some : (text : List ℕ) (integer : Bool) → MatchBool integer (spells Integer text ≡ true) (IsSpellable text) → 0 < length (if integer then text else spelling text)
+pub name_some : (text : List ℕ) (integer : Bool) → MatchBool integer (spells Integer text ≡ true) (IsSpellable text) → 0 < length (if integer then text else spelling text)
 name_some text true spellable = integer_some text spellable
 name_some text false spellable = spelling_some text spellable
 
-name_is_read : (text : List ℕ) (integer : Bool) (b at : ℕ) → name_by (terminal_of_kind (if integer then Integer else kind_of_word text) b) at ≡ Some at
+pub name_is_read : (text : List ℕ) (integer : Bool) (b at : ℕ) → name_by (terminal_of_kind (if integer then Integer else kind_of_word text) b) at ≡ Some at
 name_is_read text true b at = refl
 name_is_read text false b at = ⊎_elim (λ e. rw e refl) (λ e. rw e refl) (cases_Bool (is_name text))
 
 word_terminal : (text : List ℕ) (b : ℕ) → terminal_of_kind (kind_of_word text) b ≢ terminal.Integer
 word_terminal text b h = ⊎_elim (λ e. let k = rw e at h in cc) (λ e. let k = rw e at h in cc) (cases_Bool (is_name text))
 
-name_integer : (text : List ℕ) (integer : Bool) (b : ℕ) → (integer ≡ true) ↔ (terminal_of_kind (if integer then Integer else kind_of_word text) b ≡ terminal.Integer)
+pub name_integer : (text : List ℕ) (integer : Bool) (b : ℕ) → (integer ≡ true) ↔ (terminal_of_kind (if integer then Integer else kind_of_word text) b ≡ terminal.Integer)
 name_integer text true b = ((λ h. refl), (λ h. refl))
 name_integer text false b = ((λ h. cc), (λ h. absurd (word_terminal text b h)))
 
-name_word : (text : List ℕ) (integer : Bool) → stands_for (if integer then Integer else kind_of_word text) (if integer then text else spelling text) ≡ text
+pub name_word : (text : List ℕ) (integer : Bool) → stands_for (if integer then Integer else kind_of_word text) (if integer then text else spelling text) ≡ text
 name_word text true = refl
 name_word text false = stands_for_spelling text
 
@@ -68,7 +68,7 @@ role_is_read Corollary = refl
 role_is_read Plain = refl
 role_is_read NegatedConjecture = refl
 
-role_some : (role : Role) → 0 < length (role_text role)
+pub role_some : (role : Role) → 0 < length (role_text role)
 role_some Axiom = omega arith
 role_some Hypothesis = omega arith
 role_some Definition = omega arith
@@ -87,16 +87,16 @@ functor_is_head e = cc
 
 module _ (table : Table) (text : List ℕ) (tokens : List Token) where
   -- what begins a term
-  begins : (t : Tree) (at pos : ℕ) (ps : List Piece) → IsReadable table t → Here text tokens at pos (term_pieces table t ps) → (m : Terminal) → head_of m ≡ Neither → terminal_at text tokens at ≢ m
+  pub begins : (t : Tree) (at pos : ℕ) (ps : List Piece) → IsReadable table t → Here text tokens at pos (term_pieces table t ps) → (m : Terminal) → head_of m ≡ Neither → terminal_at text tokens at ≢ m
   begins (var n) at pos ps printable here m e h = variable_is_head (sym (ap head_of (variable_facts table text tokens n at pos ps here).terminal) ∙ ap head_of h ∙ e)
   begins (app f ts) at pos ps printable here m e h = functor_is_head (sym (functor_head (name_of table f) _) ∙ sym (ap head_of (word_facts table text tokens f at pos (args_pieces table ts ps) printable.0 here).terminal) ∙ ap head_of h ∙ e)
 
-  record SignFacts (positive : Bool) (at : ℕ) (ps : List Piece) : Type 0 where
+  pub record SignFacts (positive : Bool) (at : ℕ) (ps : List Piece) : Type 0 where
     pub is_read : sign_of (terminal_at text tokens at) ≡ Some positive
     pub not_open : terminal_at text tokens at ≢ terminal.Open
     pub behind : Behind table text tokens (at + 1) ps
 
-  sign_facts : (positive : Bool) (at pos : ℕ) (ps : List Piece) → Here text tokens at pos (sign_pieces positive ps) → SignFacts positive at ps
+  pub sign_facts : (positive : Bool) (at pos : ℕ) (ps : List Piece) → Here text tokens at pos (sign_pieces positive ps) → SignFacts positive at ps
   sign_facts true at pos ps here =
       let mark = mark_facts table text tokens 61 at (pos + 1) (blank 32 ∷ ps) (skipped text tokens at pos 32 (lexeme Mark (61 ∷ []) ∷ blank 32 ∷ ps) here) in
       let e : terminal_at text tokens at ≡ terminal.Equal = mark.terminal in

@@ -75,7 +75,7 @@ close_pieces ps = lexeme Mark (41 ∷ []) ∷ lexeme Mark (46 ∷ []) ∷ ps
 abbrev pub clause_pieces : Table → Clause → List Piece → List Piece
 clause_pieces table c ps = lexeme Lower (codes "cnf") ∷ lexeme Mark (40 ∷ []) ∷ lexeme (name_kind c.name) (name_spelling c.name) ∷ lexeme Mark (44 ∷ []) ∷ blank 32 ∷ lexeme Lower (role_text c.role) ∷ lexeme Mark (44 ∷ []) ∷ blank 32 ∷ term_pieces table c.left (sign_pieces c.positive (term_pieces table c.right (close_pieces ps)))
 
-joined_sign : (positive : Bool) (ps : List Piece) → joined (sign_pieces positive ps) ≡ sign_text positive ++ joined ps
+pub joined_sign : (positive : Bool) (ps : List Piece) → joined (sign_pieces positive ps) ≡ sign_text positive ++ joined ps
 joined_sign true ps = refl
 joined_sign false ps = refl
 
@@ -93,11 +93,11 @@ joined_clause table c ps =
     ∙ regrouped (codes "cnf(") (name_spelling c.name) (codes ", ") (role_text c.role) (codes ", ") (term_text table c.left) (sign_text c.positive) (term_text table c.right) (codes ").") (joined ps)
 
 -- they stand apart
-name_stands : (text rest : List ℕ) (integer : Bool) → MatchBool integer (spells Integer text ≡ true) (IsSpellable text) → prefix_len is_word rest ≡ 0 → prefix_len is_digit rest ≡ 0 → Stands ((if integer then text else spelling text) ++ rest) (if integer then Integer else kind_of_word text) (length (if integer then text else spelling text))
+pub name_stands : (text rest : List ℕ) (integer : Bool) → MatchBool integer (spells Integer text ≡ true) (IsSpellable text) → prefix_len is_word rest ≡ 0 → prefix_len is_digit rest ≡ 0 → Stands ((if integer then text else spelling text) ++ rest) (if integer then Integer else kind_of_word text) (length (if integer then text else spelling text))
 name_stands text rest true spellable words digits = integer_stands text rest spellable digits
 name_stands text rest false spellable words digits = spelling_stands text rest spellable words
 
-role_name : (role : Role) → is_name (role_text role) ≡ true
+pub role_name : (role : Role) → is_name (role_text role) ≡ true
 role_name Axiom = refl
 role_name Hypothesis = refl
 role_name Definition = refl
@@ -114,11 +114,11 @@ mark_apart b ps s apart = (s, apart)
 close_apart : (ps : List Piece) → AreApart ps → AreApart (close_pieces ps)
 close_apart ps apart = (mark_stands 41 (46 ∷ joined ps) refl refl (λ h. omega arith) (λ h. omega arith) (λ h. omega arith), (mark_stands 46 (joined ps) refl refl (λ h. omega arith) (λ h. omega arith) (λ h. omega arith), apart))
 
-sign_apart : (positive : Bool) (ps : List Piece) → AreApart ps → AreApart (sign_pieces positive ps)
+pub sign_apart : (positive : Bool) (ps : List Piece) → AreApart ps → AreApart (sign_pieces positive ps)
 sign_apart true ps apart = (blank_skips (61 ∷ 32 ∷ joined ps), (mark_stands 61 (32 ∷ joined ps) refl refl (λ h. omega arith) (λ h. omega arith) (λ h. omega arith), (blank_skips (joined ps), apart)))
 sign_apart false ps apart = (blank_skips (33 ∷ 61 ∷ 32 ∷ joined ps), (unequal_stands (32 ∷ joined ps), (blank_skips (joined ps), apart)))
 
-sign_parts : (positive : Bool) (ps : List Piece) → Parts (sign_pieces positive ps)
+pub sign_parts : (positive : Bool) (ps : List Piece) → Parts (sign_pieces positive ps)
 sign_parts true ps = refl
 sign_parts false ps = refl
 

@@ -19,3 +19,11 @@ pub mod LinesOnce
 pub mod NamesOnce
 pub mod MeantOnce
 pub mod ReadingOnce
+pub mod PrintedPieces
+pub mod LinePieces
+pub mod FrameAgain
+pub mod TokensAgain
+pub mod TermsAgain
+pub mod SourceAgain
+pub mod LineAgain
+pub mod ProofAgain

@@ -6,5 +6,6 @@ pub mod Drafts
 pub mod Parts
 pub mod Reading
 pub mod Printing
+pub mod Printable
 pub mod Resolving
 pub mod Faults

@@ -11,9 +11,10 @@ use uc_clause::{Place, What, place_behind};
 /// The most bytes of a text that is read as a proof.
 pub const MAX_PROOF: usize = 268_435_456;
 
-const START: &[u8] = b"% SZS output start CNFRefutation for ";
+// The words before the name in a start line, and in an end line.
+pub(crate) const START: &[u8] = b"% SZS output start CNFRefutation for ";
 
-const END: &[u8] = b"% SZS output end CNFRefutation for ";
+pub(crate) const END: &[u8] = b"% SZS output end CNFRefutation for ";
 
 /// Where the lines of a proof stand: from the byte behind the start line to the first byte of the end line.
 #[derive(Clone, Copy, PartialEq, Eq, Debug)]

@@ -1,15 +1,18 @@
 //! Printing a proof.
 
-ghost use Rattle.std.specs.Prelude.{◌≡◌, ◌<◌, ◌++◌, length, codes, decimal, IfOk, OnOk};
+ghost use Rattle.std.specs.Prelude.{◌≡◌, ◌<◌, ◌++◌, length, codes, decimal, Ok, IfOk, OnOk};
 ghost use Rattle.std.specs.List.{AllByRecursion};
 ghost use Rattle.uc_term.specs.Table.{IsOf};
 ghost use Rattle.uc_clause.specs.Names.{spelling, name_spelling};
 ghost use Rattle.uc_clause.specs.Printing.{term_text, role_text};
 ghost use Rattle.uc_tstp.specs.Printing.{border_text, proof_text, lines_text, line_text, body_text, source_text, inference_text, replacement_text, step_text, line_name, path_text, way_text, role_of, is_refutation, names_in, listed, further, AreNumbers, IsStepOf, IsSourceOf, IsLineOf, AreLinesOf};
+ghost use Rattle.uc_tstp.specs.Printable.{IsPrintableProof, renumbered_proof};
+ghost use Rattle.uc_tstp.specs.Reading.{ReadsProof};
 
 #[cfg(test)]
 mod tests;
 
+use crate::framing::{END, START};
 use itoa::Buffer;
 use std::alloc::{AllocError, Global};
 use uc_check::{Line, LineSource, LineStep, Proof};
@@ -21,6 +24,11 @@ use uc_term::{Symbols, Term, Text};
 ///
 /// Names and files stand bare where they are lower-case words and else in quotes, variable `n` is `X` and `n + 1`, and terms
 /// and paths have no spaces.
+///
+/// The text is read again as the same proof, with the variables of each line numbered by first occurrence, where: the name has
+/// one byte or more and no line feed; the lines' names are lower-case words, all different; a token can spell each other name
+/// and each file of a clause; no symbol has more than 255 arguments, no term more than 4,096 nodes, and paths have the numbers
+/// 1 to 255; chain and encode lines are positive; and refute lines are so too, with the variable 0 on both sides.
 pub fn print_proof(
     alloc: Global,
     proof: &Proof,
@@ -31,11 +39,12 @@ pub fn print_proof(
     requires files { length file_of.now ≡ length proof.now.lines }
     requires lines { AreLinesOf symbols.now proof.now.lines }
     ensures text { IfOk result (λ text. text ≡ proof_text symbols.now name.now file_of.now proof.now.lines) }
+    ensures read_again { IsPrintableProof symbols.now name.now file_of.now proof.now.lines → IfOk result (λ text. ReadsProof symbols.now text (Ok (renumbered_proof proof.now))) }
 {
     let mut out = Text::new(alloc);
-    write_border(&mut out, b"% SZS output start CNFRefutation for ", name)?;
+    write_border(&mut out, START, name)?;
     write_lines(alloc, &mut out, file_of, proof.lines.as_slice(), symbols)?;
-    write_border(&mut out, b"% SZS output end CNFRefutation for ", name)?;
+    write_border(&mut out, END, name)?;
     Ok(out)
 }
 
