@@ -51,7 +51,7 @@ const ITEMS: &[u8] = b"include('a.ax'). cnf(k, axiom, X != g(Y)).";
 // The number of the token behind the first item, and whether that is an include.
 fn first_item(alloc: Global, symbols: &mut Symbols) -> Result<(bool, u32), ClauseFault> {
     let found = tokens(alloc, ITEMS)?;
-    if found.is_empty() {
+    if found.is_empty() || found.len() > 100 {
         return Ok((false, 0));
     }
     let (item, end) = item_at(alloc, ITEMS, found.as_slice(), 0, symbols)?;
@@ -61,7 +61,7 @@ fn first_item(alloc: Global, symbols: &mut Symbols) -> Result<(bool, u32), Claus
 // Whether the literal of the clause is a denial, and the number of the token behind it.
 fn its_literal(alloc: Global, symbols: &mut Symbols) -> Result<(bool, u32), ClauseFault> {
     let found = tokens(alloc, ITEMS)?;
-    if found.len() < 12 {
+    if found.len() < 12 || found.len() > 100 {
         return Ok((false, 0));
     }
     let (positive, _, _, _, end) = literal_at(alloc, ITEMS, found.as_slice(), 11, symbols)?;
