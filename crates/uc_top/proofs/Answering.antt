@@ -1,5 +1,5 @@
 -- From what the calls beneath promise to the answers.
-use Rattle.std.proofs.Common.{◌⊎◌, inl, inr, ℕ, ◌≡◌, ◌+◌, ◌<◌, ◌≤◌, Bool, true, false, List, [], ◌∷◌, length, take, get_or, Option, Some, None, Result, Ok, Err, refl, sym, ◌∙◌, subst, arith}
+use Rattle.std.proofs.Common.{◌⊎◌, inl, inr, ℕ, ◌≡◌, ◌+◌, ◌<◌, ◌≤◌, Bool, true, false, List, [], ◌∷◌, length, take, get_or, Option, Some, None, Result, Ok, Err, refl, sym, ap, ◌∙◌, subst, arith}
 use Rattle.std.proofs.lemmas.List.{take_all, length-take-le}
 use Rattle.std.specs.Str.{IsUtf8}
 use Rattle.std.proofs.lemmas.Str.{is_utf8-from_IsUtf8}
@@ -17,7 +17,10 @@ use Rattle.uc_check.specs.Clauses.{axioms_of, goals_of}
 use Rattle.uc_check.specs.Checks.{AreRightBefore, EndsInRefutation, IsChecked, accepted, rejected, no_line, no_refutation}
 use Rattle.uc_words.specs.declared.command.Verb.{Verb}
 use Rattle.uc_words.specs.declared.command.Verb.TheVariants as verb
-use Rattle.uc_top.specs.Runs.{HasProof}
+use Rattle.uc_words.specs.declared.command.Command.{Command}
+use Rattle.uc_words.specs.Reads.{Reads}
+use Rattle.uc_words.proofs.Only.{only}
+use Rattle.uc_top.specs.Runs.{HasProof, IsCertified}
 use Rattle.uc_term.specs.declared.fresh.Fresh.{Fresh}
 use Rattle.uc_term.specs.Table.{Table, Grows, IsDistinct}
 use Rattle.uc_edge.specs.Files.{Files, IsFetched}
@@ -44,7 +47,7 @@ use Rattle.uc_check.specs.declared.proof.Proof.{Proof}
 use Rattle.uc_top.specs.declared.output.Answer.{Answer}
 use Rattle.uc_top.specs.Lines.{joined, load_line, proof_line}
 use Rattle.std.proofs.lemmas.Option.{slice_get_read}
-use Rattle.uc_top.specs.Answers.{IsBuilt, large_line, WhereTold, load_status, IsProofFetched, TextAnswers, is_not_read, is_checked, ProofAnswers, is_absent, isnt_fetched, is_found, ProblemAnswers, has_large_goal, is_marked, CheckAnswers, fetch_fails, is_refused, is_loaded}
+use Rattle.uc_top.specs.Answers.{IsBuilt, large_line, WhereTold, load_status, IsProofFetched, TextAnswers, is_not_read, is_checked, ProofAnswers, is_absent, isnt_fetched, is_found, ProblemAnswers, has_large_goal, is_marked, LoadAnswers, CheckAnswers, IsShown, fetch_fails, is_refused, is_loaded}
 
 -- A count that rose in a part of a call rose in the call.
 pub rose_before : (first before now : ℕ) → first ≤ before → Rose before now → Rose first now
@@ -160,7 +163,7 @@ held_problem table later None root name problem g h = tt
 held_problem table later (Some files) root name problem g h = h later g
 
 -- the answer where no problem is loaded
-module _ (table : Table) (before now : ℕ) (root : Option (List ℕ)) (name proof : List ℕ) where
+module _ (table : Table) (before now : ℕ) (AnswersFor : Problem → ℕ → List ℕ → Type 0) (root : Option (List ℕ)) (name : List ℕ) where
   refuses : (files : Files) (why : LoadFault) → load_status why ≡ 3 → IsLoadFault table (Some files) before now root name why → Refuses table files root name why
   refuses files (load.Absent f from) e h = h table (Grows-refl table)
   refuses files (load.ReadFault f) e h = absurd (omega (arith, e))
@@ -181,11 +184,11 @@ module _ (table : Table) (before now : ℕ) (root : Option (List ℕ)) (name pro
   fails None file h = tt
   fails (Some files) file h = h.1 table (Grows-refl table)
 
-  refused : (holds : Option Files) (why : LoadFault) → load_status why ≡ 3 → IsLoadFault table holds before now root name why → CheckAnswers table holds before now root name proof 3 (load_line why)
+  refused : (holds : Option Files) (why : LoadFault) → load_status why ≡ 3 → IsLoadFault table holds before now root name why → LoadAnswers table holds before now AnswersFor root name 3 (load_line why)
   refused None why e h = is_refused why tt e
   refused (Some files) why e h = is_refused why (refuses files why e h) e
 
-  refused_clause : (holds : Option Files) (file : List ℕ) (why : ClauseFault) → (load_status (load.Clause file why) ≡ 7 → ⊥) → IsLoadFault table holds before now root name (load.Clause file why) → CheckAnswers table holds before now root name proof (load_status (load.Clause file why)) (load_line (load.Clause file why))
+  refused_clause : (holds : Option Files) (file : List ℕ) (why : ClauseFault) → (load_status (load.Clause file why) ≡ 7 → ⊥) → IsLoadFault table holds before now root name (load.Clause file why) → LoadAnswers table holds before now AnswersFor root name (load_status (load.Clause file why)) (load_line (load.Clause file why))
   refused_clause holds file (clause.Syntax p) n h = refused holds (load.Clause file (clause.Syntax p)) refl h
   refused_clause holds file (clause.NotUnit p) n h = refused holds (load.Clause file (clause.NotUnit p)) refl h
   refused_clause holds file (clause.NotEquality p) n h = refused holds (load.Clause file (clause.NotEquality p)) refl h
@@ -194,7 +197,7 @@ module _ (table : Table) (before now : ℕ) (root : Option (List ℕ)) (name pro
   refused_clause holds file (clause.Limit p w) n h = refused holds (load.Clause file (clause.Limit p w)) refl h
   refused_clause holds file clause.NoMemory n h = absurd (n refl)
 
-  pub not_loaded : (holds : Option Files) (why : LoadFault) → (load_status why ≡ 7 → ⊥) → IsLoadFault table holds before now root name why → CheckAnswers table holds before now root name proof (load_status why) (load_line why)
+  pub not_loaded : (holds : Option Files) (why : LoadFault) → (load_status why ≡ 7 → ⊥) → IsLoadFault table holds before now root name why → LoadAnswers table holds before now AnswersFor root name (load_status why) (load_line why)
   not_loaded holds (load.Absent f from) n h = refused holds (load.Absent f from) refl h
   not_loaded holds (load.ReadFault f) n h = fetch_fails f h.0 (fails holds f h)
   not_loaded holds (load.TooDeep f p) n h = refused holds (load.TooDeep f p) refl h
@@ -204,8 +207,8 @@ module _ (table : Table) (before now : ℕ) (root : Option (List ℕ)) (name pro
   not_loaded holds (load.Clause f w) n h = refused_clause holds f w n h
   not_loaded holds load.NoMemory n h = absurd (n refl)
 
-  pub refused_answers : (holds : Option Files) (why : LoadFault) (r : Result Answer AllocError) → IsLoadFault table holds before now root name why → IfOk r (λ answer. (answer.status ≡ load_status why) × (joined answer.lines ≡ load_line why)) → IfOk r (λ answer. answer.status ≡ 7 → ⊥) → IfOk r (λ answer. CheckAnswers table holds before now root name proof answer.status (joined answer.lines))
-  refused_answers holds why (Ok answer) h line n = one_line (Ok answer) (CheckAnswers table holds before now root name proof) (load_status why) (load_line why) line (not_loaded holds why (λ e. n (line.0 ∙ e)) h)
+  pub refused_answers : (holds : Option Files) (why : LoadFault) (r : Result Answer AllocError) → IsLoadFault table holds before now root name why → IfOk r (λ answer. (answer.status ≡ load_status why) × (joined answer.lines ≡ load_line why)) → IfOk r (λ answer. answer.status ≡ 7 → ⊥) → IfOk r (λ answer. LoadAnswers table holds before now AnswersFor root name answer.status (joined answer.lines))
+  refused_answers holds why (Ok answer) h line n = one_line (Ok answer) (LoadAnswers table holds before now AnswersFor root name) (load_status why) (load_line why) line (not_loaded holds why (λ e. n (line.0 ∙ e)) h)
   refused_answers holds why (Err fault) h line n = tt
 
 isnt_done_clause : (file : List ℕ) (why : ClauseFault) → load_status (load.Clause file why) ≡ 0 → ⊥
@@ -268,9 +271,13 @@ has_proof table files before now root name proof problem status answer e h f (is
     }
 
 -- the answer where a problem is loaded
+pub loaded : (table later : Table) (holds : Option Files) (before now : ℕ) (AnswersFor : Problem → ℕ → List ℕ → Type 0) (root : Option (List ℕ)) (name : List ℕ) (problem : Problem) (r : Result Answer AllocError) → Grows table later → IsProblem table holds root name problem → IfOk r (λ answer. AnswersFor problem answer.status (joined answer.lines)) → IfOk r (λ answer. LoadAnswers later holds before now AnswersFor root name answer.status (joined answer.lines))
+loaded table later holds before now AnswersFor root name problem (Ok answer) g h a = is_loaded (held_problem table later holds root name problem g h) a
+loaded table later holds before now AnswersFor root name problem (Err fault) g h a = tt
+
 module _ (table later : Table) (holds mid : Option Files) (first before now : ℕ) (root : Option (List ℕ)) (name proof : List ℕ) (problem : Problem) where
   pub loaded_answers : (r : Result Answer AllocError) → mid ≡ holds → first ≤ before → Grows table later → IsProblem table holds root name problem → IfOk r (λ answer. ProblemAnswers later mid before now problem proof answer.status (joined answer.lines)) → IfOk r (λ answer. CheckAnswers later holds first now root name proof answer.status (joined answer.lines))
-  loaded_answers (Ok answer) e le g h a = is_loaded (held_problem table later holds root name problem g h) (earlier_problem later holds first before now problem proof answer.status (joined answer.lines) le (rw e at a))
+  loaded_answers (Ok answer) e le g h a = loaded table later holds first now (λ p. ProblemAnswers later holds first now p proof) root name problem (Ok answer) g h (earlier_problem later holds first before now problem proof answer.status (joined answer.lines) le (rw e at a))
   loaded_answers (Err fault) e le g h a = tt
 
   pub loaded_certified : (r : Result Answer AllocError) → mid ≡ holds → Grows table later → IsProblem table holds root name problem → IfOk r (λ answer. ProblemAnswers later mid before now problem proof answer.status (joined answer.lines)) → IfOk r (λ answer. answer.status ≡ 0 → SomeFollows (axioms_of problem.clauses) (goals_of problem.clauses)) → IfOk r (λ answer. answer.status ≡ 0 → (files : Files) → holds ≡ Some files → HasProof later files root name proof)
@@ -284,15 +291,20 @@ two_names (x ∷ []) a b low high p q = absurd (omega arith)
 two_names (x ∷ y ∷ []) a b low high p q = rw (p, q) refl
 two_names (x ∷ y ∷ z ∷ zs) a b low high p q = absurd (omega arith)
 
-pub not_built : (v : Verb) → (v ≡ verb.Check → ⊥) → IsBuilt v → ⊥
-not_built verb.Check n b = n refl
-not_built verb.Prove n b = b
-not_built verb.Decide n b = b
-not_built verb.Show n b = b
-not_built verb.Rewrite n b = b
-not_built verb.Order n b = b
-not_built verb.Pairs n b = b
-not_built verb.Gen n b = b
+pub one_name : (names : List (List ℕ)) (a : List ℕ) → 1 ≤ length names → length names < 2 → a ≡ get_or names 0 a → names ≡ a ∷ []
+one_name [] a low high p = absurd (omega arith)
+one_name (x ∷ []) a low high p = rw p refl
+one_name (x ∷ y ∷ ys) a low high p = absurd (omega arith)
+
+pub not_built : (v : Verb) → (v ≡ verb.Check → ⊥) → (v ≡ verb.Show → ⊥) → IsBuilt v → ⊥
+not_built verb.Check n m b = n refl
+not_built verb.Show n m b = m refl
+not_built verb.Prove n m b = b
+not_built verb.Decide n m b = b
+not_built verb.Rewrite n m b = b
+not_built verb.Order n m b = b
+not_built verb.Pairs n m b = b
+not_built verb.Gen n m b = b
 
 -- the empty table
 pub none_distinct : IsDistinct []
@@ -301,3 +313,10 @@ none_distinct i j e p q = absurd (cc p)
 pub usage_not_done : (Q : Answer → Type 0) (r : Result Answer AllocError) (line : List ℕ) → IfOk r (λ answer. (answer.status ≡ 4) × (joined answer.lines ≡ line)) → IfOk r (λ answer. answer.status ≡ 0 → Q answer)
 usage_not_done Q (Ok answer) line h = λ e. absurd (omega (arith, h.0, e))
 usage_not_done Q (Err fault) line h = tt
+
+-- words have one command, so what is certified of it is certified of the words
+pub certified_by : (words : List (List ℕ)) (command : Command) (holds : Option Files) (r : Result Answer AllocError) → Reads words command → (command.verb ≡ verb.Check → IfOk r (λ answer. answer.status ≡ 0 → (files : Files) → holds ≡ Some files → IsCertified files command)) → IfOk r (λ answer. answer.status ≡ 0 → (files : Files) → holds ≡ Some files → (other : Command) → Reads words other → other.verb ≡ verb.Check → IsCertified files other)
+certified_by words command holds (Ok answer) reads h = λ done files told other read v.
+    let same : command ≡ other = only words command other reads read in
+    subst (IsCertified files) same (h (ap (λ (k : Command). k.verb) same ∙ v) done files told)
+certified_by words command holds (Err fault) reads h = tt

@@ -19,11 +19,12 @@ use Rattle.uc_check.specs.declared.proof.Proof.{Proof}
 use Rattle.uc_check.specs.Checks.{IsChecked}
 use Rattle.uc_check.proofs.Once.{checked_once}
 use Rattle.uc_words.specs.declared.command.Command.{Command}
+use Rattle.uc_words.specs.declared.command.Verb.{Verb}
 use Rattle.uc_words.specs.declared.command.Verb.TheVariants as verb
 use Rattle.uc_words.specs.Reads.{Reads}
 use Rattle.uc_words.proofs.Only.{only}
 use Rattle.uc_top.specs.Lines.{load_line, proof_line}
-use Rattle.uc_top.specs.Answers.{checked_status, large_line, IsBuilt, TextAnswers, is_not_read, is_checked, ProofAnswers, is_absent, isnt_fetched, is_found, ProblemAnswers, has_large_goal, is_marked, CheckAnswers, fetch_fails, is_refused, is_loaded, Answers, has_no_reading, isnt_built, checks}
+use Rattle.uc_top.specs.Answers.{checked_status, large_line, IsBuilt, TextAnswers, is_not_read, is_checked, ProofAnswers, is_absent, isnt_fetched, is_found, ProblemAnswers, has_large_goal, is_marked, LoadAnswers, CheckAnswers, ShowAnswers, IsShown, fetch_fails, is_refused, is_loaded, Answers, has_no_reading, isnt_built, checks, shows}
 
 -- what a text reads as where memory isn't wanted: it is too long, or it is read
 module _ (table : Table) (text : List ℕ) where
@@ -67,6 +68,20 @@ first_name e = cc
 second_name : {a b c d : List ℕ} → Path (List (List ℕ)) (a ∷ b ∷ []) (c ∷ d ∷ []) → b ≡ d
 second_name e = cc
 
+-- words have one command
+module _ (words : List (List ℕ)) where
+  same_verb : {command other : Command} → Reads words command → Reads words other → command.verb ≡ other.verb
+  same_verb {command} {other} x y = ap (λ (c : Command). c.verb) (only words command other x y)
+
+  pub built : {command other : Command} (v : Verb) → IsBuilt v → Reads words command → Reads words other → (IsBuilt command.verb → ⊥) → other.verb ≡ v → ⊥
+  built v b x y n e = n (subst IsBuilt (sym (same_verb x y ∙ e)) b)
+
+pub only_name : {a b : List ℕ} → Path (List (List ℕ)) (a ∷ []) (b ∷ []) → a ≡ b
+only_name e = cc
+
+pub check_or_show : Path Verb verb.Check verb.Show → ⊥
+check_or_show e = absurd (cc e)
+
 module _ (table : Table) (distinct : IsDistinct table) where
   module _ (clauses : List Sourced) (marks : Option Fresh) (name text : List ℕ) where
     text_once : {s t : ℕ} {a b : List ℕ} → TextAnswers table clauses marks name text s a → TextAnswers table clauses marks name text t b → (s ≡ t) × (a ≡ b)
@@ -98,31 +113,45 @@ module _ (table : Table) (distinct : IsDistinct table) where
       problem_once (is_marked {marks = marks} m x) (has_large_goal {number = number} n h) = absurd (marked_or_large table problem marks number m n)
       problem_once {t = t} {b = b} (is_marked {marks = marks} m x) (is_marked {marks = other} n y) = proof_once problem.clauses marks proof x (subst (λ (o : Option Fresh). ProofAnswers table (Some files) before now problem.clauses o proof t b) (marks_once table problem distinct other marks n m) y)
 
-    module _ (root : Option (List ℕ)) (name proof : List ℕ) where
-      check_once : {s t : ℕ} {a b : List ℕ} → CheckAnswers table (Some files) before now root name proof s a → CheckAnswers table (Some files) before now root name proof t b → (s ≡ t) × (a ≡ b)
-      check_once (fetch_fails file r f) y = absurd (well r)
-      check_once (is_refused why x e) (fetch_fails file r f) = absurd (well r)
-      check_once (is_refused why x e) (is_refused other y f) = (refl, ap load_line (refusal_is_once table distinct files root name x y))
-      check_once (is_refused why x e) (is_loaded y p) = absurd (held_or_refused table distinct files root name y x)
-      check_once (is_loaded x p) (fetch_fails file r f) = absurd (well r)
-      check_once (is_loaded x p) (is_refused why y e) = absurd (held_or_refused table distinct files root name x y)
-      check_once {t = t} {b = b} (is_loaded {problem = problem} x p) (is_loaded {problem = other} y q) = problem_once problem proof p (subst (λ (held : Problem). ProblemAnswers table (Some files) before now held proof t b) (problem_is_once table distinct files root name other problem y x) q)
+    module _ (AnswersFor : Problem → ℕ → List ℕ → Type 0) (answers_once : (problem : Problem) (s t : ℕ) (a b : List ℕ) → AnswersFor problem s a → AnswersFor problem t b → (s ≡ t) × (a ≡ b)) (root : Option (List ℕ)) (name : List ℕ) where
+      load_once : {s t : ℕ} {a b : List ℕ} → LoadAnswers table (Some files) before now AnswersFor root name s a → LoadAnswers table (Some files) before now AnswersFor root name t b → (s ≡ t) × (a ≡ b)
+      load_once (fetch_fails file r f) y = absurd (well r)
+      load_once (is_refused why x e) (fetch_fails file r f) = absurd (well r)
+      load_once (is_refused why x e) (is_refused other y f) = (refl, ap load_line (refusal_is_once table distinct files root name x y))
+      load_once (is_refused why x e) (is_loaded y p) = absurd (held_or_refused table distinct files root name y x)
+      load_once (is_loaded x p) (fetch_fails file r f) = absurd (well r)
+      load_once (is_loaded x p) (is_refused why y e) = absurd (held_or_refused table distinct files root name x y)
+      load_once {s} {t} {a} {b} (is_loaded {problem = problem} x p) (is_loaded {problem = other} y q) = answers_once problem s t a b p (subst (λ (held : Problem). AnswersFor held t b) (problem_is_once table distinct files root name other problem y x) q)
+
+    check_once : (root : Option (List ℕ)) (name proof : List ℕ) {s t : ℕ} {a b : List ℕ} → CheckAnswers table (Some files) before now root name proof s a → CheckAnswers table (Some files) before now root name proof t b → (s ≡ t) × (a ≡ b)
+    check_once root name proof x y = load_once (λ problem. ProblemAnswers table (Some files) before now problem proof) (λ problem s t a b p q. problem_once problem proof p q) root name x y
+
+    show_once : (root : Option (List ℕ)) (name : List ℕ) {s t : ℕ} {a b : List ℕ} → ShowAnswers table (Some files) before now root name s a → ShowAnswers table (Some files) before now root name t b → (s ≡ t) × (a ≡ b)
+    show_once root name x y = load_once (IsShown table) (λ problem s t a b p q. (p.0 ∙ sym q.0, p.1 ∙ sym q.1)) root name x y
 
     module _ (words : List (List ℕ)) where
-      built : {command other : Command} → Reads words command → Reads words other → (IsBuilt command.verb → ⊥) → other.verb ≡ verb.Check → ⊥
-      built {command} {other} x y n e = n (subst IsBuilt (sym (ap (λ (c : Command). c.verb) (only words command other x y) ∙ e)) tt)
-
       pub answer_once : {s t : ℕ} {a b : List ℕ} → Answers table (Some files) before now words s a → Answers table (Some files) before now words t b → (s ≡ t) × (a ≡ b)
       answer_once (has_no_reading n) (has_no_reading m) = (refl, refl)
       answer_once (has_no_reading n) (isnt_built y m) = (refl, refl)
       answer_once (has_no_reading n) (checks {command = command} y v p q) = absurd (n command y)
+      answer_once (has_no_reading n) (shows {command = command} y v p q) = absurd (n command y)
       answer_once (isnt_built x n) (has_no_reading m) = (refl, refl)
       answer_once (isnt_built x n) (isnt_built y m) = (refl, refl)
-      answer_once (isnt_built x n) (checks y v p q) = absurd (built x y n v)
+      answer_once (isnt_built x n) (checks y v p q) = absurd (built words verb.Check tt x y n v)
+      answer_once (isnt_built x n) (shows y v p q) = absurd (built words verb.Show tt x y n v)
       answer_once (checks {command = command} x v p q) (has_no_reading m) = absurd (m command x)
-      answer_once (checks x v p q) (isnt_built y m) = absurd (built y x m v)
+      answer_once (checks x v p q) (isnt_built y m) = absurd (built words verb.Check tt y x m v)
       answer_once {t = t} {b = b} (checks {command = command} {name = name} {proof = proof} x v p c) (checks {command = other} {name = named} {proof = proved} y w q d) =
           let commands : other ≡ command = only words other command y x in
           let names : named ∷ proved ∷ [] ≡ name ∷ proof ∷ [] = sym q ∙ ap (λ (k : Command). k.positionals) commands ∙ p in
           let moved : CheckAnswers table (Some files) before now command.root name proof t b = subst (λ n. CheckAnswers table (Some files) before now command.root n proof t b) (first_name names) (subst (λ n. CheckAnswers table (Some files) before now command.root named n t b) (second_name names) (subst (λ (k : Command). CheckAnswers table (Some files) before now k.root named proved t b) commands d)) in
           check_once command.root name proof c moved
+      answer_once (checks x v p q) (shows y w r s) = absurd (check_or_show (sym v ∙ same_verb words x y ∙ w))
+      answer_once (shows {command = command} x v p q) (has_no_reading m) = absurd (m command x)
+      answer_once (shows x v p q) (isnt_built y m) = absurd (built words verb.Show tt y x m v)
+      answer_once (shows x v p q) (checks y w r s) = absurd (check_or_show (sym w ∙ same_verb words y x ∙ v))
+      answer_once {t = t} {b = b} (shows {command = command} {name = name} x v p c) (shows {command = other} {name = named} y w q d) =
+          let commands : other ≡ command = only words other command y x in
+          let names : named ∷ [] ≡ name ∷ [] = sym q ∙ ap (λ (k : Command). k.positionals) commands ∙ p in
+          let moved : ShowAnswers table (Some files) before now command.root name t b = subst (λ n. ShowAnswers table (Some files) before now command.root n t b) (only_name names) (subst (λ (k : Command). ShowAnswers table (Some files) before now k.root named t b) commands d) in
+          show_once command.root name c moved

@@ -30,7 +30,7 @@ use Rattle.uc_words.specs.declared.command.Command.{Command}
 use Rattle.uc_words.specs.declared.command.Verb.{Verb}
 use Rattle.uc_words.specs.declared.command.Verb.TheVariants as verb
 use Rattle.uc_words.specs.Reads.{Reads}
-use Rattle.uc_top.specs.Lines.{located, about_file, spaced, what_word, load_line, proof_line, checked_line, usage_line}
+use Rattle.uc_top.specs.Lines.{located, about_file, spaced, what_word, load_line, proof_line, checked_line, shown_lines, usage_line}
 
 -- this holds of the library's files, where it tells them
 abbrev pub WhereTold : Option Files → (Files → Type 0) → Type 0
@@ -66,6 +66,7 @@ checked_status (Rejected line cause) = 1
 -- the commands that are built
 abbrev pub IsBuilt : Verb → Type 0
 IsBuilt verb.Check = Unit {0}
+IsBuilt verb.Show = Unit {0}
 IsBuilt other = ⊥
 
 -- Symbols are those of this table.
@@ -75,6 +76,10 @@ module _ (table : Table) where
     pub data TextAnswers : ℕ → List ℕ → Type 0 where
       is_not_read : {why : ProofFault} → IsReading table text (Err why) → (why ≡ NoMemory → ⊥) → TextAnswers 3 (proof_line name why)
       is_checked : {proof : Proof} {answer : Checked} → IsReading table text (Ok proof) → IsChecked clauses marks proof.lines answer → TextAnswers (checked_status answer) (checked_line proof.lines answer)
+
+  -- the answer to `show` for a problem: all its clauses, each on a line
+  abbrev pub IsShown : Problem → ℕ → List ℕ → Type 0
+  IsShown problem status answer = (status ≡ 0) × (answer ≡ shown_lines table problem.clauses)
 
   -- The library's files are these, where it tells them, and its count of faults was and is this.
   module _ (holds : Option Files) (before now : ℕ) where
@@ -91,12 +96,20 @@ module _ (table : Table) where
         has_large_goal : {number : ℕ} {goal : Sourced} → Marks table problem (Err (GoalTooLarge number)) → slice_get problem.clauses number ≡ Some goal → ProblemAnswers 3 (large_line goal)
         is_marked : {marks : Option Fresh} {status : ℕ} {answer : List ℕ} → Marks table problem (Ok marks) → ProofAnswers problem.clauses marks proof status answer → ProblemAnswers status answer
 
+    -- the answer to a command that loads the problem file of this name, with this root, and answers so for the problem
+    module _ (AnswersFor : Problem → ℕ → List ℕ → Type 0) (root : Option (List ℕ)) (name : List ℕ) where
+      pub data LoadAnswers : ℕ → List ℕ → Type 0 where
+        fetch_fails : (file : List ℕ) → Rose before now → WhereTold holds (λ files. FailsAt table files root name file) → LoadAnswers 5 (about_file file (codes "ReadFault"))
+        is_refused : (why : LoadFault) → WhereTold holds (λ files. Refuses table files root name why) → load_status why ≡ 3 → LoadAnswers 3 (load_line why)
+        is_loaded : {problem : Problem} {status : ℕ} {answer : List ℕ} → WhereTold holds (λ files. Holds table files root name problem) → AnswersFor problem status answer → LoadAnswers status answer
+
     -- the answer to `check` for the problem file and the proof file of these names, with this root
-    module _ (root : Option (List ℕ)) (name proof : List ℕ) where
-      pub data CheckAnswers : ℕ → List ℕ → Type 0 where
-        fetch_fails : (file : List ℕ) → Rose before now → WhereTold holds (λ files. FailsAt table files root name file) → CheckAnswers 5 (about_file file (codes "ReadFault"))
-        is_refused : (why : LoadFault) → WhereTold holds (λ files. Refuses table files root name why) → load_status why ≡ 3 → CheckAnswers 3 (load_line why)
-        is_loaded : {problem : Problem} {status : ℕ} {answer : List ℕ} → WhereTold holds (λ files. Holds table files root name problem) → ProblemAnswers problem proof status answer → CheckAnswers status answer
+    abbrev pub CheckAnswers : Option (List ℕ) → List ℕ → List ℕ → ℕ → List ℕ → Type 0
+    CheckAnswers root name proof = LoadAnswers (λ problem. ProblemAnswers problem proof) root name
+
+    -- the answer to `show` for the problem file of this name, with this root
+    abbrev pub ShowAnswers : Option (List ℕ) → List ℕ → ℕ → List ℕ → Type 0
+    ShowAnswers root name = LoadAnswers IsShown root name
 
     -- the answer to the words of a command line; each command that is built has a case
     module _ (words : List (List ℕ)) where
@@ -104,3 +117,4 @@ module _ (table : Table) where
         has_no_reading : ((command : Command) → Reads words command → ⊥) → Answers 4 usage_line
         isnt_built : {command : Command} → Reads words command → (IsBuilt command.verb → ⊥) → Answers 4 usage_line
         checks : {command : Command} {name proof : List ℕ} {status : ℕ} {answer : List ℕ} → Reads words command → command.verb ≡ verb.Check → command.positionals ≡ name ∷ proof ∷ [] → CheckAnswers command.root name proof status answer → Answers status answer
+        shows : {command : Command} {name : List ℕ} {status : ℕ} {answer : List ℕ} → Reads words command → command.verb ≡ verb.Show → command.positionals ≡ name ∷ [] → ShowAnswers command.root name status answer → Answers status answer

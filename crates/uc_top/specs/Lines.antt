@@ -1,7 +1,11 @@
 -- The lines of an answer.
 use Rattle.std.specs.Prelude.{ℕ, List, [], ◌++◌, codes, decimal, slice_get, Option, Some, None}
 use Rattle.std.specs.List.{flat_map}
+use Rattle.uc_term.specs.Table.{Table}
 use Rattle.uc_clause.specs.declared.token.Place.{Place}
+use Rattle.uc_clause.specs.declared.clause.Clause as read
+use Rattle.uc_clause.specs.declared.clause.Sourced.{Sourced}
+use Rattle.uc_clause.specs.Printing.{clause_text}
 use Rattle.uc_clause.specs.declared.fault.What.{What}
 use Rattle.uc_clause.specs.declared.fault.What.TheVariants as what
 use Rattle.uc_clause.specs.declared.fault.ClauseFault.{ClauseFault}
@@ -99,6 +103,14 @@ line_of_number lines (Some k) = slice_get lines k
 abbrev pub checked_line : List Line → Checked → List ℕ
 checked_line lines Accepted = codes "accepted\n"
 checked_line lines (Rejected number why) = codes "rejected " ++ name_or_dash (line_of_number lines number) ++ codes " " ++ cause_word why ++ codes "\n"
+
+-- the line of a clause
+abbrev pub shown_line : Table → read.Clause → List ℕ
+shown_line table c = clause_text table c ++ codes "\n"
+
+-- the lines of clauses
+abbrev pub shown_lines : Table → List Sourced → List ℕ
+shown_lines table = flat_map (λ s. shown_line table s.clause)
 
 abbrev pub usage_line : List ℕ
 usage_line = codes "usage: uc COMMAND [--option VALUE].. [WORD]..\n"

@@ -1,5 +1,6 @@
 -- What a run of the program does.
 use Rattle.std.specs.Prelude.{ℕ, ◌≡◌, List, [], ◌∷◌, length, Option, Some, Ok}
+use Rattle.std.specs.Io.KnownBytes.{Appends}
 use Rattle.uc_term.specs.declared.fresh.Fresh.{Fresh}
 use Rattle.uc_term.specs.Table.{Table, IsDistinct}
 use Rattle.uc_term.specs.Conversion.{SomeFollows}
@@ -13,9 +14,9 @@ use Rattle.uc_check.specs.declared.proof.Proof.{Proof}
 use Rattle.uc_check.specs.Checks.{AreRightBefore, EndsInRefutation}
 use Rattle.uc_check.specs.Clauses.{axioms_of, goals_of}
 use Rattle.uc_words.specs.declared.command.Command.{Command}
-use Rattle.uc_words.specs.declared.command.Verb.TheVariants.{Check}
+use Rattle.uc_words.specs.declared.command.Verb.TheVariants.{Show}
 use Rattle.uc_words.specs.Reads.{Reads}
-use Rattle.uc_top.specs.Lines.{memory_line}
+use Rattle.uc_top.specs.Lines.{memory_line, shown_lines}
 use Rattle.uc_top.specs.Told.{IsTold}
 use Rattle.uc_top.specs.Answers.{Answers}
 
@@ -48,14 +49,20 @@ pub record HasProof (table : Table) (files : Files) (root : Option (List ℕ)) (
   pub refutes : EndsInRefutation proof.lines
   pub follows : SomeFollows (axioms_of problem.clauses) (goals_of problem.clauses)
 
--- the words check a problem file and a proof file that these files have, with a proof in it
-pub record IsCertified (files : Files) (words : List (List ℕ)) : Type 0 where
-  pub command : Command
-  pub reads : Reads words command
-  pub is_check : command.verb ≡ Check
+-- the command checks a problem file and a proof file that these files have, with a proof in it
+pub record IsCertified (files : Files) (command : Command) : Type 0 where
   pub name : List ℕ
   pub proof_name : List ℕ
   pub names : command.positionals ≡ name ∷ proof_name ∷ []
   pub table : Table
   pub distinct : IsDistinct table
   pub has_proof : HasProof table files command.root name proof_name
+
+-- How `show` ends for a problem: with all its clauses, each on a line, and status 0; or for want of memory, which is free.
+pub data ShowEnds (table : Table) (problem : Problem) (old new : Option (List ℕ)) : ℕ → Type 0 where
+  shows_all : Appends old new (shown_lines table problem.clauses) → ShowEnds table problem old new 0
+  lacks_memory : Appends old new memory_line → ShowEnds table problem old new 7
+
+-- Where the words show a problem that the files hold, in whatever table its symbols stand, `show` ends so.
+abbrev pub Completes : Files → List (List ℕ) → Option (List ℕ) → Option (List ℕ) → ℕ → Type 0
+Completes files words old new result = (command : Command) (name : List ℕ) (table : Table) (problem : Problem) → Reads words command → command.verb ≡ Show → command.positionals ≡ name ∷ [] → Holds table files command.root name problem → ShowEnds table problem old new result

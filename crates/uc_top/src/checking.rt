@@ -7,19 +7,19 @@ ghost use Rattle.uc_term.specs.Conversion.{SomeFollows};
 ghost use Rattle.uc_edge.specs.Files.{Files};
 ghost use Rattle.uc_check.specs.Clauses.{axioms_of, goals_of, AreFresh, HasGoalIfEncoded};
 ghost use Rattle.uc_problem.specs.Holds.{Agrees};
-ghost use Rattle.uc_problem.specs.declared.fault.LoadFault.TheVariants.{Clause};
 ghost use Rattle.uc_tstp.specs.Reading.{IsReading};
-ghost use Rattle.uc_top.specs.Lines.{joined, load_line, proof_line};
-ghost use Rattle.uc_top.specs.Answers.{load_status, large_line, checked_status, IsProofFetched, TextAnswers, ProofAnswers, ProblemAnswers, CheckAnswers};
+ghost use Rattle.uc_top.specs.Lines.{joined, proof_line};
+ghost use Rattle.uc_top.specs.Answers.{large_line, checked_status, IsProofFetched, TextAnswers, ProofAnswers, ProblemAnswers, CheckAnswers};
 ghost use Rattle.uc_top.specs.Runs.{HasProof};
 
-use crate::lines::{about_file, checked_line, limit_line, load_line, proof_line};
-use crate::output::{Answer, DONE, NO, READ_FAULT, REFUSED, WANT_OF_MEMORY, of_line};
+use crate::lines::{about_file, checked_line, limit_line, proof_line};
+use crate::loading::{bytes_of, load_answer};
+use crate::output::{Answer, DONE, NO, READ_FAULT, REFUSED, of_line};
 use std::alloc::{AllocError, Global};
 use uc_check::{Checked, Proof, check};
-use uc_clause::{ClauseFault, Sourced, What};
+use uc_clause::{Sourced, What};
 use uc_edge::{Fetched, Library};
-use uc_problem::{EncodeFault, LoadFault, Problem, load, marks};
+use uc_problem::{EncodeFault, Problem, load, marks};
 use uc_term::{Fresh, Symbols, Text};
 use uc_tstp::{MAX_PROOF, ProofFault, read_proof};
 
@@ -44,15 +44,6 @@ pub(crate) fn check_answer<L: Library>(
     answer
 }
 
-fn bytes_of(text: Option<&Text>) -> Option<&[u8]>
-    ensures { option_copied result ≡ option_copied text.entry }
-{
-    match text {
-        Some(text) => Some(text.as_bytes()),
-        None => None,
-    }
-}
-
 // The answer, with a table for the symbols.
 fn load_and_check<L: Library>(
     alloc: Global,
@@ -71,47 +62,6 @@ fn load_and_check<L: Library>(
         Ok(problem) => problem_answer(alloc, &problem, proof, symbols, library),
         Err(fault) => load_answer(alloc, &fault),
     }
-}
-
-fn load_status(fault: &LoadFault) -> u8
-    ensures { result ≡ load_status fault.now }
-{
-    match fault {
-        LoadFault::ReadFault { .. } => READ_FAULT,
-        LoadFault::NoMemory => WANT_OF_MEMORY,
-        LoadFault::Clause { fault, .. } => clause_status(fault),
-        LoadFault::Absent { .. } => REFUSED,
-        LoadFault::TooDeep { .. } => REFUSED,
-        LoadFault::NoSuchName { .. } => REFUSED,
-        LoadFault::ArityClash { .. } => REFUSED,
-        LoadFault::Limit { .. } => REFUSED,
-    }
-}
-
-fn clause_status(fault: &ClauseFault) -> u8
-    ensures { (file : List ℕ) → result ≡ load_status (Clause file fault.now) }
-{
-    match fault {
-        ClauseFault::NoMemory => WANT_OF_MEMORY,
-        ClauseFault::Syntax(_) => REFUSED,
-        ClauseFault::NotUnit(_) => REFUSED,
-        ClauseFault::NotEquality(_) => REFUSED,
-        ClauseFault::BadRole(..) => REFUSED,
-        ClauseFault::Unsupported(..) => REFUSED,
-        ClauseFault::Limit(..) => REFUSED,
-    }
-}
-
-// The answer for a problem that isn't loaded.
-fn load_answer(alloc: Global, fault: &LoadFault) -> Result<Answer, AllocError>
-    ensures answer { IfOk result (λ answer. (answer.status ≡ load_status fault.now) × (joined answer.lines ≡ load_line fault.now)) }
-    ensures not_memory { IfOk result (λ answer. answer.status ≡ 7 → ⊥) }
-{
-    let status = load_status(fault);
-    if status == WANT_OF_MEMORY {
-        return Err(AllocError);
-    }
-    of_line(alloc, status, load_line(alloc, fault)?)
 }
 
 // The answer for a problem that is loaded.

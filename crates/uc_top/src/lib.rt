@@ -4,8 +4,10 @@
 mod checking;
 mod laws;
 mod lines;
+mod loading;
 mod output;
 mod program;
+mod showing;
 #[cfg(test)]
 mod tests;
 

@@ -2,13 +2,17 @@
 
 ghost use Rattle.std.specs.Prelude.{◌≡◌, ◌≤◌, ℕ, List, true, IfOk, Some, map, string_bytes, length};
 ghost use Rattle.uc_edge.specs.Files.{Files};
+ghost use Rattle.uc_edge.specs.Faults.{Rose};
+ghost use Rattle.uc_words.specs.declared.command.Command.{Command};
+ghost use Rattle.uc_words.specs.declared.command.Verb.TheVariants.{Check};
 ghost use Rattle.uc_words.specs.Reads.{Reads};
 ghost use Rattle.uc_words.specs.Table.{fits};
 ghost use Rattle.uc_top.specs.Lines.{joined, usage_line};
-ghost use Rattle.uc_top.specs.Runs.{MayAnswer, IsRun, IsCertified};
+ghost use Rattle.uc_top.specs.Runs.{MayAnswer, IsRun, IsCertified, Completes};
 
 use crate::checking::check_answer;
 use crate::output::{Answer, USAGE, of_line, tell, tell_memory_out};
+use crate::showing::show_answer;
 use std::alloc::{AllocError, Global};
 use std::sync::Wait;
 use std::thread::Threads;
@@ -22,8 +26,9 @@ const USAGE_LINE: &[u8] = b"usage: uc COMMAND [--option VALUE].. [WORD]..\n";
 ///
 /// For `check` the status is 0 where the proof file has a proof of the problem, each line of it right and the last one a
 /// refutation of a goal, so that one of the problem's goals follows from its axioms; 1 where the proof reads and isn't such;
-/// 3 where the problem or the proof isn't there or is refused. 4 stands for words that have no reading, 5 for a failure of the
-/// library and 6 for one of the sink, each only where its count of faults rose in this call, and 7 for want of memory.
+/// 3 where the problem or the proof isn't there or is refused. For `show` it is 0 where the problem is there, and all its
+/// clauses are told, each on a line; else 3. 4 stands for words that have no reading, 5 for a failure of the library and 6 for
+/// one of the sink, each only where its count of faults rose in this call, and 7 for want of memory.
 pub fn run<R: Threads + Wait + Sync, L: Library, S: Sink, G: Gate + Sync>(
     _rt: &R,
     alloc: Global,
@@ -33,7 +38,8 @@ pub fn run<R: Threads + Wait + Sync, L: Library, S: Sink, G: Gate + Sync>(
     _gate: &G,
 ) -> u8
     ensures answers { IsRun (L.holds library.old) (L.faults library.old) (L.faults library.new) (map string_bytes words.now) (S.written sink.old) (S.written sink.new) (S.faults sink.old) (S.faults sink.new) result }
-    ensures certified { result ≡ 0 → (files : Files) → L.holds library.old ≡ Some files → IsCertified files (map string_bytes words.now) }
+    ensures certified { result ≡ 0 → (files : Files) → L.holds library.old ≡ Some files → (command : Command) → Reads (map string_bytes words.now) command → command.verb ≡ Check → IsCertified files command }
+    ensures complete { (files : Files) → L.holds library.old ≡ Some files → (Rose (L.faults library.old) (L.faults library.new) → ⊥) → (Rose (S.faults sink.old) (S.faults sink.new) → ⊥) → Completes files (map string_bytes words.now) (S.written sink.old) (S.written sink.new) result }
     ensures same { L.holds library.new ≡ L.holds library.old }
     ensures later { L.faults library.old ≤ L.faults library.new }
     ensures sink_later { S.faults sink.old ≤ S.faults sink.new }
@@ -51,7 +57,7 @@ fn answer_of<L: Library>(
     library: &mut L,
 ) -> Result<Answer, AllocError>
     ensures answers { IfOk result (λ answer. MayAnswer (L.holds library.old) (L.faults library.old) (L.faults library.new) (map string_bytes words.now) answer.status (joined answer.lines)) }
-    ensures certified { IfOk result (λ answer. answer.status ≡ 0 → (files : Files) → L.holds library.old ≡ Some files → IsCertified files (map string_bytes words.now)) }
+    ensures certified { IfOk result (λ answer. answer.status ≡ 0 → (files : Files) → L.holds library.old ≡ Some files → (command : Command) → Reads (map string_bytes words.now) command → command.verb ≡ Check → IsCertified files command) }
     ensures same { L.holds library.new ≡ L.holds library.old }
     ensures later { L.faults library.old ≤ L.faults library.new }
 {
@@ -76,13 +82,17 @@ fn command_answer<L: Library>(
 ) -> Result<Answer, AllocError>
     requires { fits command.now.verb (length command.now.positionals) ≡ true }
     ensures answers { (words : List (List ℕ)) → Reads words command.now → IfOk result (λ answer. MayAnswer (L.holds library.old) (L.faults library.old) (L.faults library.new) words answer.status (joined answer.lines)) }
-    ensures certified { (words : List (List ℕ)) → Reads words command.now → IfOk result (λ answer. answer.status ≡ 0 → (files : Files) → L.holds library.old ≡ Some files → IsCertified files words) }
+    ensures certified { command.now.verb ≡ Check → IfOk result (λ answer. answer.status ≡ 0 → (files : Files) → L.holds library.old ≡ Some files → IsCertified files command.now) }
     ensures same { L.holds library.new ≡ L.holds library.old }
     ensures later { L.faults library.old ≤ L.faults library.new }
 {
     match command.verb {
         Verb::Check => match command.positionals.as_slice() {
             [name, proof] => check_answer(alloc, command.root.as_ref(), name, proof, library),
+            _ => unreachable!(),
+        },
+        Verb::Show => match command.positionals.as_slice() {
+            [name] => show_answer(alloc, command.root.as_ref(), name, library),
             _ => unreachable!(),
         },
         _ => usage_answer(alloc),

@@ -110,7 +110,7 @@ const WORDS: [(&[&str], u8, &str); 8] = [
     (&["check", "r1.p"], 4, USAGE),
     (&["check", "r1.p", "r1.s", "--trace"], 4, USAGE),
     (&["help"], 4, USAGE),
-    (&["show", "r1.p"], 4, USAGE),
+    (&["prove", "r1.p"], 4, USAGE),
 ];
 
 // The calls of the library and of the sink that fail, and what is answered.

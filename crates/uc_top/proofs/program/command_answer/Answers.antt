@@ -1,8 +1,8 @@
 use Rattle.std.proofs.Common.{◌≡◌, [], ◌∷◌, refl, sym, ◌∙◌, arith}
 use Rattle.std.proofs.lemmas.Result.{IfOk-weaker}
-use Rattle.uc_top.specs.Answers.{checks, isnt_built}
+use Rattle.uc_top.specs.Answers.{checks, shows, isnt_built}
 use Rattle.uc_top.specs.Runs.{MayAnswer, is_answer}
-use Rattle.uc_top.proofs.Answering.{one_line, two_names, not_built, none_distinct, usage_not_done}
+use Rattle.uc_top.proofs.Answering.{one_line, one_name, two_names, not_built, none_distinct, usage_not_done}
 use Rattle.uc_top.proofs.program.command_answer.Goals as goal
 
 pub returns-in-len2-clause-answers : goal.returns-in-len2-clause-answers
@@ -11,12 +11,9 @@ returns-in-len2-clause-answers g c words r =
     IfOk-weaker c.check_answer.result _ _ (λ answer a. is_answer a.1 (checks r c.in-Check.is names a.2)) (rw c.as_ref.ensures.value at c.check_answer.ensures.answers)
 
 pub returns-in-len2-clause-certified : goal.returns-in-len2-clause-certified
-returns-in-len2-clause-certified g c words r =
+returns-in-len2-clause-certified g c v =
     let names : c.args.command.now.positionals ≡ c.name-item.result ∷ c.proof-item.result ∷ [] = sym c.as_slice.ensures ∙ two_names c.as_slice.result.now c.name-item.result c.proof-item.result c.in-len2.len_at_least c.in-len2.len_below c.name-item.is c.proof-item.is in
     IfOk-weaker c.check_answer.result _ _ (λ answer a done files told. let p = a done files told in record {
-      command = c.args.command.now;
-      reads = r;
-      is_check = c.in-Check.is;
       name = c.name-item.result;
       proof_name = c.proof-item.result;
       names = names;
@@ -25,10 +22,15 @@ returns-in-len2-clause-certified g c words r =
       has_proof = p.2;
     }) (rw c.as_ref.ensures.value at c.check_answer.ensures.certified)
 
+pub returns-in-len1-clause-answers : goal.returns-in-len1-clause-answers
+returns-in-len1-clause-answers g c words r =
+    let names : c.args.command.now.positionals ≡ c.name-item-then-this-lt2.result ∷ [] = sym c.as_slice-in-Show.ensures ∙ one_name c.as_slice-in-Show.result.now c.name-item-then-this-lt2.result c.in-len1.len_at_least c.in-len1.len_below c.name-item-then-this-lt2.is in
+    IfOk-weaker c.show_answer.result _ _ (λ answer a. is_answer a.1 (shows r c.in-Show.is names a.2)) (rw c.as_ref-in-len1.ensures.value at c.show_answer.ensures.answers)
+
 pub returns-in_default : goal.returns-in_default
 returns-in_default g c = record {
-  answers = λ words r. one_line c.usage_answer.result (MayAnswer _ _ _ words) _ _ c.usage_answer.ensures (is_answer {table = []} none_distinct (isnt_built r (not_built _ c.in_default.not-Check)));
-  certified = λ words r. usage_not_done _ c.usage_answer.result _ c.usage_answer.ensures;
+  answers = λ words r. one_line c.usage_answer.result (MayAnswer _ _ _ words) _ _ c.usage_answer.ensures (is_answer {table = []} none_distinct (isnt_built r (not_built _ c.in_default.not-Check c.in_default.not-Show)));
+  certified = λ v. usage_not_done _ c.usage_answer.result _ c.usage_answer.ensures;
   same = refl;
   later = omega arith;
 }

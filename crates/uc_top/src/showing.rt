@@ -1,0 +1,89 @@
+//! The command `show`.
+
+ghost use Rattle.std.specs.Prelude.{◌≡◌, ◌≤◌, IfOk};
+ghost use Rattle.std.specs.Option.{option_copied};
+ghost use Rattle.uc_term.specs.Table.{Table, IsOf, IsDistinct};
+ghost use Rattle.uc_term.specs.Gathering.{AreOf};
+ghost use Rattle.uc_problem.specs.Holds.{terms_of};
+ghost use Rattle.uc_top.specs.Lines.{joined, shown_line, shown_lines};
+ghost use Rattle.uc_top.specs.Answers.{ShowAnswers};
+
+use crate::loading::{bytes_of, load_answer};
+use crate::output::{Answer, DONE};
+use std::alloc::{AllocError, Global};
+use uc_clause::{Clause, Sourced, print_clause};
+use uc_edge::Library;
+use uc_problem::load;
+use uc_term::{Seq, Symbols, Text};
+
+/// The answer to `show` for the problem file of this name.
+pub(crate) fn show_answer<L: Library>(
+    alloc: Global,
+    root: Option<&Text>,
+    name: &Text,
+    library: &mut L,
+) -> Result<Answer, AllocError>
+    ensures answers { IfOk result (λ answer. (table : Table) × IsDistinct table × ShowAnswers table (L.holds library.old) (L.faults library.old) (L.faults library.new) (option_copied root.entry) name.now answer.status (joined answer.lines)) }
+    ensures same { L.holds library.new ≡ L.holds library.old }
+    ensures later { L.faults library.old ≤ L.faults library.new }
+{
+    let mut symbols = Symbols::new(alloc);
+    let answer = load_and_show(
+        alloc,
+        bytes_of(root),
+        name.as_bytes(),
+        &mut symbols,
+        library,
+    );
+    // The entries of the table are all different, so what was read is the only reading.
+    let _ = symbols.len();
+    answer
+}
+
+// The answer, with a table for the symbols.
+fn load_and_show<L: Library>(
+    alloc: Global,
+    root: Option<&[u8]>,
+    name: &[u8],
+    symbols: &mut Symbols,
+    library: &mut L,
+) -> Result<Answer, AllocError>
+    ensures answers { IfOk result (λ answer. ShowAnswers symbols.new (L.holds library.old) (L.faults library.old) (L.faults library.new) (option_copied root.entry) name.now answer.status (joined answer.lines)) }
+    ensures same { L.holds library.new ≡ L.holds library.old }
+    ensures later { L.faults library.old ≤ L.faults library.new }
+{
+    match load(alloc, library, root, name, symbols) {
+        Ok(problem) => clauses_answer(alloc, problem.clauses.as_slice(), symbols),
+        Err(fault) => load_answer(alloc, &fault),
+    }
+}
+
+// The clauses, each on a line of its own.
+fn clauses_answer(
+    alloc: Global,
+    clauses: &[Sourced],
+    symbols: &Symbols,
+) -> Result<Answer, AllocError>
+    requires { AreOf symbols.now (terms_of clauses.now) }
+    ensures { IfOk result (λ answer. (answer.status ≡ 0) × (joined answer.lines ≡ shown_lines symbols.now clauses.now)) }
+{
+    let mut lines = Seq::new(alloc);
+    for sourced in clauses {
+        lines.push(shown_line(alloc, &sourced.clause, symbols)?)?;
+    }
+    Ok(Answer {
+        status: DONE,
+        lines,
+    })
+}
+
+// The line of a clause.
+fn shown_line(alloc: Global, clause: &Clause, symbols: &Symbols) -> Result<Text, AllocError>
+    requires left { IsOf symbols.now clause.now.left }
+    requires right { IsOf symbols.now clause.now.right }
+    ensures { IfOk result (λ text. text ≡ shown_line symbols.now clause.now) }
+{
+    let mut line = print_clause(alloc, clause, symbols)?;
+    line.extend(b"\n")?;
+    Ok(line)
+}
