@@ -27,3 +27,4 @@ pub mod TermsAgain
 pub mod SourceAgain
 pub mod LineAgain
 pub mod ProofAgain
+pub mod ReadingGrows

@@ -18,7 +18,7 @@ use Rattle.uc_tstp.specs.Parse as parse
 use Rattle.uc_tstp.specs.Framing.{Framed, start_words, end_words}
 use Rattle.uc_tstp.specs.Lines.{LinesAt}
 use Rattle.uc_tstp.specs.Meaning.{names_of, MeanLines}
-use Rattle.uc_tstp.specs.Reading.{inside, first_unknown, ReadsProof, reads}
+use Rattle.uc_tstp.specs.Reading.{inside, first_unknown, ReadsProof, in_frame, reads}
 use Rattle.uc_tstp.specs.Printing.{names_in, border_text, lines_text, proof_text, AreNumbers, IsStepOf, IsSourceOf, IsLineOf, AreLinesOf}
 use Rattle.uc_tstp.specs.Printable.{AreLineNames, IsPrintableStep, IsPrintableSource, ArePrintableLines, IsPrintableProof, renumbered_proof}
 use Rattle.uc_tstp.proofs.LinePieces.{IsBy, IsStepBy, IsSourceBy, AreLinesAgain, lines_pieces, lines_whole, lines_apart, lines_in_lines}
@@ -66,9 +66,9 @@ module _ (table : Table) (names : List (List ℕ)) (lower : AreLower names) wher
 
 -- what is read from the frame's bytes
 read_inside : (table : Table) (text bytes : List ℕ) (frame : Frame) (proof : Proof) → Framed text (Ok frame) → inside text frame ≡ bytes → (tokens : List Token) → Cut bytes 0 (Ok tokens) → (ls : List parse.Line) (end : ℕ) → LinesAt bytes tokens [] 0 (read ls end) → first_unknown bytes tokens (names_of bytes tokens ls) (parse.all_mentions ls) ≡ None → MeanLines bytes tokens table (names_of bytes tokens ls) ls proof.lines → ReadsProof table text (Ok proof)
-read_inside table text bytes frame proof framed e =
+read_inside table text bytes frame proof is_framed e =
     subst (λ b. (tokens : List Token) → Cut b 0 (Ok tokens) → (ls : List parse.Line) (end : ℕ) → LinesAt b tokens [] 0 (read ls end) → first_unknown b tokens (names_of b tokens ls) (parse.all_mentions ls) ≡ None → MeanLines b tokens table (names_of b tokens ls) ls proof.lines → ReadsProof table text (Ok proof)) e
-    (λ tokens cut ls end are known mean. reads framed cut are known mean)
+    (λ tokens cut ls end are known mean. in_frame is_framed (reads cut are known mean))
 
 pub proof_again : (table : Table) (name : List ℕ) (files : List (List ℕ)) (proof : Proof) → AreLinesOf table proof.lines → IsPrintableProof table name files proof.lines → ReadsProof table (proof_text table name files proof.lines) (Ok (renumbered_proof proof))
 proof_again table name files proof are printable =

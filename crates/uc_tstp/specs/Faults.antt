@@ -1,5 +1,7 @@
 -- Why a text isn't read as a proof, once it is known where reading stops.
-use Rattle.std.specs.Prelude.{ℕ, ◌+◌, ◌-◌, ◌≤◌, List, length}
+use Rattle.std.specs.Prelude.{ℕ, ◌≡◌, ◌+◌, ◌-◌, ◌≤◌, List, length, take}
+use Rattle.std.specs.List.{suffix_len}
+use Rattle.uc_clause.specs.Bytes.{in_line}
 use Rattle.uc_clause.specs.declared.token.Token.{Token}
 use Rattle.uc_clause.specs.declared.token.Place.{Place}
 use Rattle.uc_clause.specs.declared.fault.TokenFault.{TokenFault}
@@ -18,6 +20,10 @@ use Rattle.uc_tstp.specs.Reading.{fault_of, place_in}
 -- the frame stands in the text, which isn't too long
 abbrev pub StandsIn : List ℕ → Frame → Type 0
 StandsIn text frame = (frame.from ≤ frame.to) × (frame.to ≤ length text) × (length text ≤ max_proof)
+
+-- and begins at the first byte of a line
+abbrev pub BeginsLine : List ℕ → Frame → Type 0
+BeginsLine text frame = suffix_len in_line (take frame.from text) ≡ 0
 
 -- where a place stands in the whole text that is counted from behind these lines
 abbrev pub behind_lines : Place → Place → Place

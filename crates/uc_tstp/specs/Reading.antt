@@ -31,6 +31,10 @@ fault_of other place = Syntax place
 abbrev pub inside : List ℕ → Frame → List ℕ
 inside text frame = slice_range text frame.from frame.to
 
+-- the frame of a text of lines alone
+abbrev pub whole : List ℕ → Frame
+whole text = record { from = 0; to = length text }
+
 abbrev pub first_byte : ℕ → Option Token → ℕ
 first_byte end (Some token) = token.from
 first_byte end None = end
@@ -44,16 +48,36 @@ abbrev pub first_unknown : List ℕ → List Token → List (List ℕ) → List 
 first_unknown bytes tokens names [] = None
 first_unknown bytes tokens names (k ∷ ks) = if list_any (bytes_eq (bytes_at bytes tokens k)) names then first_unknown bytes tokens names ks else Some k
 
+-- what the part of the text in a frame reads as: lines, or why not
+module _ (table : Table) (text : List ℕ) (frame : Frame) where
+  pub data ReadsInside : Result Proof ProofFault → Type 0 where
+    no_token : {k : ℕ} → Cut (inside text frame) 0 (Err k) → ReadsInside (Err (Syntax (place_of text (frame.from + k))))
+    no_lines : {tokens : List Token} {why : Why} {k : ℕ} → Cut (inside text frame) 0 (Ok tokens) → LinesAt (inside text frame) tokens [] 0 (stop why k) → ReadsInside (Err (fault_of why (place_in text frame tokens k)))
+    no_name : {tokens : List Token} {lines : List parse.Line} {end k : ℕ} → Cut (inside text frame) 0 (Ok tokens) → LinesAt (inside text frame) tokens [] 0 (read lines end) → first_unknown (inside text frame) tokens (names_of (inside text frame) tokens lines) (parse.all_mentions lines) ≡ Some k → ReadsInside (Err (UnknownName (place_in text frame tokens k)))
+    reads : {tokens : List Token} {lines : List parse.Line} {end : ℕ} {proof : Proof} → Cut (inside text frame) 0 (Ok tokens) → LinesAt (inside text frame) tokens [] 0 (read lines end) → first_unknown (inside text frame) tokens (names_of (inside text frame) tokens lines) (parse.all_mentions lines) ≡ None → MeanLines (inside text frame) tokens table (names_of (inside text frame) tokens lines) lines proof.lines → ReadsInside (Ok proof)
+
 module _ (table : Table) (text : List ℕ) where
+  -- a text is read in its frame
   pub data ReadsProof : Result Proof ProofFault → Type 0 where
     no_frame : {why : ProofFault} → Framed text (Err why) → ReadsProof (Err why)
-    no_token : {frame : Frame} {k : ℕ} → Framed text (Ok frame) → Cut (inside text frame) 0 (Err k) → ReadsProof (Err (Syntax (place_of text (frame.from + k))))
-    no_lines : {frame : Frame} {tokens : List Token} {why : Why} {k : ℕ} → Framed text (Ok frame) → Cut (inside text frame) 0 (Ok tokens) → LinesAt (inside text frame) tokens [] 0 (stop why k) → ReadsProof (Err (fault_of why (place_in text frame tokens k)))
-    no_name : {frame : Frame} {tokens : List Token} {lines : List parse.Line} {end k : ℕ} → Framed text (Ok frame) → Cut (inside text frame) 0 (Ok tokens) → LinesAt (inside text frame) tokens [] 0 (read lines end) → first_unknown (inside text frame) tokens (names_of (inside text frame) tokens lines) (parse.all_mentions lines) ≡ Some k → ReadsProof (Err (UnknownName (place_in text frame tokens k)))
-    reads : {frame : Frame} {tokens : List Token} {lines : List parse.Line} {end : ℕ} {proof : Proof} → Framed text (Ok frame) → Cut (inside text frame) 0 (Ok tokens) → LinesAt (inside text frame) tokens [] 0 (read lines end) → first_unknown (inside text frame) tokens (names_of (inside text frame) tokens lines) (parse.all_mentions lines) ≡ None → MeanLines (inside text frame) tokens table (names_of (inside text frame) tokens lines) lines proof.lines → ReadsProof (Ok proof)
+    in_frame : {frame : Frame} {answer : Result Proof ProofFault} → Framed text (Ok frame) → ReadsInside table text frame answer → ReadsProof answer
+
+  -- a text of lines alone is read whole
+  abbrev pub ReadsLines : Result Proof ProofFault → Type 0
+  ReadsLines answer = ReadsInside table text (whole text) answer
 
 -- the same of a text that isn't too long; a longer one is refused at its first byte, and want of memory is the one free answer
+module _ (Reads : Result Proof ProofFault → Type 0) (text : List ℕ) where
+  abbrev pub IsReadingBy : Result Proof ProofFault → Type 0
+  IsReadingBy (Err NoMemory) = Unit {0}
+  IsReadingBy (Err (Limit what.Bytes place)) = (max_proof < length text) × (place ≡ first_place)
+  IsReadingBy answer = (length text ≤ max_proof) × Reads answer
+
+abbrev pub IsReadingInside : Table → List ℕ → Frame → Result Proof ProofFault → Type 0
+IsReadingInside table text frame answer = IsReadingBy (ReadsInside table text frame) text answer
+
 abbrev pub IsReading : Table → List ℕ → Result Proof ProofFault → Type 0
-IsReading table text (Err NoMemory) = Unit {0}
-IsReading table text (Err (Limit what.Bytes place)) = (max_proof < length text) × (place ≡ first_place)
-IsReading table text answer = (length text ≤ max_proof) × ReadsProof table text answer
+IsReading table text answer = IsReadingBy (ReadsProof table text) text answer
+
+abbrev pub IsReadingOfLines : Table → List ℕ → Result Proof ProofFault → Type 0
+IsReadingOfLines table text answer = IsReadingInside table text (whole text) answer

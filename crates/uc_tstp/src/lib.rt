@@ -27,6 +27,6 @@ mod words;
 
 pub use fault::ProofFault;
 pub use framing::{Frame, MAX_PROOF, frame_of};
-pub use laws::one_reading;
+pub use laws::{one_reading, reading_stays};
 pub use printing::print_proof;
-pub use reading::read_proof;
+pub use reading::{read_lines, read_proof};

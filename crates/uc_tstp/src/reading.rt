@@ -1,22 +1,21 @@
 //! Reading a proof.
 
-ghost use Rattle.std.specs.Prelude.{◌≡◌, ◌<◌, ◌^◌, Ok, length, IfOk};
+ghost use Rattle.std.specs.Prelude.{◌≡◌, ◌<◌, ◌^◌, length, IfOk};
 ghost use Rattle.uc_term.specs.Table.{Table, Grows};
 ghost use Rattle.uc_clause.specs.Tokens.{AreTokens};
-ghost use Rattle.uc_tstp.specs.Framing.{Framed};
 ghost use Rattle.uc_tstp.specs.Drafts.{AreLines};
-ghost use Rattle.uc_tstp.specs.Faults.{StandsIn};
-ghost use Rattle.uc_tstp.specs.Reading.{inside, IsReading};
+ghost use Rattle.uc_tstp.specs.Faults.{StandsIn, BeginsLine};
+ghost use Rattle.uc_tstp.specs.Reading.{inside, IsReadingInside, IsReadingOfLines, IsReading};
 
 use crate::drafts::LineDraft;
 use crate::lines::lines_in;
 use crate::names::Names;
 use crate::refusal::{line_fault, name_fault, token_fault};
 use crate::resolving::resolved;
-use crate::{Frame, ProofFault, frame_of};
+use crate::{Frame, MAX_PROOF, ProofFault, frame_of};
 use std::alloc::Global;
 use uc_check::Proof;
-use uc_clause::{Token, tokens};
+use uc_clause::{Place, Token, What, tokens};
 use uc_term::{Seq, Symbols};
 
 /// Reads the proof that stands in a text between a start line and the first end line behind it.
@@ -35,13 +34,49 @@ pub fn read_proof(alloc: Global, bytes: &[u8], symbols: &mut Symbols) -> Result<
     ensures grows { Grows symbols.old symbols.new }
 {
     let frame = frame_of(bytes)?;
+    read_inside(alloc, bytes, frame, symbols)
+}
+
+/// Reads the lines of a proof that are a whole text, with no start or end line.
+///
+/// The refusals are those of `read_proof` between the two lines: `Limit` at the first byte where the text has more than
+/// 268,435,456; `Syntax` at the first byte that begins no token; then those of the lines, where the end of the text counts as
+/// a last token behind its last byte.
+pub fn read_lines(alloc: Global, bytes: &[u8], symbols: &mut Symbols) -> Result<Proof, ProofFault>
+    ensures reading { IsReadingOfLines symbols.new bytes.now result }
+    ensures few { IfOk result (λ proof. length proof.lines < 2 ^ 31) }
+    ensures grows { Grows symbols.old symbols.new }
+{
+    if bytes.len() > MAX_PROOF {
+        return Err(ProofFault::Limit(What::Bytes, Place { line: 1, column: 1 }));
+    }
+    let frame = Frame {
+        from: 0,
+        to: bytes.len(),
+    };
+    read_inside(alloc, bytes, frame, symbols)
+}
+
+// Reads the lines in the frame.
+fn read_inside(
+    alloc: Global,
+    bytes: &[u8],
+    frame: Frame,
+    symbols: &mut Symbols,
+) -> Result<Proof, ProofFault>
+    requires frame { StandsIn bytes.now frame }
+    requires begins { BeginsLine bytes.now frame }
+    ensures reading { IsReadingInside symbols.new bytes.now frame result }
+    ensures few { IfOk result (λ proof. length proof.lines < 2 ^ 31) }
+    ensures grows { Grows symbols.old symbols.new }
+{
     match tokens(alloc, &bytes[frame.from..frame.to]) {
         Ok(list) => proof_in(alloc, bytes, frame, list.as_slice(), symbols),
         Err(fault) => Err(token_fault(bytes, frame, fault)),
     }
 }
 
-// Reads the proof that the tokens of the frame are.
+// Reads the lines that the tokens of the frame are.
 fn proof_in(
     alloc: Global,
     bytes: &[u8],
@@ -50,9 +85,8 @@ fn proof_in(
     symbols: &mut Symbols,
 ) -> Result<Proof, ProofFault>
     requires frame { StandsIn bytes.now frame }
-    requires framed { Framed bytes.now (Ok frame) }
     requires tokens { AreTokens (inside bytes.now frame) tokens.now }
-    ensures reading { IsReading symbols.new bytes.now result }
+    ensures reading { IsReadingInside symbols.new bytes.now frame result }
     ensures few { IfOk result (λ proof. length proof.lines < 2 ^ 31) }
     ensures grows { Grows symbols.old symbols.new }
 {
@@ -72,9 +106,8 @@ fn proof_of(
     drafts: Seq<LineDraft>,
 ) -> Result<Proof, ProofFault>
     requires frame { StandsIn bytes.now frame }
-    requires framed { Framed bytes.now (Ok frame) }
     requires tokens { AreTokens (inside bytes.now frame) tokens.now }
-    ensures reading { (table : Table) → AreLines (inside bytes.now frame) tokens.now table names.now drafts → IsReading table bytes.now result }
+    ensures reading { (table : Table) → AreLines (inside bytes.now frame) tokens.now table names.now drafts → IsReadingInside table bytes.now frame result }
     ensures few { IfOk result (λ proof. length proof.lines ≡ length drafts) }
 {
     match resolved(alloc, &bytes[frame.from..frame.to], tokens, names, drafts) {

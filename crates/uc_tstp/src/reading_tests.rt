@@ -1,4 +1,4 @@
-use crate::{ProofFault, read_proof};
+use crate::{ProofFault, read_lines, read_proof};
 use std::alloc::{AllocError, Global};
 use std::test::Fail;
 use uc_check::{Line, LineSource};
@@ -197,5 +197,39 @@ fn cut_off(rt: HostRuntime) -> Result<(), Fail> {
     let mut symbols = Symbols::new(alloc);
     let result = read_proof(alloc, text.as_bytes(), &mut symbols);
     assert_eq!(rt; result.err(), Some(ProofFault::Truncated));
+    Ok(())
+}
+
+// Why lines without a frame aren't read, if they aren't.
+fn fault_alone(alloc: Global, lines: &[u8]) -> Result<Option<ProofFault>, AllocError> {
+    let mut symbols = Symbols::new(alloc);
+    match read_lines(alloc, lines, &mut symbols) {
+        Ok(_) => Ok(None),
+        Err(ProofFault::NoMemory) => Err(AllocError),
+        Err(fault) => Ok(Some(fault)),
+    }
+}
+
+// Lines without a frame; the end of the text counts as a last token.
+#[test]
+fn lines_alone(rt: HostRuntime) -> Result<(), Fail> {
+    let alloc = rt.alloc();
+    assert_eq!(rt; fault_alone(alloc, b"")?, None);
+    assert_eq!(rt; fault_alone(alloc, LINES)?, None);
+    assert_eq!(rt;
+        fault_alone(alloc, b"cnf(p, axiom, a = b, file(f, x))\n")?,
+        Some(ProofFault::Syntax(Place { line: 2, column: 1 }))
+    );
+    assert_eq!(rt;
+        fault_alone(alloc, b"\ncnf(\"\n")?,
+        Some(ProofFault::Syntax(Place { line: 2, column: 5 }))
+    );
+    assert_eq!(rt;
+        fault_alone(alloc, b"cnf(p, plain, $false, inference(refute, [], [q])).")?,
+        Some(ProofFault::UnknownName(Place {
+            line: 1,
+            column: 46
+        }))
+    );
     Ok(())
 }
