@@ -17,3 +17,5 @@ pub mod SignatureOnce
 pub mod HoldsOnce
 pub mod MarksOnce
 pub mod NameKeys
+pub mod Encodings
+pub mod EncodedOnce

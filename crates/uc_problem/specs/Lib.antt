@@ -7,3 +7,5 @@ pub mod Sound
 pub mod Assembly
 pub mod Marks
 pub mod NameSets
+pub mod Encodes
+pub mod Kinds

@@ -1,18 +1,24 @@
 //! Laws over the definitions, the contract of a function that does nothing.
 
-ghost use Rattle.std.specs.Prelude.{◌≡◌, ℕ, List, Option, Ok, Err};
+ghost use Rattle.std.specs.Prelude.{◌≡◌, ◌↔◌, ℕ, List, Option, Some, Ok, Err};
 ghost use Rattle.uc_term.specs.Table.{Table, IsDistinct};
+ghost use Rattle.uc_term.specs.Tree.{Tree};
+ghost use Rattle.uc_term.specs.Conversion.{Conv, SomeFollows};
+ghost use Rattle.uc_term.specs.Encoding.{Lacks, yes_term, no_term};
 ghost use Rattle.uc_term.specs.declared.fresh.Fresh.{Fresh};
 ghost use Rattle.uc_edge.specs.Files.{Files};
 ghost use Rattle.uc_problem.specs.declared.fault.EncodeFault.TheVariants.{GoalTooLarge};
 ghost use Rattle.uc_problem.specs.declared.fault.LoadFault.{LoadFault};
 ghost use Rattle.uc_problem.specs.declared.problem.Problem.{Problem};
-ghost use Rattle.uc_problem.specs.Holds.{Holds, Refuses};
-ghost use Rattle.uc_problem.specs.Marks.{Marks};
+ghost use Rattle.uc_check.specs.Clauses.{axioms_of};
+ghost use Rattle.uc_problem.specs.declared.problem.Encoded.{Encoded};
+ghost use Rattle.uc_problem.specs.Holds.{Holds, Refuses, Agrees};
+ghost use Rattle.uc_problem.specs.Marks.{Marks, is_open_goal};
+ghost use Rattle.uc_problem.specs.Encodes.{Encodes, equations_where};
 
 /// In a table whose entries are all different, the files of a library hold at most one problem under a name, or refuse it for
 /// one reason, and never both. So where `load` names what the library holds it says exactly where each answer comes. A problem
-/// is encoded by one choice of symbols, or one goal is the first that is too large, and never both.
+/// is encoded by one choice of symbols and in one way, or one goal is the first that is too large, and never both.
 pub fn one_problem()
     ensures problem { (table : Table) (files : Files) (root : Option (List ℕ)) (name : List ℕ) (a b : Problem) → IsDistinct table → Holds table files root name a → Holds table files root name b → a ≡ b }
     ensures refusal { (table : Table) (files : Files) (root : Option (List ℕ)) (name : List ℕ) (a b : LoadFault) → IsDistinct table → Refuses table files root name a → Refuses table files root name b → a ≡ b }
@@ -20,4 +26,12 @@ pub fn one_problem()
     ensures marks { (table : Table) (problem : Problem) (a b : Option Fresh) → IsDistinct table → Marks table problem (Ok a) → Marks table problem (Ok b) → a ≡ b }
     ensures too_large { (table : Table) (problem : Problem) (a b : ℕ) → Marks table problem (Err (GoalTooLarge a)) → Marks table problem (Err (GoalTooLarge b)) → a ≡ b }
     ensures marked_or_not { (table : Table) (problem : Problem) (marks : Option Fresh) (number : ℕ) → Marks table problem (Ok marks) → Marks table problem (Err (GoalTooLarge number)) → ⊥ }
+    ensures encoding { (table : Table) (problem : Problem) (a b : Encoded) → IsDistinct table → Encodes table problem (Ok a) → Encodes table problem (Ok b) → a ≡ b }
+{}
+
+/// The encoded axioms make `true` and `false` equal exactly if one of the problem's goals with a variable follows from its axioms,
+/// and make no terms equal that have none of the encoding's symbols and weren't equal by the problem's axioms.
+pub fn encoding_is_sound()
+    ensures decides { (table : Table) (problem : Problem) (encoded : Encoded) (marks : Fresh) → Agrees table problem → Encodes table problem (Ok encoded) → encoded.fresh ≡ Some marks → Conv encoded.axioms (yes_term marks) (no_term marks) ↔ SomeFollows (axioms_of problem.clauses) (equations_where is_open_goal problem.clauses) }
+    ensures adds_nothing { (table : Table) (problem : Problem) (encoded : Encoded) (marks : Fresh) → Agrees table problem → Encodes table problem (Ok encoded) → encoded.fresh ≡ Some marks → (u v : Tree) → Lacks marks u → Lacks marks v → Conv encoded.axioms u v ↔ Conv (axioms_of problem.clauses) u v }
 {}

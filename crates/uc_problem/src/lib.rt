@@ -4,6 +4,7 @@
 mod assembly;
 mod candidates;
 mod counts;
+mod encoding;
 mod fault;
 mod fetch;
 mod files;
@@ -18,9 +19,10 @@ mod selection;
 mod tests;
 
 pub use counts::Counts;
+pub use encoding::encode;
 pub use fault::{EncodeFault, LoadFault};
 pub use fetch::MAX_FILE;
-pub use laws::one_problem;
+pub use laws::{encoding_is_sound, one_problem};
 pub use loading::load;
 pub use marking::marks;
 pub use problem::{Encoded, Problem, Source};

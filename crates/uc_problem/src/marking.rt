@@ -76,7 +76,7 @@ fn has_open_goal(clauses: &[Sourced]) -> bool
 }
 
 // Whether the clause is a goal with a variable.
-fn is_open_goal(sourced: &Sourced) -> bool
+pub(crate) fn is_open_goal(sourced: &Sourced) -> bool
     ensures { result ≡ is_open_goal sourced.now }
 {
     let clause = &sourced.clause;

@@ -1,9 +1,9 @@
-use crate::{EncodeFault, LoadFault, Problem, load, marks};
+use crate::{EncodeFault, Encoded, LoadFault, Problem, Source, encode, load, marks};
 use std::alloc::{AllocError, Global};
 use std::test::Fail;
-use uc_clause::{ClauseFault, Place};
+use uc_clause::{ClauseFault, Place, print_term};
 use uc_edge::{Fetched, Library, MemoryLibrary};
-use uc_term::{Fresh, Symbols, Text};
+use uc_term::{Equation, Fresh, Sym, Symbols, Text};
 
 const FILES: [(&str, &str); 9] = [
     ("p/inc.ax", "cnf(k1, axiom, a = b).\ncnf(k2, axiom, b = c)."),
@@ -210,4 +210,112 @@ fn symbols_of_the_encoding(rt: HostRuntime) -> Result<(), Fail> {
         );
     }
     Ok(())
+}
+
+// equations as text
+fn told_equations(
+    alloc: Global,
+    equations: &[Equation],
+    symbols: &Symbols,
+) -> Result<Text, AllocError> {
+    let mut told = Text::new(alloc);
+    for equation in equations {
+        told.extend(print_term(alloc, &equation.left, symbols)?.as_bytes())?;
+        told.extend(b" = ")?;
+        told.extend(print_term(alloc, &equation.right, symbols)?.as_bytes())?;
+        told.extend(b". ")?;
+    }
+    Ok(told)
+}
+
+fn told_names(alloc: Global, names: &[Sym], symbols: &Symbols) -> Result<Text, AllocError> {
+    let mut told = Text::new(alloc);
+    for sym in names {
+        told.extend(symbols.name(*sym))?;
+        told.extend(b" ")?;
+    }
+    Ok(told)
+}
+
+// the encoding of the problem of this text
+fn encoded(
+    alloc: Global,
+    bytes: &str,
+    symbols: &mut Symbols,
+) -> Result<Option<Encoded>, AllocError> {
+    let files = vec![in alloc; (text(alloc, "e.p")?, text(alloc, bytes)?)]?;
+    let mut library = MemoryLibrary::new(alloc, files, Vec::new(alloc))?;
+    match load(alloc, &mut library, None, b"e.p", symbols) {
+        Ok(problem) => Ok(encode(alloc, &problem, symbols).ok()),
+        Err(_) => Ok(None),
+    }
+}
+
+// the axioms, goals and symbols of the encoding of the problem of this text
+fn told_encoding(alloc: Global, bytes: &str) -> Result<(Text, Text, Text), AllocError> {
+    let mut symbols = Symbols::new(alloc);
+    let Some(encoded) = encoded(alloc, bytes, &mut symbols)? else {
+        return Ok((Text::new(alloc), Text::new(alloc), Text::new(alloc)));
+    };
+    Ok((
+        told_equations(alloc, encoded.axioms.as_slice(), &symbols)?,
+        told_equations(alloc, encoded.goals.as_slice(), &symbols)?,
+        told_names(alloc, encoded.signature.symbols.as_slice(), &symbols)?,
+    ))
+}
+
+// one row a problem: its text, and the axioms, goals and symbols of its encoding
+#[test]
+fn encoded_problems(rt: HostRuntime) -> Result<(), Fail> {
+    let alloc = rt.alloc();
+    for (bytes, axioms, goals, names) in [
+        (
+            "cnf(ax, axiom, f(b) = a). cnf(g, negated_conjecture, f(X) != a).",
+            "f(b) = a. eq(X1,X1) = true. eq(f(X1),a) = false. ",
+            "true = false. ",
+            "f b a true false eq ",
+        ),
+        (
+            "cnf(g, negated_conjecture, a != b). cnf(ax, axiom, f(X) = a).",
+            "f(X1) = a. ",
+            "a = b. ",
+            "a b f ",
+        ),
+        (
+            "cnf(g, negated_conjecture, X != a). cnf(ax, axiom, f(X) = a). cnf(g, negated_conjecture, a != b). cnf(g, negated_conjecture, f(Y) != Y).",
+            "f(X1) = a. eq(X1,X1) = true. eq(X1,a) = false. eq(f(X1),X1) = false. ",
+            "a = b. true = false. ",
+            "a f b true false eq ",
+        ),
+    ] {
+        let told = told_encoding(alloc, bytes)?;
+        assert!(rt; told.0.as_bytes() == axioms.as_bytes(), "axioms of {bytes}");
+        assert!(rt; told.1.as_bytes() == goals.as_bytes(), "goals of {bytes}");
+        assert!(rt; told.2.as_bytes() == names.as_bytes(), "symbols of {bytes}");
+    }
+    Ok(())
+}
+
+// where the axioms and the goals of an encoded problem come from
+#[test]
+fn sources_of_the_encoding(rt: HostRuntime) -> Result<(), Fail> {
+    let alloc = rt.alloc();
+    let mut symbols = Symbols::new(alloc);
+    let bytes =
+        "cnf(g, negated_conjecture, X != a). cnf(ax, axiom, f(X) = a). cnf(g, negated_conjecture, a != b).";
+    let told = encoded(alloc, bytes, &mut symbols)?;
+    assert!(rt;
+        are_sources(
+            told.as_ref(),
+            &[Source::Clause(1), Source::Reflexive, Source::Goal(0)],
+            &[Some(2), None],
+        )
+    );
+    Ok(())
+}
+
+fn are_sources(encoded: Option<&Encoded>, axioms: &[Source], goals: &[Option<u32>]) -> bool {
+    encoded.is_some_and(|encoded| {
+        encoded.sources.as_slice() == axioms && encoded.goal_clauses.as_slice() == goals
+    })
 }

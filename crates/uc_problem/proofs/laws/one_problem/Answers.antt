@@ -1,5 +1,6 @@
 use Rattle.uc_problem.proofs.HoldsOnce.{problem_is_once, refusal_is_once, held_or_refused}
 use Rattle.uc_problem.proofs.MarksOnce.{marks_once, large_once, marked_or_large}
+use Rattle.uc_problem.proofs.EncodedOnce.{encoding_once}
 use Rattle.uc_problem.proofs.laws.one_problem.Goals as goal
 
 pub returns-clause-problem : goal.returns-clause-problem
@@ -19,3 +20,6 @@ returns-clause-too_large c table problem a b x y = large_once table problem a b 
 
 pub returns-clause-marked_or_not : goal.returns-clause-marked_or_not
 returns-clause-marked_or_not c table problem marks number x y = marked_or_large table problem marks number x y
+
+pub returns-clause-encoding : goal.returns-clause-encoding
+returns-clause-encoding c table problem a b distinct x y = encoding_once table problem distinct a b x y
