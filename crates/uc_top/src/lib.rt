@@ -9,6 +9,8 @@ mod output;
 mod program;
 mod showing;
 #[cfg(test)]
+mod proof_tests;
+#[cfg(test)]
 mod tests;
 
 pub use laws::one_answer;
