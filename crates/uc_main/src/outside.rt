@@ -21,13 +21,18 @@ pub struct FileLibrary<'a, R: Files> {
 }
 
 impl<'a, R: Files> FileLibrary<'a, R> {
-    pub fn new(rt: &'a R) -> Self {
+    /// The files of this system, with no failure counted yet.
+    pub fn new(rt: &'a R) -> Self
+        ensures { result.faults ≡ 0 }
+    {
         FileLibrary { rt, faults: 0 }
     }
 
     /// How many failures there were, up to the greatest `u64`.
     #[cfg(test)]
-    pub fn faults(&self) -> u64 {
+    pub fn faults(&self) -> u64
+        ensures { result ≡ self.now.faults }
+    {
         self.faults
     }
 
@@ -87,13 +92,18 @@ pub struct OutSink<'a, P: Print> {
 }
 
 impl<'a, P: Print> OutSink<'a, P> {
-    pub fn new(rt: &'a P) -> Self {
+    /// This standard output, with no failure counted yet.
+    pub fn new(rt: &'a P) -> Self
+        ensures { result.faults ≡ 0 }
+    {
         OutSink { rt, faults: 0 }
     }
 
     /// How many failures there were, up to the greatest `u64`.
     #[cfg(test)]
-    pub fn faults(&self) -> u64 {
+    pub fn faults(&self) -> u64
+        ensures { result ≡ self.now.faults }
+    {
         self.faults
     }
 }

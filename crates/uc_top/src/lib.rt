@@ -7,9 +7,9 @@ mod lines;
 mod loading;
 mod output;
 mod program;
-mod showing;
 #[cfg(test)]
 mod proof_tests;
+mod showing;
 #[cfg(test)]
 mod tests;
 

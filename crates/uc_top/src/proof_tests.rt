@@ -599,7 +599,7 @@ const START: usize = 42;
 fn each_cut_is_told(rt: HostRuntime) -> Result<(), Fail> {
     let alloc = rt.alloc();
     for length in 0..GROUND.proof.len() {
-        let proof = text(alloc, &GROUND.proof[..length])?;
+        let proof = Text::from_bytes(alloc, &GROUND.proof.as_bytes()[..length])?;
         let files = library(alloc, &GROUND, proof)?;
         let column = length + 1;
         let answer = if length < START {
