@@ -2,13 +2,19 @@
 #![tactic(auto)]
 
 mod checking;
+#[cfg(test)]
+mod damage_tests;
 mod laws;
+#[cfg(test)]
+mod limit_tests;
 mod lines;
 mod loading;
 mod output;
 mod program;
 #[cfg(test)]
 mod proof_tests;
+#[cfg(test)]
+mod show_tests;
 mod showing;
 #[cfg(test)]
 mod tests;

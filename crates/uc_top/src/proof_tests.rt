@@ -1,4 +1,5 @@
 use crate::run;
+use crate::tests::{strings, text};
 use std::alloc::{AllocError, Global};
 use std::sync::Wait;
 use std::test::Fail;
@@ -528,18 +529,6 @@ const IN_ENCODED: [Damage; 24] = [
     ),
 ];
 
-fn text(alloc: Global, text: &str) -> Result<Text, AllocError> {
-    Text::from_bytes(alloc, text.as_bytes())
-}
-
-fn words(alloc: Global, case: &Case) -> Result<Vec<String>, AllocError> {
-    let mut words = Vec::new(alloc);
-    for word in ["check", case.problem_name, case.proof_name] {
-        words.push(String::from_str(alloc, word)?)?;
-    }
-    Ok(words)
-}
-
 // The proof with its first part of this text replaced by another.
 fn damaged(alloc: Global, proof: &str, part: &str, other: &str) -> Result<Text, AllocError> {
     let Some((front, back)) = proof.split_once(part) else {
@@ -569,7 +558,7 @@ fn is_answered<R: Threads + Wait + Sync>(
     answer: &str,
 ) -> Result<bool, AllocError> {
     let mut sink = MemorySink::with_room(alloc, 1000, Vec::new(alloc))?;
-    let words = words(alloc, case)?;
+    let words = strings(alloc, &["check", case.problem_name, case.proof_name])?;
     let given = run(rt, alloc, &words, &mut library, &mut sink, &NoGate);
     Ok(given == status && sink.bytes() == answer.as_bytes())
 }

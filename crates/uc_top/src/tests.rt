@@ -121,7 +121,7 @@ const FAULTS: [(&[u32], &[u32], u8, &str); 4] = [
     (&[1], &[1], 6, ""),
 ];
 
-fn text(alloc: Global, text: &str) -> Result<Text, AllocError> {
+pub(crate) fn text(alloc: Global, text: &str) -> Result<Text, AllocError> {
     Text::from_bytes(alloc, text.as_bytes())
 }
 
@@ -136,7 +136,7 @@ fn proof(alloc: Global, part: &str, other: &str) -> Result<Text, AllocError> {
     Ok(proof)
 }
 
-fn strings(alloc: Global, words: &[&str]) -> Result<Vec<String>, AllocError> {
+pub(crate) fn strings(alloc: Global, words: &[&str]) -> Result<Vec<String>, AllocError> {
     let mut all = Vec::new(alloc);
     for word in words {
         all.push(String::from_str(alloc, word)?)?;
