@@ -102,7 +102,7 @@ const PROBLEMS: [(&str, &str); 8] = [
 const USAGE: &str = "usage: uc COMMAND [--option VALUE].. [WORD]..\n";
 
 // Words, and what is answered.
-const WORDS: [(&[&str], u8, &str); 8] = [
+const WORDS: [(&[&str], u8, &str); 13] = [
     (&["check", "no.p", "r1.s"], 3, "% no.p Absent\n"),
     (&["check", "r1.p", "no.s"], 3, "% no.s Absent\n"),
     (&["check", "no.p", "no.s"], 3, "% no.p Absent\n"),
@@ -111,6 +111,15 @@ const WORDS: [(&[&str], u8, &str); 8] = [
     (&["check", "r1.p", "r1.s", "--trace"], 4, USAGE),
     (&["help"], 4, USAGE),
     (&["prove", "r1.p"], 4, USAGE),
+    (&["prove"], 4, USAGE),
+    (
+        &["prove", "--budget", "5", "--budget", "6", "r5.p"],
+        4,
+        USAGE,
+    ),
+    (&["prove", "--order", "rpo", "r5.p"], 4, USAGE),
+    (&["show", "--root=", "r1.p"], 4, USAGE),
+    (&["show", "--", "r1.p"], 0, PROBLEM),
 ];
 
 // The calls of the library and of the sink that fail, and what is answered.
