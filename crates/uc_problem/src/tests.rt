@@ -1,9 +1,9 @@
 use crate::{EncodeFault, Encoded, LoadFault, Problem, Source, encode, load, marks};
 use std::alloc::{AllocError, Global};
 use std::test::Fail;
-use uc_clause::{ClauseFault, Place, print_term};
+use uc_clause::{ClauseFault, Place};
 use uc_edge::{Fetched, Library, MemoryLibrary};
-use uc_term::{Equation, Fresh, Sym, Symbols, Text};
+use uc_term::{Equation, Fresh, Node, Sym, Symbols, Term, Text};
 
 const FILES: [(&str, &str); 9] = [
     ("p/inc.ax", "cnf(k1, axiom, a = b).\ncnf(k2, axiom, b = c)."),
@@ -212,6 +212,31 @@ fn symbols_of_the_encoding(rt: HostRuntime) -> Result<(), Fail> {
     Ok(())
 }
 
+fn name(symbols: &Symbols, sym: Sym) -> &[u8] {
+    if (sym.0 as usize) < symbols.len() {
+        symbols.name(sym)
+    } else {
+        b"?"
+    }
+}
+
+// the nodes of a term as text, in prefix order
+fn tell_term(
+    alloc: Global,
+    told: &mut Text,
+    term: &Term,
+    symbols: &Symbols,
+) -> Result<(), AllocError> {
+    for node in term.as_nodes() {
+        match *node {
+            Node::Var(number) => told.extend(format!(in alloc; "X{number}")?.as_bytes())?,
+            Node::App(sym, _) => told.extend(name(symbols, sym))?,
+        }
+        told.extend(b" ")?;
+    }
+    Ok(())
+}
+
 // equations as text
 fn told_equations(
     alloc: Global,
@@ -220,9 +245,9 @@ fn told_equations(
 ) -> Result<Text, AllocError> {
     let mut told = Text::new(alloc);
     for equation in equations {
-        told.extend(print_term(alloc, &equation.left, symbols)?.as_bytes())?;
-        told.extend(b" = ")?;
-        told.extend(print_term(alloc, &equation.right, symbols)?.as_bytes())?;
+        tell_term(alloc, &mut told, &equation.left, symbols)?;
+        told.extend(b"= ")?;
+        tell_term(alloc, &mut told, &equation.right, symbols)?;
         told.extend(b". ")?;
     }
     Ok(told)
@@ -231,7 +256,7 @@ fn told_equations(
 fn told_names(alloc: Global, names: &[Sym], symbols: &Symbols) -> Result<Text, AllocError> {
     let mut told = Text::new(alloc);
     for sym in names {
-        told.extend(symbols.name(*sym))?;
+        told.extend(name(symbols, *sym))?;
         told.extend(b" ")?;
     }
     Ok(told)
@@ -271,20 +296,20 @@ fn encoded_problems(rt: HostRuntime) -> Result<(), Fail> {
     for (bytes, axioms, goals, names) in [
         (
             "cnf(ax, axiom, f(b) = a). cnf(g, negated_conjecture, f(X) != a).",
-            "f(b) = a. eq(X1,X1) = true. eq(f(X1),a) = false. ",
-            "true = false. ",
+            "f b = a . eq X0 X0 = true . eq f X0 a = false . ",
+            "true = false . ",
             "f b a true false eq ",
         ),
         (
             "cnf(g, negated_conjecture, a != b). cnf(ax, axiom, f(X) = a).",
-            "f(X1) = a. ",
-            "a = b. ",
+            "f X0 = a . ",
+            "a = b . ",
             "a b f ",
         ),
         (
             "cnf(g, negated_conjecture, X != a). cnf(ax, axiom, f(X) = a). cnf(g, negated_conjecture, a != b). cnf(g, negated_conjecture, f(Y) != Y).",
-            "f(X1) = a. eq(X1,X1) = true. eq(X1,a) = false. eq(f(X1),X1) = false. ",
-            "a = b. true = false. ",
+            "f X0 = a . eq X0 X0 = true . eq X0 a = false . eq f X0 X0 = false . ",
+            "a = b . true = false . ",
             "a f b true false eq ",
         ),
     ] {
