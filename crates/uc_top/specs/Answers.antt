@@ -27,10 +27,12 @@ use Rattle.uc_check.specs.declared.checker.Checked.TheVariants.{Accepted, Reject
 use Rattle.uc_check.specs.declared.proof.Proof.{Proof}
 use Rattle.uc_check.specs.Checks.{IsChecked}
 use Rattle.uc_words.specs.declared.command.Command.{Command}
+use Rattle.uc_words.specs.declared.command.OrderWords.{OrderWords}
 use Rattle.uc_words.specs.declared.command.Verb.{Verb}
 use Rattle.uc_words.specs.declared.command.Verb.TheVariants as verb
 use Rattle.uc_words.specs.Reads.{Reads}
 use Rattle.uc_top.specs.Lines.{located, about_file, spaced, what_word, load_line, proof_line, checked_line, shown_lines, usage_line}
+use Rattle.uc_top.specs.OrderAnswers.{IsOrdered}
 
 -- this holds of the library's files, where it tells them
 abbrev pub WhereTold : Option Files → (Files → Type 0) → Type 0
@@ -67,6 +69,7 @@ checked_status (Rejected line cause) = 1
 abbrev pub IsBuilt : Verb → Type 0
 IsBuilt verb.Check = Unit {0}
 IsBuilt verb.Show = Unit {0}
+IsBuilt verb.Order = Unit {0}
 IsBuilt other = ⊥
 
 -- Symbols are those of this table.
@@ -111,6 +114,10 @@ module _ (table : Table) where
     abbrev pub ShowAnswers : Option (List ℕ) → List ℕ → ℕ → List ℕ → Type 0
     ShowAnswers root name = LoadAnswers IsShown root name
 
+    -- the answer to `order` for the problem file of this name, by the order that these words name, with this root
+    abbrev pub OrderAnswers : OrderWords → Option (List ℕ) → List ℕ → ℕ → List ℕ → Type 0
+    OrderAnswers order root name = LoadAnswers (IsOrdered table order) root name
+
     -- the answer to the words of a command line; each command that is built has a case
     module _ (words : List (List ℕ)) where
       pub data Answers : ℕ → List ℕ → Type 0 where
@@ -118,3 +125,4 @@ module _ (table : Table) where
         isnt_built : {command : Command} → Reads words command → (IsBuilt command.verb → ⊥) → Answers 4 usage_line
         checks : {command : Command} {name proof : List ℕ} {status : ℕ} {answer : List ℕ} → Reads words command → command.verb ≡ verb.Check → command.positionals ≡ name ∷ proof ∷ [] → CheckAnswers command.root name proof status answer → Answers status answer
         shows : {command : Command} {name : List ℕ} {status : ℕ} {answer : List ℕ} → Reads words command → command.verb ≡ verb.Show → command.positionals ≡ name ∷ [] → ShowAnswers command.root name status answer → Answers status answer
+        orders : {command : Command} {name : List ℕ} {status : ℕ} {answer : List ℕ} → Reads words command → command.verb ≡ verb.Order → command.positionals ≡ name ∷ [] → OrderAnswers command.order command.root name status answer → Answers status answer

@@ -1,14 +1,20 @@
 //! The program as one call, from the words of its command line to its answer and status.
 #![tactic(auto)]
 
+mod axioms;
 mod checking;
+mod choosing;
 #[cfg(test)]
 mod damage_tests;
+mod directing;
 mod laws;
 #[cfg(test)]
 mod limit_tests;
 mod lines;
 mod loading;
+#[cfg(test)]
+mod order_tests;
+mod ordering;
 mod output;
 mod program;
 #[cfg(test)]
@@ -16,6 +22,7 @@ mod proof_tests;
 #[cfg(test)]
 mod show_tests;
 mod showing;
+mod term_word;
 #[cfg(test)]
 mod tests;
 

@@ -11,6 +11,7 @@ ghost use Rattle.uc_top.specs.Lines.{joined, usage_line};
 ghost use Rattle.uc_top.specs.Runs.{MayAnswer, IsRun, IsCertified, Completes};
 
 use crate::checking::check_answer;
+use crate::ordering::order_answer;
 use crate::output::{Answer, USAGE, of_line, tell, tell_memory_out};
 use crate::showing::show_answer;
 use std::alloc::{AllocError, Global};
@@ -80,7 +81,8 @@ fn command_answer<L: Library>(
     command: &Command,
     library: &mut L,
 ) -> Result<Answer, AllocError>
-    requires { fits command.now.verb (length command.now.positionals) ≡ true }
+    requires fits { fits command.now.verb (length command.now.positionals) ≡ true }
+    requires words { (words : List (List ℕ)) × Reads words command.now }
     ensures answers { (words : List (List ℕ)) → Reads words command.now → IfOk result (λ answer. MayAnswer (L.holds library.old) (L.faults library.old) (L.faults library.new) words answer.status (joined answer.lines)) }
     ensures certified { command.now.verb ≡ Check → IfOk result (λ answer. answer.status ≡ 0 → (files : Files) → L.holds library.old ≡ Some files → IsCertified files command.now) }
     ensures same { L.holds library.new ≡ L.holds library.old }
@@ -93,6 +95,10 @@ fn command_answer<L: Library>(
         },
         Verb::Show => match command.positionals.as_slice() {
             [name] => show_answer(alloc, command.root.as_ref(), name, library),
+            _ => unreachable!(),
+        },
+        Verb::Order => match command.positionals.as_slice() {
+            [name] => order_answer(alloc, command.root.as_ref(), name, &command.order, library),
             _ => unreachable!(),
         },
         _ => usage_answer(alloc),
