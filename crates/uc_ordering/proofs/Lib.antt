@@ -1,0 +1,11 @@
+pub mod Once
+pub mod Made
+pub mod Again
+pub mod Steps
+pub mod Lists
+pub mod Signatures
+pub mod Named
+pub mod Sorted
+pub mod Totals
+pub mod Marks
+pub mod GoodWeights
