@@ -296,15 +296,15 @@ one_name [] a low high p = absurd (omega arith)
 one_name (x ∷ []) a low high p = rw p refl
 one_name (x ∷ y ∷ ys) a low high p = absurd (omega arith)
 
-pub not_built : (v : Verb) → (v ≡ verb.Check → ⊥) → (v ≡ verb.Show → ⊥) → IsBuilt v → ⊥
-not_built verb.Check n m b = n refl
-not_built verb.Show n m b = m refl
-not_built verb.Prove n m b = b
-not_built verb.Decide n m b = b
-not_built verb.Rewrite n m b = b
-not_built verb.Order n m b = b
-not_built verb.Pairs n m b = b
-not_built verb.Gen n m b = b
+pub not_built : (v : Verb) → (v ≡ verb.Check → ⊥) → (v ≡ verb.Show → ⊥) → (v ≡ verb.Order → ⊥) → IsBuilt v → ⊥
+not_built verb.Check n m o b = n refl
+not_built verb.Show n m o b = m refl
+not_built verb.Order n m o b = o refl
+not_built verb.Prove n m o b = b
+not_built verb.Decide n m o b = b
+not_built verb.Rewrite n m o b = b
+not_built verb.Pairs n m o b = b
+not_built verb.Gen n m o b = b
 
 -- the empty table
 pub none_distinct : IsDistinct []

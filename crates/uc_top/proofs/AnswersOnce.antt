@@ -22,9 +22,13 @@ use Rattle.uc_words.specs.declared.command.Command.{Command}
 use Rattle.uc_words.specs.declared.command.Verb.{Verb}
 use Rattle.uc_words.specs.declared.command.Verb.TheVariants as verb
 use Rattle.uc_words.specs.Reads.{Reads}
+use Rattle.uc_words.specs.declared.command.OrderWords.{OrderWords}
 use Rattle.uc_words.proofs.Only.{only}
 use Rattle.uc_top.specs.Lines.{load_line, proof_line}
-use Rattle.uc_top.specs.Answers.{checked_status, large_line, IsBuilt, TextAnswers, is_not_read, is_checked, ProofAnswers, is_absent, isnt_fetched, is_found, ProblemAnswers, has_large_goal, is_marked, LoadAnswers, CheckAnswers, ShowAnswers, IsShown, fetch_fails, is_refused, is_loaded, Answers, has_no_reading, isnt_built, checks, shows}
+use Rattle.uc_top.specs.OrderAnswers.{IsOrdered}
+use Rattle.uc_top.proofs.OrderOnce.{ordered_once}
+use Rattle.uc_top.proofs.ByVerb.{IsUsage, Of, of_command, read_or_not}
+use Rattle.uc_top.specs.Answers.{checked_status, large_line, IsBuilt, TextAnswers, is_not_read, is_checked, ProofAnswers, is_absent, isnt_fetched, is_found, ProblemAnswers, has_large_goal, is_marked, LoadAnswers, CheckAnswers, ShowAnswers, OrderAnswers, IsShown, fetch_fails, is_refused, is_loaded, Answers}
 
 -- what a text reads as where memory isn't wanted: it is too long, or it is read
 module _ (table : Table) (text : List ℕ) where
@@ -68,19 +72,8 @@ first_name e = cc
 second_name : {a b c d : List ℕ} → Path (List (List ℕ)) (a ∷ b ∷ []) (c ∷ d ∷ []) → b ≡ d
 second_name e = cc
 
--- words have one command
-module _ (words : List (List ℕ)) where
-  same_verb : {command other : Command} → Reads words command → Reads words other → command.verb ≡ other.verb
-  same_verb {command} {other} x y = ap (λ (c : Command). c.verb) (only words command other x y)
-
-  pub built : {command other : Command} (v : Verb) → IsBuilt v → Reads words command → Reads words other → (IsBuilt command.verb → ⊥) → other.verb ≡ v → ⊥
-  built v b x y n e = n (subst IsBuilt (sym (same_verb x y ∙ e)) b)
-
 pub only_name : {a b : List ℕ} → Path (List (List ℕ)) (a ∷ []) (b ∷ []) → a ≡ b
 only_name e = cc
-
-pub check_or_show : Path Verb verb.Check verb.Show → ⊥
-check_or_show e = absurd (cc e)
 
 module _ (table : Table) (distinct : IsDistinct table) where
   module _ (clauses : List Sourced) (marks : Option Fresh) (name text : List ℕ) where
@@ -129,29 +122,35 @@ module _ (table : Table) (distinct : IsDistinct table) where
     show_once : (root : Option (List ℕ)) (name : List ℕ) {s t : ℕ} {a b : List ℕ} → ShowAnswers table (Some files) before now root name s a → ShowAnswers table (Some files) before now root name t b → (s ≡ t) × (a ≡ b)
     show_once root name x y = load_once (IsShown table) (λ problem s t a b p q. (p.0 ∙ sym q.0, p.1 ∙ sym q.1)) root name x y
 
+    order_once : (words : OrderWords) (root : Option (List ℕ)) (name : List ℕ) {s t : ℕ} {a b : List ℕ} → OrderAnswers table (Some files) before now words root name s a → OrderAnswers table (Some files) before now words root name t b → (s ≡ t) × (a ≡ b)
+    order_once words root name x y = load_once (IsOrdered table words) (λ problem s t a b p q. ordered_once table words problem p q) root name x y
+
+    abbrev OfFiles : Verb → Command → ℕ → List ℕ → Type 0
+    OfFiles = Of table (Some files) before now
+
+    usage_once : {s t : ℕ} {a b : List ℕ} → IsUsage table (Some files) before now s a → IsUsage table (Some files) before now t b → (s ≡ t) × (a ≡ b)
+    usage_once x y = (x.0 ∙ sym y.0, x.1 ∙ sym y.1)
+
+    verb_once : (v : Verb) (k : Command) {s t : ℕ} {a b : List ℕ} → OfFiles v k s a → OfFiles v k t b → (s ≡ t) × (a ≡ b)
+    verb_once verb.Check k {t = t} {b = b} (name, proof, p, x) (named, proved, q, y) =
+        let names : named ∷ proved ∷ [] ≡ name ∷ proof ∷ [] = sym q ∙ p in
+        check_once k.root name proof x (subst (λ n. CheckAnswers table (Some files) before now k.root n proof t b) (first_name names) (subst (λ n. CheckAnswers table (Some files) before now k.root named n t b) (second_name names) y))
+    verb_once verb.Show k {t = t} {b = b} (name, p, x) (named, q, y) = show_once k.root name x (subst (λ n. ShowAnswers table (Some files) before now k.root n t b) (only_name (sym q ∙ p)) y)
+    verb_once verb.Order k {t = t} {b = b} (name, p, x) (named, q, y) = order_once k.order k.root name x (subst (λ n. OrderAnswers table (Some files) before now k.order k.root n t b) (only_name (sym q ∙ p)) y)
+    verb_once verb.Prove k x y = usage_once x y
+    verb_once verb.Decide k x y = usage_once x y
+    verb_once verb.Rewrite k x y = usage_once x y
+    verb_once verb.Pairs k x y = usage_once x y
+    verb_once verb.Gen k x y = usage_once x y
+
     module _ (words : List (List ℕ)) where
       pub answer_once : {s t : ℕ} {a b : List ℕ} → Answers table (Some files) before now words s a → Answers table (Some files) before now words t b → (s ≡ t) × (a ≡ b)
-      answer_once (has_no_reading n) (has_no_reading m) = (refl, refl)
-      answer_once (has_no_reading n) (isnt_built y m) = (refl, refl)
-      answer_once (has_no_reading n) (checks {command = command} y v p q) = absurd (n command y)
-      answer_once (has_no_reading n) (shows {command = command} y v p q) = absurd (n command y)
-      answer_once (isnt_built x n) (has_no_reading m) = (refl, refl)
-      answer_once (isnt_built x n) (isnt_built y m) = (refl, refl)
-      answer_once (isnt_built x n) (checks y v p q) = absurd (built words verb.Check tt x y n v)
-      answer_once (isnt_built x n) (shows y v p q) = absurd (built words verb.Show tt x y n v)
-      answer_once (checks {command = command} x v p q) (has_no_reading m) = absurd (m command x)
-      answer_once (checks x v p q) (isnt_built y m) = absurd (built words verb.Check tt y x m v)
-      answer_once {t = t} {b = b} (checks {command = command} {name = name} {proof = proof} x v p c) (checks {command = other} {name = named} {proof = proved} y w q d) =
-          let commands : other ≡ command = only words other command y x in
-          let names : named ∷ proved ∷ [] ≡ name ∷ proof ∷ [] = sym q ∙ ap (λ (k : Command). k.positionals) commands ∙ p in
-          let moved : CheckAnswers table (Some files) before now command.root name proof t b = subst (λ n. CheckAnswers table (Some files) before now command.root n proof t b) (first_name names) (subst (λ n. CheckAnswers table (Some files) before now command.root named n t b) (second_name names) (subst (λ (k : Command). CheckAnswers table (Some files) before now k.root named proved t b) commands d)) in
-          check_once command.root name proof c moved
-      answer_once (checks x v p q) (shows y w r s) = absurd (check_or_show (sym v ∙ same_verb words x y ∙ w))
-      answer_once (shows {command = command} x v p q) (has_no_reading m) = absurd (m command x)
-      answer_once (shows x v p q) (isnt_built y m) = absurd (built words verb.Show tt y x m v)
-      answer_once (shows x v p q) (checks y w r s) = absurd (check_or_show (sym w ∙ same_verb words y x ∙ v))
-      answer_once {t = t} {b = b} (shows {command = command} {name = name} x v p c) (shows {command = other} {name = named} y w q d) =
-          let commands : other ≡ command = only words other command y x in
-          let names : named ∷ [] ≡ name ∷ [] = sym q ∙ ap (λ (k : Command). k.positionals) commands ∙ p in
-          let moved : ShowAnswers table (Some files) before now command.root name t b = subst (λ n. ShowAnswers table (Some files) before now command.root n t b) (only_name names) (subst (λ (k : Command). ShowAnswers table (Some files) before now k.root named t b) commands d) in
-          show_once command.root name c moved
+      answer_once {s} {t} {a} {b} x y = go (read_or_not table (Some files) before now words x) (read_or_not table (Some files) before now words y)
+        where
+          abbrev Either : ℕ → List ℕ → Type 0
+          Either n text = ((command : Command) × Reads words command) ⊎ (((command : Command) → Reads words command → ⊥) × IsUsage table (Some files) before now n text)
+
+          go : Either s a → Either t b → (s ≡ t) × (a ≡ b)
+          go (inl p) q = verb_once p.0.verb p.0 (of_command table (Some files) before now words p.1 x) (of_command table (Some files) before now words p.1 y)
+          go (inr p) (inl q) = absurd (p.0 q.0 q.1)
+          go (inr p) (inr q) = usage_once p.1 q.1

@@ -12,13 +12,14 @@ use Rattle.uc_words.specs.Reads.{Reads}
 use Rattle.uc_words.proofs.Only.{only}
 use Rattle.uc_top.specs.Lines.{shown_lines}
 use Rattle.uc_top.specs.Told.{IsTold, told, cut_short}
-use Rattle.uc_top.specs.Answers.{ShowAnswers, fetch_fails, is_refused, is_loaded, Answers, has_no_reading, isnt_built, checks, shows}
+use Rattle.uc_top.specs.Answers.{ShowAnswers, fetch_fails, is_refused, is_loaded, Answers}
 use Rattle.uc_top.specs.Runs.{MayAnswer, is_answer, wants_memory, IsRun, ShowEnds, shows_all, lacks_memory, Completes}
-use Rattle.uc_top.proofs.AnswersOnce.{built, check_or_show, only_name}
+use Rattle.uc_top.proofs.AnswersOnce.{only_name}
+use Rattle.uc_top.proofs.ByVerb.{of_verb}
 use Rattle.uc_top.proofs.Everywhere.{isnt_refused, shown_alike}
 
 -- where no write failed the whole text was told
-told_whole : {old new : Option (List ℕ)} {before now : ℕ} {text : List ℕ} {status result : ℕ} → (Rose before now → ⊥) → IsTold old new before now text status result → Appends old new text × (result ≡ status)
+pub told_whole : {old new : Option (List ℕ)} {before now : ℕ} {text : List ℕ} {status result : ℕ} → (Rose before now → ⊥) → IsTold old new before now text status result → Appends old new text × (result ≡ status)
 told_whole well (told whole) = (whole, refl)
 told_whole well (cut_short short part rose) = absurd (well rose)
 
@@ -37,13 +38,9 @@ module _ (files : Files) (before now : ℕ) (well : Rose before now → ⊥) whe
 
   module _ (words : List (List ℕ)) (command : Command) (name : List ℕ) (reads : Reads words command) (is_show : command.verb ≡ verb.Show) (names : command.positionals ≡ name ∷ []) where
     answered : {table : Table} {status : ℕ} {text : List ℕ} → Answers table (Some files) before now words status text → ShowAnswers table (Some files) before now command.root name status text
-    answered (has_no_reading n) = absurd (n command reads)
-    answered (isnt_built x n) = absurd (built words verb.Show tt x reads n is_show)
-    answered (checks {command = other} x v p c) = absurd (check_or_show (sym v ∙ ap (λ (k : Command). k.verb) (only words other command x reads) ∙ is_show))
-    answered {table} {status} {text} (shows {command = other} {name = named} x v p c) =
-        let commands : other ≡ command = only words other command x reads in
-        let same : named ∷ [] ≡ name ∷ [] = sym p ∙ ap (λ (k : Command). k.positionals) commands ∙ names in
-        subst (λ n. ShowAnswers table (Some files) before now command.root n status text) (only_name same) (subst (λ (k : Command). ShowAnswers table (Some files) before now k.root named status text) commands c)
+    answered {table} {status} {text} a =
+        let p = of_verb table (Some files) before now words verb.Show is_show reads a in
+        subst (λ n. ShowAnswers table (Some files) before now command.root n status text) (only_name (sym p.1 ∙ names)) p.2
 
     module _ (table : Table) (problem : Problem) (held : Holds table files command.root name problem) (old new : Option (List ℕ)) where
       whole : {status result : ℕ} {text : List ℕ} → MayAnswer (Some files) before now words status text → Appends old new text → result ≡ status → ShowEnds table problem old new result

@@ -6,3 +6,4 @@ pub mod TermWords
 pub mod Told
 pub mod Answers
 pub mod Runs
+pub mod OrderRuns

@@ -9,6 +9,7 @@ ghost use Rattle.uc_words.specs.Reads.{Reads};
 ghost use Rattle.uc_words.specs.Table.{fits};
 ghost use Rattle.uc_top.specs.Lines.{joined, usage_line};
 ghost use Rattle.uc_top.specs.Runs.{MayAnswer, IsRun, IsCertified, Completes};
+ghost use Rattle.uc_top.specs.OrderRuns.{OrderCompletes};
 
 use crate::checking::check_answer;
 use crate::ordering::order_answer;
@@ -28,8 +29,10 @@ const USAGE_LINE: &[u8] = b"usage: uc COMMAND [--option VALUE].. [WORD]..\n";
 /// For `check` the status is 0 where the proof file has a proof of the problem, each line of it right and the last one a
 /// refutation of a goal, so that one of the problem's goals follows from its axioms; 1 where the proof reads and isn't such;
 /// 3 where the problem or the proof isn't there or is refused. For `show` it is 0 where the problem is there, and all its
-/// clauses are told, each on a line; else 3. 4 stands for words that have no reading, 5 for a failure of the library and 6 for
-/// one of the sink, each only where its count of faults rose in this call, and 7 for want of memory.
+/// clauses are told, each on a line; else 3. For `order` it is 0 where the problem is there and the words name an order for it,
+/// and how it directs each axiom is told on a line of its own; 4 where the order is refused; else 3. 4 stands for words that
+/// have no reading, 5 for a failure of the library and 6 for one of the sink, each only where its count of faults rose in this
+/// call, and 7 for want of memory.
 pub fn run<R: Threads + Wait + Sync, L: Library, S: Sink, G: Gate + Sync>(
     _rt: &R,
     alloc: Global,
@@ -41,6 +44,7 @@ pub fn run<R: Threads + Wait + Sync, L: Library, S: Sink, G: Gate + Sync>(
     ensures answers { IsRun (L.holds library.old) (L.faults library.old) (L.faults library.new) (map string_bytes words.now) (S.written sink.old) (S.written sink.new) (S.faults sink.old) (S.faults sink.new) result }
     ensures certified { result ≡ 0 → (files : Files) → L.holds library.old ≡ Some files → (command : Command) → Reads (map string_bytes words.now) command → command.verb ≡ Check → IsCertified files command }
     ensures complete { (files : Files) → L.holds library.old ≡ Some files → (Rose (L.faults library.old) (L.faults library.new) → ⊥) → (Rose (S.faults sink.old) (S.faults sink.new) → ⊥) → Completes files (map string_bytes words.now) (S.written sink.old) (S.written sink.new) result }
+    ensures order_complete { (files : Files) → L.holds library.old ≡ Some files → (Rose (L.faults library.old) (L.faults library.new) → ⊥) → (Rose (S.faults sink.old) (S.faults sink.new) → ⊥) → OrderCompletes files (map string_bytes words.now) (S.written sink.old) (S.written sink.new) result }
     ensures same { L.holds library.new ≡ L.holds library.old }
     ensures later { L.faults library.old ≤ L.faults library.new }
     ensures sink_later { S.faults sink.old ≤ S.faults sink.new }

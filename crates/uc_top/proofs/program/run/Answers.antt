@@ -1,5 +1,6 @@
 use Rattle.uc_top.specs.Runs.{wants_memory}
 use Rattle.uc_top.proofs.Completing.{own_status, completes}
+use Rattle.uc_top.proofs.OrderCompleting.{order_completes}
 use Rattle.uc_top.proofs.program.run.Goals as goal
 
 pub returns-in-Err-clause-answers : goal.returns-in-Err-clause-answers
@@ -13,3 +14,9 @@ returns-in-Ok-clause-certified g c done = c.in-Ok.ensures.certified (own_status 
 
 pub returns-in-Ok-clause-complete : goal.returns-in-Ok-clause-complete
 returns-in-Ok-clause-complete g c = completes _ _ _ _ _ _ _ _ _ (record { status = _; text = _; answer = c.in-Ok.ensures.answers; told = c.tell.ensures.told })
+
+pub returns-in-Err-clause-order_complete : goal.returns-in-Err-clause-order_complete
+returns-in-Err-clause-order_complete g c = order_completes _ _ _ _ _ _ _ _ _ (record { status = 7; text = _; answer = wants_memory; told = c.tell_memory_out.ensures.told })
+
+pub returns-in-Ok-clause-order_complete : goal.returns-in-Ok-clause-order_complete
+returns-in-Ok-clause-order_complete g c = order_completes _ _ _ _ _ _ _ _ _ (record { status = _; text = _; answer = c.in-Ok.ensures.answers; told = c.tell.ensures.told })

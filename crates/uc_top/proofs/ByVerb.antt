@@ -1,0 +1,60 @@
+-- An answer to words is the answer to the command that they are.
+use Rattle.std.proofs.Common.{◌⊎◌, inl, inr, ℕ, ◌≡◌, List, [], ◌∷◌, Option, refl, sym, ap, ◌∙◌, subst}
+use Rattle.uc_term.specs.Table.{Table}
+use Rattle.uc_edge.specs.Files.{Files}
+use Rattle.uc_words.specs.declared.command.Command.{Command}
+use Rattle.uc_words.specs.declared.command.Verb.{Verb}
+use Rattle.uc_words.specs.declared.command.Verb.TheVariants as verb
+use Rattle.uc_words.specs.Reads.{Reads}
+use Rattle.uc_words.proofs.Only.{only}
+use Rattle.uc_top.specs.Lines.{usage_line}
+use Rattle.uc_top.specs.Answers.{IsBuilt, CheckAnswers, ShowAnswers, OrderAnswers, Answers, has_no_reading, isnt_built, checks, shows, orders}
+
+module _ (table : Table) (holds : Option Files) (before now : ℕ) where
+  abbrev pub IsUsage : ℕ → List ℕ → Type 0
+  IsUsage status text = (status ≡ 4) × (text ≡ usage_line)
+
+  -- the command's answer
+  abbrev pub Of : Verb → Command → ℕ → List ℕ → Type 0
+  Of verb.Check k status text = (name : List ℕ) × (proof : List ℕ) × (k.positionals ≡ name ∷ proof ∷ []) × CheckAnswers table holds before now k.root name proof status text
+  Of verb.Show k status text = (name : List ℕ) × (k.positionals ≡ name ∷ []) × ShowAnswers table holds before now k.root name status text
+  Of verb.Order k status text = (name : List ℕ) × (k.positionals ≡ name ∷ []) × OrderAnswers table holds before now k.order k.root name status text
+  Of verb.Prove k status text = IsUsage status text
+  Of verb.Decide k status text = IsUsage status text
+  Of verb.Rewrite k status text = IsUsage status text
+  Of verb.Pairs k status text = IsUsage status text
+  Of verb.Gen k status text = IsUsage status text
+
+  not_of : (v : Verb) (k : Command) → (IsBuilt v → ⊥) → Of v k 4 usage_line
+  not_of verb.Check k n = absurd (n tt)
+  not_of verb.Show k n = absurd (n tt)
+  not_of verb.Order k n = absurd (n tt)
+  not_of verb.Prove k n = (refl, refl)
+  not_of verb.Decide k n = (refl, refl)
+  not_of verb.Rewrite k n = (refl, refl)
+  not_of verb.Pairs k n = (refl, refl)
+  not_of verb.Gen k n = (refl, refl)
+
+  module _ (words : List (List ℕ)) where
+    -- the answer of a command that the words are, which is the only one
+    of_other : {command other : Command} {v : Verb} {status : ℕ} {text : List ℕ} → Reads words command → Reads words other → other.verb ≡ v → Of v other status text → Of command.verb command status text
+    of_other {command} {other} {v} {status} {text} x y e a = subst (λ (k : Command). Of k.verb k status text) (only words other command y x) (subst (λ w. Of w other status text) (sym e) a)
+
+    pub of_command : {command : Command} {status : ℕ} {text : List ℕ} → Reads words command → Answers table holds before now words status text → Of command.verb command status text
+    of_command {command} x (has_no_reading n) = absurd (n command x)
+    of_command x (isnt_built {command = other} y n) = of_other x y refl (not_of other.verb other n)
+    of_command x (checks {name = name} {proof = proof} y v p a) = of_other x y v (name, proof, p, a)
+    of_command x (shows {name = name} y v p a) = of_other x y v (name, p, a)
+    of_command x (orders {name = name} y v p a) = of_other x y v (name, p, a)
+
+    -- the same by the command's verb
+    pub of_verb : {command : Command} {status : ℕ} {text : List ℕ} (v : Verb) → command.verb ≡ v → Reads words command → Answers table holds before now words status text → Of v command status text
+    of_verb {command} {status} {text} v e x a = subst (λ w. Of w command status text) e (of_command x a)
+
+    -- whether the words are a command
+    pub read_or_not : {status : ℕ} {text : List ℕ} → Answers table holds before now words status text → ((command : Command) × Reads words command) ⊎ (((command : Command) → Reads words command → ⊥) × IsUsage status text)
+    read_or_not (has_no_reading n) = inr (n, refl, refl)
+    read_or_not (isnt_built {command = other} y n) = inl (other, y)
+    read_or_not (checks {command = other} y v p a) = inl (other, y)
+    read_or_not (shows {command = other} y v p a) = inl (other, y)
+    read_or_not (orders {command = other} y v p a) = inl (other, y)
