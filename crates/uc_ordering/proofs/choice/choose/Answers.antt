@@ -1,4 +1,4 @@
-use Rattle.std.proofs.Common.{◌∙◌}
+use Rattle.std.proofs.Common.{◌∙◌, Some, None}
 use Rattle.std.proofs.lemmas.Result.{err_from_is_err_and}
 use Rattle.uc_ordering.proofs.Signatures.{signed_own}
 use Rattle.uc_ordering.proofs.Choosing.{own_has, all_known, lacking_first, lacking_second, again_first, again_second, all_once, made_precedence, none_is_bad, bad_third, made_weights, made_heaviest, looked_has, precedence_has, plain_chosen, marked_chosen}
@@ -48,19 +48,35 @@ returns-in_err-weights-clause-err c =
     rw (p.1, p.2) (tt)
 
 pub returns-in-None-clause-ok : goal.returns-in-None-clause-ok
-returns-in-None-clause-ok c = ?
+returns-in-None-clause-ok c =
+    let list = made_precedence c.args.symbols.now c.args.signature.now c.args.words.now c.in_ok-by_name.by_name.map.entries (rw c.own_symbols-own.ensures at c.in_ok-by_name.ensures) c.in_ok-names.names.map.entries c.deref.result.now c.in_ok-precedence.precedence.items (rw c.as_slice-3.ensures at c.in_ok-names.ensures.ok) (c.deref.ensures.value ∙ (rw c.as_slice.ensures at c.in_ok-named.ensures.ok)) (rw c.as_slice-all.ensures at c.in_ok-precedence.ensures) in
+    let fit = (none_is_bad c.args.symbols.now c.args.signature.now c.args.words.now c.in_ok-by_name.by_name.map.entries (rw c.own_symbols-own.ensures at c.in_ok-by_name.ensures) c.as_slice-5.result.now (c.as_slice-5.ensures.value ∙ list) c.in_ok-check_weights.ensures.ok) in
+    rw c.in-None.is (plain_chosen c.args.symbols.now c.args.signature.now c.args.words.now (all_known c.args.symbols.now c.args.signature.now c.args.words.now c.in_ok-by_name.by_name.map.entries (rw c.own_symbols-own.ensures at c.in_ok-by_name.ensures) (rw c.as_slice.ensures at c.in_ok-named.ensures.known) (rw c.as_slice-2.ensures at c.in_ok-check_known.ensures.known)) (all_once c.args.symbols.now c.args.signature.now c.args.words.now c.in_ok-by_name.by_name.map.entries (rw c.own_symbols-own.ensures at c.in_ok-by_name.ensures) (rw c.as_slice-3.ensures at c.in_ok-names.ensures.once) (rw c.as_slice-4.ensures at c.in_ok-given.ensures.once)) fit c.in_ok-precedence.precedence.items c.in_ok-weights.weights.items list (made_weights c.args.symbols.now c.args.signature.now c.args.words.now c.in_ok-by_name.by_name.map.entries (rw c.own_symbols-own.ensures at c.in_ok-by_name.ensures) c.in_ok-given.given.map.entries (rw c.as_slice-4.ensures at c.in_ok-given.ensures.ok) c.in_ok-precedence.precedence.items c.in_ok-weights.weights.items list (rw c.as_slice-6.ensures.value at c.in_ok-weights.ensures)) c.spec_of.result c.spec_of.ensures)
 
 pub returns-in-None-clause-fits : goal.returns-in-None-clause-fits
-returns-in-None-clause-fits c = ?
+returns-in-None-clause-fits c =
+    let list = made_precedence c.args.symbols.now c.args.signature.now c.args.words.now c.in_ok-by_name.by_name.map.entries (rw c.own_symbols-own.ensures at c.in_ok-by_name.ensures) c.in_ok-names.names.map.entries c.deref.result.now c.in_ok-precedence.precedence.items (rw c.as_slice-3.ensures at c.in_ok-names.ensures.ok) (c.deref.ensures.value ∙ (rw c.as_slice.ensures at c.in_ok-named.ensures.ok)) (rw c.as_slice-all.ensures at c.in_ok-precedence.ensures) in
+    let fit = (none_is_bad c.args.symbols.now c.args.signature.now c.args.words.now c.in_ok-by_name.by_name.map.entries (rw c.own_symbols-own.ensures at c.in_ok-by_name.ensures) c.as_slice-5.result.now (c.as_slice-5.ensures.value ∙ list) c.in_ok-check_weights.ensures.ok) in
+    let x = plain_chosen c.args.symbols.now c.args.signature.now c.args.words.now (all_known c.args.symbols.now c.args.signature.now c.args.words.now c.in_ok-by_name.by_name.map.entries (rw c.own_symbols-own.ensures at c.in_ok-by_name.ensures) (rw c.as_slice.ensures at c.in_ok-named.ensures.known) (rw c.as_slice-2.ensures at c.in_ok-check_known.ensures.known)) (all_once c.args.symbols.now c.args.signature.now c.args.words.now c.in_ok-by_name.by_name.map.entries (rw c.own_symbols-own.ensures at c.in_ok-by_name.ensures) (rw c.as_slice-3.ensures at c.in_ok-names.ensures.once) (rw c.as_slice-4.ensures at c.in_ok-given.ensures.once)) fit c.in_ok-precedence.precedence.items c.in_ok-weights.weights.items list (made_weights c.args.symbols.now c.args.signature.now c.args.words.now c.in_ok-by_name.by_name.map.entries (rw c.own_symbols-own.ensures at c.in_ok-by_name.ensures) c.in_ok-given.given.map.entries (rw c.as_slice-4.ensures at c.in_ok-given.ensures.ok) c.in_ok-precedence.precedence.items c.in_ok-weights.weights.items list (rw c.as_slice-6.ensures.value at c.in_ok-weights.ensures)) c.spec_of.result c.spec_of.ensures in
+    rw c.in-None.is (fits c.args.symbols.now c.args.signature.now c.args.words.now c.requires.w0_some c.requires.w0_most c.requires.signature None c.spec_of.result x (rw c.in-None.is at c.requires.marks))
 
 pub heaviest-heaviest-requires : goal.heaviest-heaviest-requires
 heaviest-heaviest-requires c = rw c.as_slice-all.ensures (signed_own c.args.symbols.now c.args.signature.now c.requires.signature).has
 
 pub returns-in_err-with_marks-in-Some-clause-err : goal.returns-in_err-with_marks-in-Some-clause-err
-returns-in_err-with_marks-in-Some-clause-err c = ?
+returns-in_err-with_marks-in-Some-clause-err c =
+    let p = err_from_is_err_and c.from_residual-in_err-with_marks-in-Some.result c.from_residual-in_err-with_marks-in-Some.ensures.1 in
+    rw (p.1, p.2) (tt)
 
 pub returns-clause-ok : goal.returns-clause-ok
-returns-clause-ok c = ?
+returns-clause-ok c =
+    let list = made_precedence c.args.symbols.now c.args.signature.now c.args.words.now c.in_ok-by_name.by_name.map.entries (rw c.own_symbols-own.ensures at c.in_ok-by_name.ensures) c.in_ok-names.names.map.entries c.deref.result.now c.in_ok-precedence.precedence.items (rw c.as_slice-3.ensures at c.in_ok-names.ensures.ok) (c.deref.ensures.value ∙ (rw c.as_slice.ensures at c.in_ok-named.ensures.ok)) (rw c.as_slice-all.ensures at c.in_ok-precedence.ensures) in
+    let fit = (none_is_bad c.args.symbols.now c.args.signature.now c.args.words.now c.in_ok-by_name.by_name.map.entries (rw c.own_symbols-own.ensures at c.in_ok-by_name.ensures) c.as_slice-5.result.now (c.as_slice-5.ensures.value ∙ list) c.in_ok-check_weights.ensures.ok) in
+    rw c.in-Some.is (marked_chosen c.args.symbols.now c.args.signature.now c.args.words.now (all_known c.args.symbols.now c.args.signature.now c.args.words.now c.in_ok-by_name.by_name.map.entries (rw c.own_symbols-own.ensures at c.in_ok-by_name.ensures) (rw c.as_slice.ensures at c.in_ok-named.ensures.known) (rw c.as_slice-2.ensures at c.in_ok-check_known.ensures.known)) (all_once c.args.symbols.now c.args.signature.now c.args.words.now c.in_ok-by_name.by_name.map.entries (rw c.own_symbols-own.ensures at c.in_ok-by_name.ensures) (rw c.as_slice-3.ensures at c.in_ok-names.ensures.once) (rw c.as_slice-4.ensures at c.in_ok-given.ensures.once)) fit c.in_ok-precedence.precedence.items c.in_ok-weights.weights.items list (made_weights c.args.symbols.now c.args.signature.now c.args.words.now c.in_ok-by_name.by_name.map.entries (rw c.own_symbols-own.ensures at c.in_ok-by_name.ensures) c.in_ok-given.given.map.entries (rw c.as_slice-4.ensures at c.in_ok-given.ensures.ok) c.in_ok-precedence.precedence.items c.in_ok-weights.weights.items list (rw c.as_slice-6.ensures.value at c.in_ok-weights.ensures)) c.in_ok-with_marks-in-Some.field-0 c.in-Some.marks c.heaviest-heaviest.result (made_heaviest c.args.symbols.now c.args.signature.now c.args.words.now c.in_ok-by_name.by_name.map.entries (rw c.own_symbols-own.ensures at c.in_ok-by_name.ensures) c.in_ok-given.given.map.entries (rw c.as_slice-4.ensures at c.in_ok-given.ensures.ok) c.heaviest-heaviest.result (rw c.as_slice-all.ensures at c.heaviest-heaviest.ensures)) (rw (c.deref-in-Some.ensures.value, c.deref-in-Some-2.ensures.value) at c.in_ok-with_marks-in-Some.ensures))
 
 pub returns-clause-fits : goal.returns-clause-fits
-returns-clause-fits c = ?
+returns-clause-fits c =
+    let list = made_precedence c.args.symbols.now c.args.signature.now c.args.words.now c.in_ok-by_name.by_name.map.entries (rw c.own_symbols-own.ensures at c.in_ok-by_name.ensures) c.in_ok-names.names.map.entries c.deref.result.now c.in_ok-precedence.precedence.items (rw c.as_slice-3.ensures at c.in_ok-names.ensures.ok) (c.deref.ensures.value ∙ (rw c.as_slice.ensures at c.in_ok-named.ensures.ok)) (rw c.as_slice-all.ensures at c.in_ok-precedence.ensures) in
+    let fit = (none_is_bad c.args.symbols.now c.args.signature.now c.args.words.now c.in_ok-by_name.by_name.map.entries (rw c.own_symbols-own.ensures at c.in_ok-by_name.ensures) c.as_slice-5.result.now (c.as_slice-5.ensures.value ∙ list) c.in_ok-check_weights.ensures.ok) in
+    let x = marked_chosen c.args.symbols.now c.args.signature.now c.args.words.now (all_known c.args.symbols.now c.args.signature.now c.args.words.now c.in_ok-by_name.by_name.map.entries (rw c.own_symbols-own.ensures at c.in_ok-by_name.ensures) (rw c.as_slice.ensures at c.in_ok-named.ensures.known) (rw c.as_slice-2.ensures at c.in_ok-check_known.ensures.known)) (all_once c.args.symbols.now c.args.signature.now c.args.words.now c.in_ok-by_name.by_name.map.entries (rw c.own_symbols-own.ensures at c.in_ok-by_name.ensures) (rw c.as_slice-3.ensures at c.in_ok-names.ensures.once) (rw c.as_slice-4.ensures at c.in_ok-given.ensures.once)) fit c.in_ok-precedence.precedence.items c.in_ok-weights.weights.items list (made_weights c.args.symbols.now c.args.signature.now c.args.words.now c.in_ok-by_name.by_name.map.entries (rw c.own_symbols-own.ensures at c.in_ok-by_name.ensures) c.in_ok-given.given.map.entries (rw c.as_slice-4.ensures at c.in_ok-given.ensures.ok) c.in_ok-precedence.precedence.items c.in_ok-weights.weights.items list (rw c.as_slice-6.ensures.value at c.in_ok-weights.ensures)) c.in_ok-with_marks-in-Some.field-0 c.in-Some.marks c.heaviest-heaviest.result (made_heaviest c.args.symbols.now c.args.signature.now c.args.words.now c.in_ok-by_name.by_name.map.entries (rw c.own_symbols-own.ensures at c.in_ok-by_name.ensures) c.in_ok-given.given.map.entries (rw c.as_slice-4.ensures at c.in_ok-given.ensures.ok) c.heaviest-heaviest.result (rw c.as_slice-all.ensures at c.heaviest-heaviest.ensures)) (rw (c.deref-in-Some.ensures.value, c.deref-in-Some-2.ensures.value) at c.in_ok-with_marks-in-Some.ensures) in
+    rw c.in-Some.is (fits c.args.symbols.now c.args.signature.now c.args.words.now c.requires.w0_some c.requires.w0_most c.requires.signature (Some c.in-Some.marks) c.in_ok-with_marks-in-Some.field-0 x (rw c.in-Some.is at c.requires.marks))
