@@ -46,7 +46,7 @@ given_in [] name v e = absurd cc
 given_in (p ∷ ps) name v e = go (bytes_eq p.0 name) refl e (given_in ps name v)
   where
     here : p.0 ≡ name → p.1 ≡ v → In (p ∷ ps) (name, v)
-    here refl refl = in_front
+    here q r = subst (In (p ∷ ps)) (ap (λ (a : List ℕ). (a, p.1)) q ∙ ap (λ (b : ℕ). (name, b)) r) in_front
 
     go : (b : Bool) → bytes_eq p.0 name ≡ b → (if b then Some p.1 else weight_given ps name) ≡ Some v → (weight_given ps name ≡ Some v → In ps (name, v)) → In (p ∷ ps) (name, v)
     go true q e later = here ((bytes_decides p.0 name).0 q) (let r : Some p.1 ≡ Some v = e in cc)
@@ -79,7 +79,7 @@ at_most a b e = grind (arith, nat_tests)
 module _ (table : Table) (w0 : ℕ) (some : 1 ≤ w0) (most : w0 ≤ 1000000) where
   -- what a symbol's weight keeps in a precedence
   pub record FineIn (precedence : List Sym) (f : Sym) (w : ℕ) : Type 0 where
-    pub most : w ≤ 1000000
+    pub bounded : w ≤ 1000000
     pub constant : arity_of table f ≡ 0 → w0 ≤ w
     pub vanishing : w ≡ 0 → (arity_of table f ≡ 1) × (is_last precedence f ≡ true)
 
@@ -88,22 +88,19 @@ module _ (table : Table) (w0 : ℕ) (some : 1 ≤ w0) (most : w0 ≤ 1000000) wh
       let p = or_false (nat_lt 1000000 w) _ e in
       let q = or_false ((arity_of table f == 0) && nat_lt w w0) _ p.1 in
       record {
-        most = at_most 1000000 w p.0;
+        bounded = at_most 1000000 w p.0;
         constant = λ z. at_most w w0 (and_right (arity_of table f == 0) (nat_lt w w0) (eq-eqb (arity_of table f) 0 z) q.0);
         vanishing = λ z. (let r = both (arity_of table f == 1) (is_last precedence f) (not_false _ (and_right (w == 0) _ (eq-eqb w 0 z) q.1)) in (eqb-true (arity_of table f) 1 r.0, r.1));
       }
 
   w0_fine : (precedence : List Sym) (f : Sym) (w : ℕ) → w ≡ w0 → FineIn precedence f w
   w0_fine precedence f w e = record {
-    most = omega (arith, e, most);
+    bounded = omega (arith, e, most);
     constant = λ z. omega (arith, e);
     vanishing = λ z. absurd (omega (arith, e, z, some));
   }
 
   module _ (own : List Sym) (signature : Signature) (s : Signed table own signature) (given : List (List ℕ × ℕ)) (known : find (λ name. is_none (first_named table name own)) (map (λ p. p.0) given) ≡ None) (precedence : List Sym) (good : find (is_bad_for table w0 own precedence) given ≡ None) where
-    w : Sym → ℕ
-    w = weight_of table w0 given
-
     pub fine : (f : Sym) → In signature.symbols f → FineIn precedence f (weight_of table w0 given f)
     fine f i = go (weight_given given (name_of table f)) refl
       where
@@ -122,25 +119,28 @@ module _ (table : Table) (w0 : ℕ) (some : 1 ≤ w0) (most : w0 ≤ 1000000) wh
     behind f g gs a h z = a.0 (last_in (g ∷ gs) f (h.vanishing z).1)
 
     head_fine : (f : Sym) (n : ℕ) → FineIn (f ∷ []) f (w f) → n ≡ 0 → Fine w0 (arity_of table f) (w f) n
-    head_fine f n h e = record { most = h.most; constant = h.constant; vanishing = λ z. ((h.vanishing z).0, e) }
+    head_fine f n h e = record { most = h.bounded; constant = h.constant; vanishing = λ z. ((h.vanishing z).0, e) }
 
     some_fine : (fs : List Sym) (f : Sym) (n : ℕ) → FineIn fs f (w f) → (w f ≡ 0 → ⊥) → Fine w0 (arity_of table f) (w f) n
-    some_fine fs f n h k = record { most = h.most; constant = h.constant; vanishing = λ z. absurd (k z) }
+    some_fine fs f n h k = record { most = h.bounded; constant = h.constant; vanishing = λ z. absurd (k z) }
+
+    entry_good : (f : Sym) (v : ℕ) (es : List Weighed) → Fine w0 (arity_of table f) v (length es) → IsBad w0 (record { symbol = f; arity = arity_of table f; weight = v }) es → ⊥
+    entry_good f v es h = fine_is_good w0 (record { symbol = f; arity = arity_of table f; weight = v }) es h
 
     pub none_bad : (fs : List Sym) → AreDistinct fs → ((f : Sym) → In fs f → FineIn fs f (w f)) → NoneBad w0 (weighed table fs (map w fs))
     none_bad [] a h = tt
-    none_bad (f ∷ []) a h = (fine_is_good w0 _ [] (head_fine f 0 (h f in_front) refl), tt)
+    none_bad (f ∷ []) a h = (entry_good f (w f) [] (head_fine f 0 (h f in_front) refl), tt)
     none_bad (f ∷ g ∷ gs) a h =
-        (fine_is_good w0 _ _ (some_fine (f ∷ g ∷ gs) f _ (h f in_front) (behind f g gs a (h f in_front))), none_bad (g ∷ gs) a.1 (λ e i. later e (h e (in_rest i))))
+        (entry_good f (w f) (weighed table (g ∷ gs) (map w (g ∷ gs))) (some_fine (f ∷ g ∷ gs) f (length (weighed table (g ∷ gs) (map w (g ∷ gs)))) (h f in_front) (behind f g gs a (h f in_front))), none_bad (g ∷ gs) a.1 (λ e i. later e (h e (in_rest i))))
       where
         later : (e : Sym) → FineIn (f ∷ g ∷ gs) e (w e) → FineIn (g ∷ gs) e (w e)
-        later e k = record { most = k.most; constant = k.constant; vanishing = k.vanishing }
+        later e k = record { bounded = k.bounded; constant = k.constant; vanishing = k.vanishing }
 
     module _ (yes no eq : Sym) (heavy : ℕ) (yes_bare : arity_of table yes ≡ 0) (no_bare : arity_of table no ≡ 0) (eq_binary : arity_of table eq ≡ 2) (heavy_some : w0 ≤ heavy) (heavy_most : heavy ≤ 1000000) where
-      marks : List Sym
+      abbrev pub marks : List Sym
       marks = yes ∷ no ∷ eq ∷ []
 
-      weights : List ℕ
+      abbrev pub weights : List ℕ
       weights = heavy ∷ heavy ∷ w0 ∷ []
 
       heavy_fine : (f : Sym) (n : ℕ) → Fine w0 (arity_of table f) heavy n
@@ -150,7 +150,7 @@ module _ (table : Table) (w0 : ℕ) (some : 1 ≤ w0) (most : w0 ≤ 1000000) wh
       eq_fine n = record { most = most; constant = λ z. omega arith; vanishing = λ z. absurd (omega (arith, z, some)) }
 
       marks_good : (fs : List Sym) (ws : List ℕ) → NoneBad w0 (weighed table fs ws) → NoneBad w0 (weighed table (marks ++ fs) (weights ++ ws))
-      marks_good fs ws h = (fine_is_good w0 _ _ (heavy_fine yes _), (fine_is_good w0 _ _ (heavy_fine no _), (fine_is_good w0 _ _ (eq_fine _), h)))
+      marks_good fs ws h = (entry_good yes heavy (weighed table (no ∷ eq ∷ fs) (heavy ∷ w0 ∷ ws)) (heavy_fine yes (length (weighed table (no ∷ eq ∷ fs) (heavy ∷ w0 ∷ ws)))), (entry_good no heavy (weighed table (eq ∷ fs) (w0 ∷ ws)) (heavy_fine no (length (weighed table (eq ∷ fs) (w0 ∷ ws)))), (entry_good eq w0 (weighed table fs ws) (eq_fine (length (weighed table fs ws))), h)))
 
       one_below : (x y : ℕ) (ys : List ℕ) → below_marks (x ∷ y ∷ ys) ≡ suc (below_marks (y ∷ ys))
       one_below x y ys = go (ends_in_zero (y ∷ ys))
@@ -164,14 +164,14 @@ module _ (table : Table) (w0 : ℕ) (some : 1 ≤ w0) (most : w0 ≤ 1000000) wh
       none_bad_with (f ∷ []) a h = go (w f == 0) refl
         where
           go : (b : Bool) → (w f == 0) ≡ b → NoneBad w0 (weighed table (with_behind (if b then 0 else 1) (f ∷ []) marks) (with_behind (if b then 0 else 1) (w f ∷ []) weights))
-          go true e = marks_good (f ∷ []) (w f ∷ []) (fine_is_good w0 _ [] (head_fine f 0 (h f in_front) refl), tt)
-          go false e = (fine_is_good w0 _ _ (some_fine (f ∷ []) f _ (h f in_front) (λ z. absurd (false≢true (sym e ∙ eq-eqb (w f) 0 z)))), marks_good [] [] tt)
+          go true e = marks_good (f ∷ []) (w f ∷ []) (entry_good f (w f) [] (head_fine f 0 (h f in_front) refl), tt)
+          go false e = (entry_good f (w f) (weighed table marks weights) (some_fine (f ∷ []) f (length (weighed table marks weights)) (h f in_front) (λ z. absurd (false≢true (sym e ∙ eq-eqb (w f) 0 z)))), marks_good [] [] tt)
       none_bad_with (f ∷ g ∷ gs) a h =
           rw (one_below (w f) (w g) (map w gs))
-             (fine_is_good w0 _ _ (some_fine (f ∷ g ∷ gs) f _ (h f in_front) (behind f g gs a (h f in_front))), none_bad_with (g ∷ gs) a.1 (λ e i. later e (h e (in_rest i))))
+             (entry_good f (w f) (weighed table (with_behind (below_marks (map w (g ∷ gs))) (g ∷ gs) marks) (with_behind (below_marks (map w (g ∷ gs))) (map w (g ∷ gs)) weights)) (some_fine (f ∷ g ∷ gs) f (length (weighed table (with_behind (below_marks (map w (g ∷ gs))) (g ∷ gs) marks) (with_behind (below_marks (map w (g ∷ gs))) (map w (g ∷ gs)) weights))) (h f in_front) (behind f g gs a (h f in_front))), none_bad_with (g ∷ gs) a.1 (λ e i. later e (h e (in_rest i))))
         where
           later : (e : Sym) → FineIn (f ∷ g ∷ gs) e (w e) → FineIn (g ∷ gs) e (w e)
-          later e k = record { most = k.most; constant = k.constant; vanishing = k.vanishing }
+          later e k = record { bounded = k.bounded; constant = k.constant; vanishing = k.vanishing }
 
 -- the heaviest constant
 module _ (table : Table) (w : Sym → ℕ) where

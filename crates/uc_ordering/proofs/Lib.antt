@@ -1,7 +1,8 @@
 pub mod Once
+pub mod NumberLists
 pub mod Made
-pub mod Again
 pub mod Steps
+pub mod Again
 pub mod Lists
 pub mod Signatures
 pub mod Named
@@ -9,3 +10,6 @@ pub mod Sorted
 pub mod Totals
 pub mod Marks
 pub mod GoodWeights
+pub mod Fitting
+pub mod Choosing
+pub mod Lasts

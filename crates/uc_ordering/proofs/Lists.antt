@@ -1,5 +1,5 @@
 -- Members of lists, and lists without a double.
-use Rattle.std.proofs.Common.{◌≡◌, ℕ, zero, suc, ◌+◌, ◌<◌, Bool, true, false, List, [], ◌∷◌, ◌++◌, length, take, drop, filter, not, refl, sym, ap, ◌∙◌, subst, ◌⊎◌, inl, inr, take-append-drop}
+use Rattle.std.proofs.Common.{◌≡◌, ℕ, zero, suc, ◌+◌, ◌<◌, Bool, true, false, List, [], ◌∷◌, ◌++◌, length, take, drop, filter, not, refl, sym, ap, ◌∙◌, subst, ◌⊎◌, inl, inr, if◌then◌else◌}
 use Rattle.uc_order.specs.Members.{In, in_front, in_rest, Each, AreDistinct}
 
 module _ {A : Type 0} where
@@ -43,10 +43,6 @@ module _ {A : Type 0} where
   distinct-apart (x ∷ xs) ys a _ in_front j = a.0 (In-right xs ys x j)
   distinct-apart (z ∷ xs) ys a x (in_rest i) j = distinct-apart xs ys a.1 x i j
 
-  bool_cases : (b : Bool) → (b ≡ true) ⊎ (b ≡ false)
-  bool_cases true = inl refl
-  bool_cases false = inr refl
-
   pub In-filter : (p : A → Bool) (xs : List A) (x : A) → In xs x → p x ≡ true → In (filter p xs) x
   In-filter p [] x i e = elim i [ ]
   In-filter p (x ∷ xs) _ in_front e = rw e in_front
@@ -56,22 +52,23 @@ module _ {A : Type 0} where
       go true j = in_rest j
       go false j = j
 
+  -- it is the first, or among the rest
+  pub in_case : (y : A) (ys : List A) (x : A) (Z : Type 0) → In (y ∷ ys) x → (y ≡ x → Z) → (In ys x → Z) → Z
+  in_case y ys _ Z in_front h k = h refl
+  in_case y ys x Z (in_rest j) h k = k j
+
   pub filter-In : (p : A → Bool) (xs : List A) (x : A) → In (filter p xs) x → In xs x × (p x ≡ true)
   filter-In p [] x i = elim i [ ]
   filter-In p (y ∷ xs) x i = go (p y) refl i (filter-In p xs x)
     where
-      first : (ys : List A) → In (y ∷ ys) x → p y ≡ true → (In ys x → In xs x × (p x ≡ true)) → In (y ∷ xs) x × (p x ≡ true)
-      first ys in_front e later = (in_front, e)
-      first ys (in_rest j) e later = let r = later j in (in_rest r.0, r.1)
-
       go : (b : Bool) → p y ≡ b → In (if b then y ∷ filter p xs else filter p xs) x → (In (filter p xs) x → In xs x × (p x ≡ true)) → In (y ∷ xs) x × (p x ≡ true)
-      go true e j later = first (filter p xs) j e later
+      go true e j later = in_case y (filter p xs) x (In (y ∷ xs) x × (p x ≡ true)) j (λ q. (subst (In (y ∷ xs)) q in_front, subst (λ (z : A). p z ≡ true) q e)) (λ k. let r = later k in (in_rest r.0, r.1))
       go false e j later = let r = later j in (in_rest r.0, r.1)
 
   pub distinct-filter : (p : A → Bool) (xs : List A) → AreDistinct xs → AreDistinct (filter p xs)
   distinct-filter p [] a = tt
-  distinct-filter p (x ∷ xs) a = go (p x)
+  distinct-filter p (x ∷ xs) a = go (p x) (distinct-filter p xs a.1)
     where
-      go : (b : Bool) → AreDistinct (if b then x ∷ filter p xs else filter p xs)
-      go true = (λ i. a.0 (filter-In p xs x i).0, distinct-filter p xs a.1)
-      go false = distinct-filter p xs a.1
+      go : (b : Bool) → AreDistinct (filter p xs) → AreDistinct (if b then x ∷ filter p xs else filter p xs)
+      go true d = (λ i. a.0 (filter-In p xs x i).0, d)
+      go false d = d

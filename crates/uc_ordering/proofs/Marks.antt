@@ -1,11 +1,12 @@
 -- The encoding's symbols are three, and none of the signature's.
 use Rattle.std.proofs.Common.{◌≡◌, ℕ, zero, suc, List, [], ◌∷◌, ◌++◌, get_or, codes, Option, Some, None, refl, sym, ap, ◌∙◌, subst, arith}
+use Rattle.std.proofs.lemmas.Option.{slice_get_within}
 use Rattle.uc_term.specs.declared.node.Sym.{Sym}
 use Rattle.uc_term.specs.declared.fresh.Fresh.{Fresh}
 use Rattle.uc_term.specs.declared.signature.Signature.{Signature}
 use Rattle.uc_term.specs.Table.{Table, Has, name_of, arity_of}
 use Rattle.uc_term.specs.Signatures.{first_named, IsFreshFor, tried_name}
-use Rattle.uc_order.specs.Members.{In, in_front, in_rest, AreDistinct}
+use Rattle.uc_order.specs.Members.{Each, In, in_front, in_rest, AreDistinct}
 use Rattle.uc_ordering.specs.Premises.{AreMarks}
 use Rattle.uc_ordering.proofs.Signatures.{symbol_name, symbol_arity, named_none}
 use Rattle.uc_ordering.proofs.Totals.{AreApart}
@@ -19,14 +20,17 @@ false_begins zero = refl
 false_begins (suc n) = refl
 
 module _ (table : Table) (signature : Signature) (marks : Fresh) (m : AreMarks table signature (Some marks)) where
-  yes_arity : arity_of table marks.yes ≡ 0
+  pub yes_arity : arity_of table marks.yes ≡ 0
   yes_arity = symbol_arity table marks.yes (tried_name (codes "true") m.1.number) 0 m.1.symbol
 
-  no_arity : arity_of table marks.no ≡ 0
+  pub no_arity : arity_of table marks.no ≡ 0
   no_arity = symbol_arity table marks.no (tried_name (codes "false") m.2.number) 0 m.2.symbol
 
-  eq_arity : arity_of table marks.eq ≡ 2
+  pub eq_arity : arity_of table marks.eq ≡ 2
   eq_arity = symbol_arity table marks.eq (tried_name (codes "eq") m.0.number) 2 m.0.symbol
+
+  pub marks_have : Each (Has table) (marks.yes ∷ marks.no ∷ marks.eq ∷ [])
+  marks_have = (slice_get_within table marks.yes.0 _ m.1.symbol, (slice_get_within table marks.no.0 _ m.2.symbol, (slice_get_within table marks.eq.0 _ m.0.symbol, tt)))
 
   yes_not_no : marks.yes ≡ marks.no → ⊥
   yes_not_no e =

@@ -36,7 +36,7 @@ any_in x [] e = absurd (false≢true e)
 any_in x (y ∷ xs) e = go (bytes_eq x y) refl e (any_in x xs)
   where
     here : x ≡ y → In (y ∷ xs) x
-    here refl = in_front
+    here same = let P : List ℕ → Type 0 = In (y ∷ xs) in subst P (sym same) in_front
 
     go : (b : Bool) → bytes_eq x y ≡ b → (b || list_any (bytes_eq x) xs) ≡ true → (list_any (bytes_eq x) xs ≡ true → In xs x) → In (y ∷ xs) x
     go true q e later = here ((bytes_decides x y).0 q)

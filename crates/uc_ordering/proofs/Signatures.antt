@@ -31,10 +31,10 @@ has_each table (f ∷ fs) h = (h zero f refl, has_each table fs (λ i g e. h (su
 
 module _ (table : Table) where
   pub symbol_name : (f : Sym) (name : List ℕ) (n : ℕ) → IsSymbol table f name n → name_of table f ≡ name
-  symbol_name f name n e = ap (λ o. (unwrap_or o (record { name = []; arity = 0 })).name) e
+  symbol_name f name n e = ap (λ (o : Option Entry). (unwrap_or o (record { name = []; arity = 0 })).name) e
 
   pub symbol_arity : (f : Sym) (name : List ℕ) (n : ℕ) → IsSymbol table f name n → arity_of table f ≡ n
-  symbol_arity f name n e = ap (λ o. (unwrap_or o (record { name = []; arity = 0 })).arity) e
+  symbol_arity f name n e = ap (λ (o : Option Entry). (unwrap_or o (record { name = []; arity = 0 })).arity) e
 
   -- the symbol that is found has the name
   pub found_is : (fs : List Sym) (name : List ℕ) (f : Sym) → first_named table name fs ≡ Some f → In fs f × (name_of table f ≡ name)
@@ -42,7 +42,7 @@ module _ (table : Table) where
   found_is (g ∷ gs) name f e = go (bytes_eq (name_of table g) name) refl e (found_is gs name f)
     where
       here : g ≡ f → name_of table g ≡ name → In (g ∷ gs) f × (name_of table f ≡ name)
-      here refl q = (in_front, q)
+      here same q = (let P : Sym → Type 0 = In (g ∷ gs) in subst P same in_front, ap (name_of table) (sym same) ∙ q)
 
       go : (b : Bool) → bytes_eq (name_of table g) name ≡ b → (if b then Some g else first_named table name gs) ≡ Some f → (first_named table name gs ≡ Some f → In gs f × (name_of table f ≡ name)) → In (g ∷ gs) f × (name_of table f ≡ name)
       go true q e later = here (some_same e) ((bytes_decides (name_of table g) name).0 q)
@@ -115,7 +115,7 @@ module _ (table : Table) where
   constant_in (f ∷ fs) c e = go (arity_of table f == 0) refl e (constant_in fs c)
     where
       here : f ≡ c → arity_of table f ≡ 0 → In (f ∷ fs) c × (arity_of table c ≡ 0)
-      here refl z = (in_front, z)
+      here same z = (let P : Sym → Type 0 = In (f ∷ fs) in subst P same in_front, ap (arity_of table) (sym same) ∙ z)
 
       go : (b : Bool) → (arity_of table f == 0) ≡ b → (if b then Some f else first_constant table fs) ≡ Some c → (first_constant table fs ≡ Some c → In fs c × (arity_of table c ≡ 0)) → In (f ∷ fs) c × (arity_of table c ≡ 0)
       go true q e later = here (some_same e) (eqb-true (arity_of table f) 0 q)
@@ -175,3 +175,6 @@ module _ (table : Table) where
       let grows : Grows table table = ([], sym (append-nil table)) in
       let has = (gathers-grows table table grows i.gathers refl (λ n f e. absurd cc) (have_from table table grows s.terms 0 s.over)).1 in
       (i.symbols, completed i.symbols signature (has_each table i.symbols has) (gathered_apart i.gathers i.symbols refl none_apart) i.completes)
+
+  pub signed_own : (signature : Signature) → IsSignature table signature → Signed (own_symbols signature) signature
+  signed_own signature i = let r = signed signature i in subst (λ (o : List Sym). Signed o signature) (sym r.1.own_is) r.1

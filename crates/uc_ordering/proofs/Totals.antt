@@ -1,5 +1,5 @@
 -- The precedence that options name is total on the signature, with and without the encoding's symbols.
-use Rattle.std.proofs.Common.{◌≡◌, ℕ, zero, suc, ◌+◌, ◌<◌, Bool, true, false, not, List, [], ◌∷◌, ◌++◌, length, take, drop, get_or, codes, Option, Some, None, is_none, find, map, refl, sym, ap, ◌∙◌, subst, arith, ◌⊎◌, inl, inr, take-append-drop}
+use Rattle.std.proofs.Common.{◌≡◌, ℕ, zero, suc, ◌+◌, ◌<◌, Bool, true, false, not, List, [], ◌∷◌, ◌++◌, length, take, drop, get_or, codes, Option, Some, None, is_none, find, map, refl, sym, ap, ◌∙◌, subst, arith, ◌⊎◌, inl, inr, take-append-drop, append_assoc}
 use Rattle.std.proofs.lemmas.Bool.{false≢true}
 use Rattle.uc_term.specs.declared.node.Sym.{Sym}
 use Rattle.uc_term.specs.declared.fresh.Fresh.{Fresh}
@@ -38,10 +38,10 @@ module _ (table : Table) (own : List Sym) (signature : Signature) (s : Signed ta
     | inr none ↦ absurd (let g = known_symbol name j in let r : Some g.0 ≡ None = sym g.1 ∙ ap (λ n. first_named table n own) e ∙ none in cc)
   ]
 
-  precedence : List Sym
+  abbrev pub precedence : List Sym
   precedence = precedence_of table own signature.symbols names
 
-  rest : List Sym
+  abbrev pub rest : List Sym
   rest = unnamed table names signature.symbols
 
   rest_in : (f : Sym) → In (by_arity table rest) f → In signature.symbols f × (is_named table names f ≡ false)
@@ -74,44 +74,39 @@ pub record AreApart (fs marks : List Sym) : Type 0 where
   pub others : (f : Sym) → In fs f → In marks f → ⊥
 
 -- a precedence with more symbols somewhere in it
-pub total_with : (fs marks precedence : List Sym) (n : ℕ) → IsTotalOn fs precedence → AreApart fs marks → IsTotalOn (fs ++ marks) (with_behind n precedence marks)
-total_with fs marks precedence n t a = (each_in (In (fs ++ marks)) made known, distinct, each_in (In made) (fs ++ marks) has)
-  where
-    before : List Sym
-    before = take n precedence
+module _ (fs marks list : List Sym) (n : ℕ) (t : IsTotalOn fs list) (a : AreApart fs marks) where
+  whole : take n list ++ drop n list ≡ list
+  whole = take-append-drop n list
 
-    after : List Sym
-    after = drop n precedence
+  both : AreDistinct (take n list ++ drop n list)
+  both = let P : List Sym → Type 0 = AreDistinct in subst P (sym whole) t.1
 
-    made : List Sym
-    made = with_behind n precedence marks
+  old : (f : Sym) → In (take n list ++ drop n list) f → In fs f
+  old f i = in_each (In fs) list f t.0 (let P : List Sym → Type 0 = λ l. In l f in subst P whole i)
 
-    whole : before ++ after ≡ precedence
-    whole = take-append-drop n precedence
+  known : (f : Sym) → In (take n list ++ (marks ++ drop n list)) f → In (fs ++ marks) f
+  known f i = elim (In-cases (take n list) (marks ++ drop n list) f i) [
+    | inl j ↦ In-left fs marks f (old f (In-left (take n list) (drop n list) f j))
+    | inr k ↦ elim (In-cases marks (drop n list) f k) [ inl j ↦ In-right fs marks f j | inr j ↦ In-left fs marks f (old f (In-right (take n list) (drop n list) f j)) ]
+  ]
 
-    both : AreDistinct (before ++ after)
-    both = let P : List Sym → Type 0 = AreDistinct in subst P (sym whole) t.1
+  has : (f : Sym) → In (fs ++ marks) f → In (take n list ++ (marks ++ drop n list)) f
+  has f i = elim (In-cases fs marks f i) [
+    | inl j ↦ (let k = in_each (In list) fs f t.2 j in let P : List Sym → Type 0 = λ l. In l f in elim (In-cases (take n list) (drop n list) f (subst P (sym whole) k)) [
+      | inl l ↦ In-left (take n list) (marks ++ drop n list) f l
+      | inr l ↦ In-right (take n list) (marks ++ drop n list) f (In-right marks (drop n list) f l)
+    ])
+    | inr j ↦ In-right (take n list) (marks ++ drop n list) f (In-left marks (drop n list) f j)
+  ]
 
-    old : (f : Sym) → In (before ++ after) f → In fs f
-    old f i = in_each (In fs) precedence f t.0 (let P : List Sym → Type 0 = λ l. In l f in subst P whole i)
+  distinct : AreDistinct (take n list ++ (marks ++ drop n list))
+  distinct =
+      distinct-append (take n list) (marks ++ drop n list) (distinct-left (take n list) (drop n list) both)
+          (distinct-append marks (drop n list) a.three (distinct-right (take n list) (drop n list) both) (λ f i j. a.others f (old f (In-right (take n list) (drop n list) f j)) i))
+          (λ f i k. elim (In-cases marks (drop n list) f k) [ inl j ↦ a.others f (old f (In-left (take n list) (drop n list) f i)) j | inr j ↦ distinct-apart (take n list) (drop n list) both f i j ])
 
-    known : (f : Sym) → In made f → In (fs ++ marks) f
-    known f i = elim (In-cases before (marks ++ after) f i) [
-      | inl j ↦ In-left fs marks f (old f (In-left before after f j))
-      | inr k ↦ elim (In-cases marks after f k) [ inl j ↦ In-right fs marks f j | inr j ↦ In-left fs marks f (old f (In-right before after f j)) ]
-    ]
-
-    has : (f : Sym) → In (fs ++ marks) f → In made f
-    has f i = elim (In-cases fs marks f i) [
-      | inl j ↦ (let k = in_each (In precedence) fs f t.2 j in let P : List Sym → Type 0 = λ l. In l f in elim (In-cases before after f (subst P (sym whole) k)) [
-        | inl l ↦ In-left before (marks ++ after) f l
-        | inr l ↦ In-right before (marks ++ after) f (In-right marks after f l)
-      ])
-      | inr j ↦ In-right before (marks ++ after) f (In-left marks after f j)
-    ]
-
-    distinct : AreDistinct made
-    distinct =
-        distinct-append before (marks ++ after) (distinct-left before after both)
-            (distinct-append marks after a.three (distinct-right before after both) (λ f i j. a.others f (old f (In-right before after f j)) i))
-            (λ f i k. elim (In-cases marks after f k) [ inl j ↦ a.others f (old f (In-left before after f i)) j | inr j ↦ distinct-apart before after both f i j ])
+  pub total_with : IsTotalOn (fs ++ marks) (with_behind n list marks)
+  total_with =
+      let made : IsTotalOn (fs ++ marks) (take n list ++ (marks ++ drop n list)) = (each_in (In (fs ++ marks)) (take n list ++ (marks ++ drop n list)) known, distinct, each_in (In (take n list ++ (marks ++ drop n list))) (fs ++ marks) has) in
+      let P : List Sym → Type 0 = IsTotalOn (fs ++ marks) in
+      subst P (sym (append_assoc (take n list) marks (drop n list))) made

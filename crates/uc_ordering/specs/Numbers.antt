@@ -1,12 +1,12 @@
 -- Numbers that a map has for names.
-use Rattle.std.specs.Prelude.{◌≡◌, ℕ, Bool, false, List, Option, Some, None, Vec, bytes_eq, find, is_none, option_map}
+use Rattle.std.specs.Prelude.{◌≡◌, ℕ, Bool, List, Option, Some, Vec, bytes_eq, find, is_none, option_map}
 use Rattle.std.specs.Map.{lookup}
 use Rattle.std.specs.declared.alloc.Global.{Global}
 use Rattle.uc_term.specs.declared.node.Sym.{Sym}
 use Rattle.uc_ordering.specs.declared.fault.ChoiceFault.{ChoiceFault}
 use Rattle.uc_ordering.specs.declared.fault.ChoiceFault.TheVariants.{UnknownSymbol, NotTotal, BadWeight, NoMemory}
 use Rattle.uc_ordering.specs.Choice.{first_again}
-use Rattle.uc_ordering.specs.Weights.{is_bad}
+use Rattle.uc_ordering.specs.Weights.{is_bad_at}
 use Rattle.uc_term.specs.Table.{Table}
 
 -- the number at this name
@@ -26,7 +26,7 @@ IsLacking entries names NoMemory = Unit {0}
 
 -- whether the weight is bad for the symbol that has this name here
 abbrev pub is_bad_in : Table → ℕ → List (Vec ℕ Global × ℕ) → List Sym → List ℕ × ℕ → Bool
-is_bad_in table w0 entries precedence p = elim (symbol_in entries p.0) [ None ↦ false | Some f ↦ is_bad table w0 precedence f p.1 ]
+is_bad_in table w0 entries precedence p = is_bad_at table w0 precedence (symbol_in entries p.0) p.1
 
 -- a fault is that one of these weights is the first that is bad; want of memory is free
 abbrev pub IsBadAmong : Table → ℕ → List (Vec ℕ Global × ℕ) → List Sym → List (List ℕ × ℕ) → ChoiceFault → Type 0

@@ -23,9 +23,14 @@ module _ (table : Table) (w0 : ℕ) where
   abbrev pub is_bad : List Sym → Sym → ℕ → Bool
   is_bad precedence f w = nat_lt MAX_WEIGHT w || (((arity_of table f == 0) && nat_lt w w0) || ((w == 0) && not ((arity_of table f == 1) && is_last precedence f)))
 
+  -- the same, where there is a symbol
+  abbrev pub is_bad_at : List Sym → Option Sym → ℕ → Bool
+  is_bad_at precedence None w = false
+  is_bad_at precedence (Some f) w = is_bad precedence f w
+
   -- the same of a weight that is given to a name of one of the own symbols
   abbrev pub is_bad_for : List Sym → List Sym → List ℕ × ℕ → Bool
-  is_bad_for own precedence p = elim (first_named table p.0 own) [ None ↦ false | Some f ↦ is_bad precedence f p.1 ]
+  is_bad_for own precedence p = is_bad_at precedence (first_named table p.0 own) p.1
 
   module _ (given : List (List ℕ × ℕ)) where
     -- a symbol to whose name no weight is given weighs w0
@@ -34,5 +39,4 @@ module _ (table : Table) (w0 : ℕ) where
 
     -- the weight of the heaviest constant
     abbrev pub heaviest : List Sym → ℕ
-    heaviest [] = 0
-    heaviest (f ∷ fs) = if arity_of table f == 0 then max (weight_of f) (heaviest fs) else heaviest fs
+    heaviest fs = fold (λ n f. if arity_of table f == 0 then max n (weight_of f) else n) 0 fs

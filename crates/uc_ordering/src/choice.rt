@@ -2,7 +2,7 @@
 
 ghost use Rattle.std.specs.Prelude.{◌≡◌, ◌≤◌, ℕ, List, [], ◌∷◌, None, length, find, IfOk, IfErr, IfSome, OnOk};
 ghost use Rattle.uc_term.specs.Table.{Has};
-ghost use Rattle.uc_ordering.specs.Choice.{IsChosen, IsChoiceFault, all_symbols, own_symbols, spec_of, with_behind, below_marks};
+ghost use Rattle.uc_ordering.specs.Choice.{IsChosen, IsChoiceFault, all_symbols, own_symbols, spec_of, with_behind, below_marks, ends_in_zero};
 ghost use Rattle.uc_ordering.specs.Numbers.{symbol_in, is_bad_in, IsBadAmong};
 ghost use Rattle.uc_ordering.specs.Fits.{Fits};
 ghost use Rattle.uc_ordering.specs.Premises.{IsSignature, AreMarks};
@@ -137,9 +137,19 @@ fn below_marks(weights: &[u32]) -> usize
     ensures value { result ≡ below_marks weights.now }
     ensures within { result ≤ length weights.now }
 {
+    if ends_in_zero(weights) {
+        weights.len().saturating_sub(1)
+    } else {
+        weights.len()
+    }
+}
+
+fn ends_in_zero(weights: &[u32]) -> bool
+    ensures { result ≡ ends_in_zero weights.now }
+{
     match weights.last() {
-        Some(0) => weights.len() - 1,
-        _ => weights.len(),
+        Some(weight) => *weight == 0,
+        None => false,
     }
 }
 

@@ -71,7 +71,7 @@ fn is_last(precedence: &[Sym], f: Sym) -> bool
     ensures { result ≡ is_last precedence.now f }
 {
     match precedence.last() {
-        Some(g) => *g == f,
+        Some(g) => g.0 == f.0,
         None => false,
     }
 }
