@@ -48,7 +48,8 @@ fn lists_orders_of_variables(rt: HostRuntime) -> Result<(), Fail> {
     assert!(rt; is_listed(rt.alloc(), &[], b" ")?);
     assert!(rt; is_listed(rt.alloc(), &[4], b"4| ")?);
     assert!(rt; is_listed(rt.alloc(), &[0, 1], b"1|0| 01| 0|1| ")?);
-    let three = b"2|1|0| 12|0| 1|2|0| 1|02| 1|0|2| 2|01| 012| 01|2| 2|0|1| 02|1| 0|2|1| 0|12| 0|1|2| ";
+    let three =
+        b"2|1|0| 12|0| 1|2|0| 1|02| 1|0|2| 2|01| 012| 01|2| 2|0|1| 02|1| 0|2|1| 0|12| 0|1|2| ";
     assert!(rt; is_listed(rt.alloc(), &[0, 1, 2], three)?);
     assert_eq!(rt; var_orders(rt.alloc(), &[0, 1, 2, 3])?.len(), 75);
     assert_eq!(rt; var_orders(rt.alloc(), &[0, 1, 2, 3, 4])?.len(), 541);
@@ -70,9 +71,17 @@ fn two_classes(alloc: Global) -> Result<VarOrder, AllocError> {
 #[test]
 fn replaces_variables_of_a_class(rt: HostRuntime) -> Result<(), Fail> {
     let cases = two_classes(rt.alloc())?;
-    let vars = [Term::var(rt.alloc(), 0)?, Term::var(rt.alloc(), 1)?, Term::var(rt.alloc(), 7)?];
+    let vars = [
+        Term::var(rt.alloc(), 0)?,
+        Term::var(rt.alloc(), 1)?,
+        Term::var(rt.alloc(), 7)?,
+    ];
     let term = Term::app(rt.alloc(), F, &vars)?;
-    let want = [Term::var(rt.alloc(), 2)?, Term::var(rt.alloc(), 1)?, Term::var(rt.alloc(), 7)?];
+    let want = [
+        Term::var(rt.alloc(), 2)?,
+        Term::var(rt.alloc(), 1)?,
+        Term::var(rt.alloc(), 7)?,
+    ];
     let want = Term::app(rt.alloc(), F, &want)?;
     assert!(rt; represent(rt.alloc(), &cases, &term)?.same(&want));
     assert_eq!(rt; representative(&cases, 0), 2);
@@ -87,11 +96,20 @@ fn replaces_variables_of_a_class(rt: HostRuntime) -> Result<(), Fail> {
 #[test]
 fn tests_precedences(rt: HostRuntime) {
     let signature = [A, F, B];
-    assert_eq!(rt; check_precedence(rt.alloc(), &signature, &[B, A, F]), Ok(()));
+    assert_eq!(rt;
+        check_precedence(rt.alloc(), &signature, &[B, A, F]),
+        Ok(())
+    );
     let unknown = Err(OrderFault::UnknownSymbol(Sym(2)));
-    assert_eq!(rt; check_precedence(rt.alloc(), &signature, &[B, B, Sym(2), Sym(9)]), unknown);
+    assert_eq!(rt;
+        check_precedence(rt.alloc(), &signature, &[B, B, Sym(2), Sym(9)]),
+        unknown
+    );
     let twice = Err(OrderFault::NotTotal(F));
-    assert_eq!(rt; check_precedence(rt.alloc(), &signature, &[F, B, B, F]), twice);
+    assert_eq!(rt;
+        check_precedence(rt.alloc(), &signature, &[F, B, B, F]),
+        twice
+    );
     let missing = Err(OrderFault::NotTotal(A));
     assert_eq!(rt; check_precedence(rt.alloc(), &signature, &[B]), missing);
 }
