@@ -1,7 +1,6 @@
 -- A list of nodes is one whole term where the count of terms that are still to come falls to 0 at its end and not before.
-use Rattle.std.proofs.Common.{◌≡◌, ℕ, zero, suc, get_or, subst, sym, ◌+◌, ◌-◌, ◌<◌, ◌≤◌, List, [], ◌∷◌, ◌++◌, length, take, drop, refl, ap, ap₂, ◌∙◌, arith, append-nil}
+use Rattle.std.proofs.Common.{◌≡◌, ℕ, zero, suc, get_or, subst, sym, ◌+◌, ◌-◌, ◌<◌, ◌≤◌, List, [], ◌∷◌, length, take, drop, refl, ap, ap₂, ◌∙◌, arith, append-nil}
 use Rattle.std.proofs.lemmas.List.{length-take-le, length-drop, drop_all}
-use Rattle.uc_term.specs.declared.node.Sym.{Sym}
 use Rattle.uc_term.specs.declared.node.Node.{Node}
 use Rattle.uc_term.specs.declared.node.Node.TheVariants.{Var, App}
 use Rattle.uc_term.specs.Tree.{Tree, of_list, count}
