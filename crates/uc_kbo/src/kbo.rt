@@ -4,7 +4,7 @@ ghost use Rattle.std.specs.Prelude.{◌≡◌, ◌≤◌, length, IfOk, IfErr, O
 ghost use Rattle.uc_term.specs.Table.{Has};
 ghost use Rattle.uc_order.specs.Members.{Each};
 ghost use Rattle.uc_order.specs.Precedence.{IsTotalOn};
-ghost use Rattle.uc_kbo.specs.Faults.{weighed, HasConstant, IsKboFault};
+ghost use Rattle.uc_kbo.specs.Faults.{weighed, HasConstant, NoneBad, IsKboFault};
 ghost use Rattle.uc_kbo.specs.Weights.{IsTable, symbol_or, least_constant, kbo_meaning};
 ghost use Rattle.uc_kbo.specs.Valid.{IsTied, IsTable-prop, IsTied-prop};
 ghost use Rattle.uc_kbo.specs.Laws.{kbo_laws};
@@ -49,6 +49,7 @@ impl Kbo {
         requires constant { HasConstant symbols.now signature.now }
         ensures ok { IfOk result (λ k. (k.weights.w0 ≡ w0) × (k.entries.items ≡ weighed symbols.now precedence.now weights.now)) }
         ensures total { OnOk result (IsTotalOn signature.now precedence.now) }
+        ensures weights { OnOk result (NoneBad w0 (weighed symbols.now precedence.now weights.now)) }
         ensures err { IfErr result (IsKboFault symbols.now signature.now w0 weights.now precedence.now) }
     {
         check_precedence(alloc, signature, precedence)?;
