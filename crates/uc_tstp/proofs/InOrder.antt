@@ -81,8 +81,8 @@ same_line line up =
     let all : Within (sides ++ source_variables line.source) xs = λ x e. among_firsts [] (sides ++ source_variables line.source) x refl e in
     let of_sides : Within sides xs = front xs up sides (source_variables line.source) all in
     ap₂ (λ (s : LineSource) (p : Tree × Tree). record { name = line.name; source = s; left = p.0; right = p.1; positive = line.positive })
-        (same_source xs up line.source (behind xs up sides (source_variables line.source) all))
-        (ap₂ (λ (l r : Tree). (l, r)) (same_term xs up line.left (front xs up (variables line.left) (variables line.right) of_sides)) (same_term xs up line.right (behind xs up (variables line.left) (variables line.right) of_sides)))
+    (same_source xs up line.source (behind xs up sides (source_variables line.source) all))
+    (ap₂ (λ (l r : Tree). (l, r)) (same_term xs up line.left (front xs up (variables line.left) (variables line.right) of_sides)) (same_term xs up line.right (behind xs up (variables line.left) (variables line.right) of_sides)))
 
 same_lines : (lines : List Line) → AreInOrder lines → map renumbered_line lines ≡ lines
 same_lines [] h = refl
