@@ -18,7 +18,7 @@ use Rattle.uc_top.proofs.AnswersOnce.{built, check_or_show, only_name}
 use Rattle.uc_top.proofs.Everywhere.{isnt_refused, shown_alike}
 
 -- where no write failed the whole text was told
-told_whole : {old new : Option (List ℕ)} {before now : ℕ} {text : List ℕ} {status result : ℕ} → (Rose before now → ⊥) → IsTold old new before now text status result → Appends old new text × (result ≡ status)
+pub told_whole : {old new : Option (List ℕ)} {before now : ℕ} {text : List ℕ} {status result : ℕ} → (Rose before now → ⊥) → IsTold old new before now text status result → Appends old new text × (result ≡ status)
 told_whole well (told whole) = (whole, refl)
 told_whole well (cut_short short part rose) = absurd (well rose)
 
