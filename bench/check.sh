@@ -5,7 +5,7 @@ set -euo pipefail
 cd "$(dirname "$0")/.."
 folder=$(mktemp -d)
 trap 'rm -rf "$folder"' EXIT
-(cd crates/uc_main && rt run >/dev/null 2>&1)
+(cd crates/uc_main && rt run -- check data/r1.p data/r1.s >/dev/null 2>&1)
 ours=$PWD/crates/uc_main/out/uc_main
 cp crates/uc_main/data/r1.p "$folder"
 cd "$folder"

@@ -6,7 +6,7 @@ set -euo pipefail
 cd "$(dirname "$0")/.."
 folder=$(mktemp -d)
 trap 'rm -rf "$folder"' EXIT
-(cd crates/uc_main && rt run >/dev/null 2>&1)
+(cd crates/uc_main && rt run -- check data/r1.p data/r1.s >/dev/null 2>&1)
 ours=crates/uc_main/out/uc_main
 seconds() {
     (TIMEFORMAT='%U %S'; time "$@" >/dev/null 2>&1) 2>&1 | awk '{ printf "%.3f\n", $1 + $2 }'

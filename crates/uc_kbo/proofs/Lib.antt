@@ -5,3 +5,4 @@ pub mod Around
 pub mod Covering
 pub mod Stack
 pub mod Tables
+pub mod Known

@@ -11,3 +11,4 @@ pub mod Laws
 pub mod Runs
 pub mod Faults
 pub mod Valid
+pub mod Known

@@ -6,6 +6,8 @@ mod covers;
 mod kbo;
 mod run;
 mod table;
+#[cfg(test)]
+mod tests;
 mod weights;
 
 pub use kbo::Kbo;

@@ -8,10 +8,12 @@ use thiserror::Error;
 use uc_clause::{ClauseFault, Name, Place, What};
 use uc_term::Text;
 
-/// Why a problem isn't loaded. `file` is the name under which the file in question was fetched.
+/// Why a problem isn't loaded. `file` is the name under which the file in question was fetched, but of an include whose
+/// file is absent it is the name that the include gives.
 #[derive(Debug, Drop, Error)]
 pub enum LoadFault {
-    /// The library has none of the files that a name may stand for: the problem's, or that of the include at this place.
+    /// The library has none of the files that a name may stand for: the problem's, or that of the include in this file at
+    /// this place.
     #[error("absent")]
     Absent {
         file: Text,

@@ -24,3 +24,4 @@ pub mod Grown
 pub mod Upwards
 pub mod Finds
 pub mod NameLists
+pub mod TakenNames

@@ -40,6 +40,11 @@ HasNodes table ns = (i : ℕ) (f : Sym) (n : ℕ) → slice_get ns i ≡ Some (A
 abbrev pub AreOf : Table → List Tree → Type 0
 AreOf table ts = (i : ℕ) (t : Tree) → slice_get ts i ≡ Some t → IsOf table t
 
+-- these are the names of the symbols, in whatever order
+pub record AreNamesOf (table : Table) (fs : List Sym) (names : List (List ℕ)) : Type 0 where
+  pub all : (i : ℕ) (f : Sym) → slice_get fs i ≡ Some f → (j : ℕ) × (slice_get names j ≡ Some (name_of table f))
+  pub only : (j : ℕ) (name : List ℕ) → slice_get names j ≡ Some name → (i : ℕ) × (f : Sym) × (slice_get fs i ≡ Some f) × (name_of table f ≡ name)
+
 -- the symbols are the table's, and these are their names
 pub record IsNamed (table names : Table) (fs : List Sym) : Type 0 where
   pub has_all : HasAll table fs

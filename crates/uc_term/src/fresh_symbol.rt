@@ -1,10 +1,12 @@
 //! Symbols whose names no symbol of a list has.
 
-ghost use Rattle.std.specs.Prelude.{◌≡◌, ℕ, ◌<◌, IfOk, OnErr, IsTrue, ◌↔◌};
-ghost use Rattle.uc_term.specs.Table.{Grows, AddsAtMost};
+ghost use Rattle.std.specs.Prelude.{◌≡◌, ℕ, ◌<◌, List, IfOk, OnErr, IsTrue, ◌↔◌};
+ghost use Rattle.uc_term.specs.declared.node.Sym.{Sym as AnySym};
+ghost use Rattle.uc_term.specs.Table.{Table, Grows, AddsAtMost};
 ghost use Rattle.uc_term.specs.Signatures.{tried_name, IsFree, IsFreshFor};
-ghost use Rattle.uc_term.specs.Gathering.{HasAll};
+ghost use Rattle.uc_term.specs.Gathering.{HasAll, AreNamesOf};
 
+use crate::names::Names;
 use crate::{Sym, Symbols};
 use itoa::Buffer;
 use std::alloc::{AllocError, Global};
@@ -24,10 +26,11 @@ pub fn add_fresh(
     ensures grows { Grows symbols.old symbols.new }
     ensures err { OnErr result (symbols.new ≡ symbols.old) }
 {
+    let names = taken_names(alloc, symbols, taken)?;
     // some number is free long before the last one, since a signature has at most 60,000 symbols
     for number in 0..u32::MAX {
         let name = name_tried(alloc, word, number)?;
-        if is_free(symbols, taken, name.as_slice()) {
+        if is_free(&names, name.as_slice()) {
             return symbols.intern(alloc, name.as_slice(), arity);
         }
     }
@@ -47,15 +50,21 @@ fn name_tried(alloc: Global, word: &[u8], number: u32) -> Result<Vec<u8>, AllocE
     Ok(name)
 }
 
-/// Whether none of the symbols has this name.
-fn is_free(symbols: &Symbols, taken: &[Sym], name: &[u8]) -> bool
+/// The names of the symbols.
+fn taken_names(alloc: Global, symbols: &Symbols, taken: &[Sym]) -> Result<Names, AllocError>
     requires { HasAll symbols.now taken.now }
-    ensures { IsTrue result ↔ IsFree symbols.now taken.now name.now }
+    ensures { IfOk result (AreNamesOf symbols.now taken.now) }
 {
+    let mut names = Names::new(alloc);
     for f in taken {
-        if symbols.name(*f) == name {
-            return false;
-        }
+        names.insert(alloc, symbols.name(*f))?;
     }
-    true
+    Ok(names)
+}
+
+/// Whether none of the symbols whose names these are has this name.
+fn is_free(names: &Names, name: &[u8]) -> bool
+    ensures { (table : Table) (fs : List AnySym) → AreNamesOf table fs names.now → (IsTrue result ↔ IsFree table fs name.now) }
+{
+    names.place_of(name).is_none()
 }

@@ -32,10 +32,10 @@ use Rattle.uc_top.specs.Answers.{checked_status, large_line, IsBuilt, TextAnswer
 
 -- what a text reads as where memory isn't wanted: it is too long, or it is read
 module _ (table : Table) (text : List ℕ) where
-  abbrev LongOrRead : Result Proof ProofFault → Type 0
+  abbrev pub LongOrRead : Result Proof ProofFault → Type 0
   LongOrRead r = ((max_proof < length text) × (r ≡ Err (Limit what.Bytes first_place))) ⊎ ((length text ≤ max_proof) × ReadsProof table text r)
 
-  long_or_read : (r : Result Proof ProofFault) → (r ≡ Err NoMemory → ⊥) → IsReading table text r → LongOrRead r
+  pub long_or_read : (r : Result Proof ProofFault) → (r ≡ Err NoMemory → ⊥) → IsReading table text r → LongOrRead r
   long_or_read (Ok proof) n h = inr h
   long_or_read (Err (Syntax p)) n h = inr h
   long_or_read (Err (UnknownRule p)) n h = inr h
@@ -51,7 +51,7 @@ module _ (table : Table) (text : List ℕ) where
   long_or_read (Err (Limit what.Symbols p)) n h = inr h
   long_or_read (Err NoMemory) n h = absurd (n refl)
 
-  either_once : IsDistinct table → {a b : Result Proof ProofFault} → LongOrRead a → LongOrRead b → a ≡ b
+  pub either_once : IsDistinct table → {a b : Result Proof ProofFault} → LongOrRead a → LongOrRead b → a ≡ b
   either_once distinct (inl p) (inl q) = p.1 ∙ sym q.1
   either_once distinct (inl p) (inr q) = absurd (omega (arith, p.0, q.0))
   either_once distinct (inr p) (inl q) = absurd (omega (arith, p.0, q.0))
@@ -60,16 +60,16 @@ module _ (table : Table) (text : List ℕ) where
   is_reading_once : IsDistinct table → (a b : Result Proof ProofFault) → (a ≡ Err NoMemory → ⊥) → (b ≡ Err NoMemory → ⊥) → IsReading table text a → IsReading table text b → a ≡ b
   is_reading_once distinct a b m n x y = either_once distinct (long_or_read a m x) (long_or_read b n y)
 
-not_memory : {why : ProofFault} → (why ≡ NoMemory → ⊥) → Path (Result Proof ProofFault) (Err why) (Err NoMemory) → ⊥
+pub not_memory : {why : ProofFault} → (why ≡ NoMemory → ⊥) → Path (Result Proof ProofFault) (Err why) (Err NoMemory) → ⊥
 not_memory n e = n (err_once e)
 
-read_not_memory : {proof : Proof} → Path (Result Proof ProofFault) (Ok proof) (Err NoMemory) → ⊥
+pub read_not_memory : {proof : Proof} → Path (Result Proof ProofFault) (Ok proof) (Err NoMemory) → ⊥
 read_not_memory e = ok_or_err e
 
-first_name : {a b c d : List ℕ} → Path (List (List ℕ)) (a ∷ b ∷ []) (c ∷ d ∷ []) → a ≡ c
+pub first_name : {a b c d : List ℕ} → Path (List (List ℕ)) (a ∷ b ∷ []) (c ∷ d ∷ []) → a ≡ c
 first_name e = cc
 
-second_name : {a b c d : List ℕ} → Path (List (List ℕ)) (a ∷ b ∷ []) (c ∷ d ∷ []) → b ≡ d
+pub second_name : {a b c d : List ℕ} → Path (List (List ℕ)) (a ∷ b ∷ []) (c ∷ d ∷ []) → b ≡ d
 second_name e = cc
 
 pub only_name : {a b : List ℕ} → Path (List (List ℕ)) (a ∷ []) (b ∷ []) → a ≡ b

@@ -84,20 +84,20 @@ module _ (t : Table) where
       items_are_sound (misses_name d f e h k) s = tt
       items_are_sound {name = name} (includes {i = i} {given = given} {kept = kept} {loaded = l} d f e h k rest) s = all_sound kept l (kept_sound name i.names given kept (file_is_sound h) k) (items_are_sound rest s.1)
 
-  flat_sound : (files : Files) (root : Option (List ℕ)) (name : List ℕ) {l : Loaded} → Flattens t files root name l → LoadedSound l
+  pub flat_sound : (files : Files) (root : Option (List ℕ)) (name : List ℕ) {l : Loaded} → Flattens t files root name l → LoadedSound l
   flat_sound files root name (no_fetch e) = tt
   flat_sound files root name (no_problem e) = tt
   flat_sound files root name (loads e h) = file_is_sound files (folder_of name) root h
 
 -- The other table has each entry of the one at the number that its symbol is renamed to.
 module _ (t u : Table) (ρ : Sym → Sym) (moves : (f : Sym) (e : Entry) → slice_get t f.0 ≡ Some e → slice_get u (ρ f).0 ≡ Some e) where
-  entry_moved : (f : Sym) → Has t f → entry_of u (ρ f) ≡ entry_of t f
+  pub entry_moved : (f : Sym) → Has t f → entry_of u (ρ f) ≡ entry_of t f
   entry_moved f h =
       let none : Entry = record { name = []; arity = 0 } in
       let at : slice_get t f.0 ≡ Some (get_or t f.0 none) = slice_get-get_or t f.0 none h in
       ap (λ (o : Option Entry). unwrap_or o none) (moves f (get_or t f.0 none) at ∙ sym at)
 
-  name_moved : (f : Sym) → Has t f → name_of u (ρ f) ≡ name_of t f
+  pub name_moved : (f : Sym) → Has t f → name_of u (ρ f) ≡ name_of t f
   name_moved f h = ap (λ (e : Entry). e.name) (entry_moved f h)
 
   -- what is printed
@@ -143,11 +143,11 @@ module _ (t u : Table) (ρ : Sym → Sym) (moves : (f : Sym) (e : Entry) → sli
   in_renamed term place (Var x ∷ ns) = in_renamed term (place + 1) ns
   in_renamed term place (App f n ∷ ns) = ap (λ os. occurrence_renamed (record { term = term; place = place; symbol = f }) ∷ os) (in_renamed term (place + 1) ns)
 
-  from_renamed : (term : ℕ) (ts : List Tree) → occurrences_from term (map (renamed ρ) ts) ≡ map occurrence_renamed (occurrences_from term ts)
+  pub from_renamed : (term : ℕ) (ts : List Tree) → occurrences_from term (map (renamed ρ) ts) ≡ map occurrence_renamed (occurrences_from term ts)
   from_renamed term [] = refl
   from_renamed term (x ∷ xs) = ap₂ (λ a b. a ++ b) (ap (occurrences_in term 0) (flat_renamed x) ∙ in_renamed term 0 (flat x)) (from_renamed (term + 1) xs) ∙ sym (map-append occurrence_renamed (occurrences_in term 0 (flat x)) (occurrences_from (term + 1) xs))
 
-  terms_renamed : (cs : List Sourced) → terms_of (map (sourced_renamed ρ) cs) ≡ map (renamed ρ) (terms_of cs)
+  pub terms_renamed : (cs : List Sourced) → terms_of (map (sourced_renamed ρ) cs) ≡ map (renamed ρ) (terms_of cs)
   terms_renamed [] = refl
   terms_renamed (c ∷ cs) = ap (λ ts. renamed ρ c.clause.left ∷ renamed ρ c.clause.right ∷ ts) (terms_renamed cs)
 
@@ -178,7 +178,7 @@ module _ (t u : Table) (ρ : Sym → Sym) (moves : (f : Sym) (e : Entry) → sli
       go (inr b) = subst (Has t) (sym b.1) k
 
   module _ (grows : Grows t t) where
-    gathers_renamed : {seen : List Sym} {os : List Occurrence} {fs : List Sym} {r : Result (List Sym) TermFault} → Gathers t seen os r → r ≡ Ok fs → HasAll t seen → AllHave t t grows os → Gathers u (map ρ seen) (map occurrence_renamed os) (Ok (map ρ fs))
+    pub gathers_renamed : {seen : List Sym} {os : List Occurrence} {fs : List Sym} {r : Result (List Sym) TermFault} → Gathers t seen os r → r ≡ Ok fs → HasAll t seen → AllHave t t grows os → Gathers u (map ρ seen) (map occurrence_renamed os) (Ok (map ρ fs))
     gathers_renamed {seen = seen} {fs = fs} all_seen e h a = let same : seen ≡ fs = cc in rw (← same) all_seen
     gathers_renamed {seen = seen} (seen_before {o = o} k g) e h a = seen_before (same_renamed o.symbol seen k) (gathers_renamed g e h a.1)
     gathers_renamed {seen = seen} {fs = fs} (is_new {o = o} {os = os} n m g) e h a =
@@ -189,7 +189,7 @@ module _ (t u : Table) (ρ : Sym → Sym) (moves : (f : Sym) (e : Entry) → sli
     gathers_renamed (is_too_many n m) e h a = absurd cc
 
 -- where nothing is renamed
-abbrev unchanged : Sym → Sym
+abbrev pub unchanged : Sym → Sym
 unchanged f = f
 
 mutual
@@ -204,11 +204,11 @@ mutual
 same_clause : (c : Clause) → clause_renamed unchanged c ≡ c
 same_clause c = ap₂ (λ l r. record { name = c.name; role = c.role; positive = c.positive; left = l; right = r; places = c.places; place = c.place }) (same_term c.left) (same_term c.right)
 
-same_clauses : (cs : List Sourced) → map (sourced_renamed unchanged) cs ≡ cs
+pub same_clauses : (cs : List Sourced) → map (sourced_renamed unchanged) cs ≡ cs
 same_clauses [] = refl
 same_clauses (c ∷ cs) = ap₂ (λ (x : Clause) xs. record { file = c.file; clause = x } ∷ xs) (same_clause c.clause) (same_clauses cs)
 
-none_has : (t : Table) → HasAll t []
+pub none_has : (t : Table) → HasAll t []
 none_has t i f e = absurd cc
 
 -- Two tables that lie in a third.

@@ -20,7 +20,7 @@ use Rattle.uc_top.specs.Directions.{AreDirected}
 use Rattle.uc_top.specs.OrderAnswers.{IsOrdered, is_unordered, is_ordered}
 use Rattle.uc_top.specs.Answers.{OrderAnswers, fetch_fails, is_refused, is_loaded, Answers}
 use Rattle.uc_top.specs.Runs.{MayAnswer, is_answer, wants_memory, IsRun}
-use Rattle.uc_top.specs.OrderRuns.{OrderEnds, directs_all, lacks_memory, OrderCompletes}
+use Rattle.uc_top.specs.OrderRuns.{OrderEnds, directs_all, lacks_memory, CompletesOrder}
 use Rattle.uc_top.proofs.Answering.{none_distinct}
 use Rattle.uc_top.proofs.AnswersOnce.{only_name}
 use Rattle.uc_top.proofs.ByVerb.{of_verb}
@@ -44,7 +44,7 @@ module _ (table : Table) (words : OrderWords) (problem : Problem) (spec : OrderS
     order_ends {status} {text} (is_loaded {problem = loaded} h a) = ordered_ends (subst (λ (p : Problem). IsOrdered table words p status text) (problem_is_once table distinct files root name loaded problem h held) a)
 
 module _ (files : Files) (before now : ℕ) (well : Rose before now → ⊥) (words : List (List ℕ)) (old new : Option (List ℕ)) where
-  whole : {status result : ℕ} {text : List ℕ} → MayAnswer (Some files) before now words status text → Appends old new text → result ≡ status → OrderCompletes files words old new result
+  whole : {status result : ℕ} {text : List ℕ} → MayAnswer (Some files) before now words status text → Appends old new text → result ≡ status → CompletesOrder files words old new result
   whole wants_memory written e = ([], none_distinct, λ command name problem spec reads is_order names held chosen. rw e (lacks_memory written))
   whole {status} {result} {text} (is_answer {table = table} distinct a) written e = (table, distinct, ends)
     where
@@ -55,7 +55,7 @@ module _ (files : Files) (before now : ℕ) (well : Rose before now → ⊥) (wo
           let q = order_ends table command.order problem spec chosen files before now well command.root name distinct held own in
           rw (e ∙ q.0) (directs_all q.1 written)
 
-pub order_completes : (holds : Option Files) (before now : ℕ) (words : List (List ℕ)) (old new : Option (List ℕ)) (write_before write_now result : ℕ) → IsRun holds before now words old new write_before write_now result → (files : Files) → holds ≡ Some files → (Rose before now → ⊥) → (Rose write_before write_now → ⊥) → OrderCompletes files words old new result
+pub order_completes : (holds : Option Files) (before now : ℕ) (words : List (List ℕ)) (old new : Option (List ℕ)) (write_before write_now result : ℕ) → IsRun holds before now words old new write_before write_now result → (files : Files) → holds ≡ Some files → (Rose before now → ⊥) → (Rose write_before write_now → ⊥) → CompletesOrder files words old new result
 order_completes holds before now words old new write_before write_now result run files tells well told_well =
     let told = subst (λ (o : Option Files). IsRun o before now words old new write_before write_now result) tells run in
     let t = told_whole told_well told.told in

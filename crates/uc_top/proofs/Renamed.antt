@@ -95,7 +95,7 @@ module _ (ρ : Sym → Sym) where
 module _ (t u : Table) (ρ : Sym → Sym) (moves : (f : Sym) (e : Entry) → slice_get t f.0 ≡ Some e → slice_get u (ρ f).0 ≡ Some e) where
   module _ (bytes : List ℕ) (tokens : List Token) where
     mutual
-      means_renamed : {seen : Variables} {p : Parse} {tree : Tree} → Means bytes tokens t seen p tree → Means bytes tokens u seen p (renamed ρ tree)
+      pub means_renamed : {seen : Variables} {p : Parse} {tree : Tree} → Means bytes tokens t seen p tree → Means bytes tokens u seen p (renamed ρ tree)
       means_renamed (variable_means e) = variable_means e
       means_renamed (functor_means {k = k} {f = f} {ts = ts} s ms) = functor_means (subst (IsSymbol u (ρ f) _) (sym (count_renamed ρ ts)) (moves f _ s)) (mean_all_renamed ms)
 

@@ -22,5 +22,5 @@ pub data OrderEnds (table : Table) (spec : OrderSpec) (problem : Problem) (old n
 
 -- The run has a table, whose symbols are all different. Where the files hold a problem in it, and the words of `order` name an
 -- order for it, `order` ends so.
-abbrev pub OrderCompletes : Files → List (List ℕ) → Option (List ℕ) → Option (List ℕ) → ℕ → Type 0
-OrderCompletes files words old new result = (table : Table) × IsDistinct table × ((command : Command) (name : List ℕ) (problem : Problem) (spec : OrderSpec) → Reads words command → command.verb ≡ Order → command.positionals ≡ name ∷ [] → Holds table files command.root name problem → IsChosen table problem.signature command.order None spec → OrderEnds table spec problem old new result)
+abbrev pub CompletesOrder : Files → List (List ℕ) → Option (List ℕ) → Option (List ℕ) → ℕ → Type 0
+CompletesOrder files words old new result = (table : Table) × IsDistinct table × ((command : Command) (name : List ℕ) (problem : Problem) (spec : OrderSpec) → Reads words command → command.verb ≡ Order → command.positionals ≡ name ∷ [] → Holds table files command.root name problem → IsChosen table problem.signature command.order None spec → OrderEnds table spec problem old new result)

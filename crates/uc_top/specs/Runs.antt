@@ -1,24 +1,31 @@
 -- What a run of the program does.
-use Rattle.std.specs.Prelude.{ℕ, ◌≡◌, List, [], ◌∷◌, length, Option, Some, Ok}
+use Rattle.std.specs.Prelude.{ℕ, ◌≡◌, false, List, [], ◌∷◌, length, slice_get, codes, Option, Some, None, Ok, Err}
+use Rattle.std.specs.List.{list_any}
 use Rattle.std.specs.Io.KnownBytes.{Appends}
 use Rattle.uc_term.specs.declared.fresh.Fresh.{Fresh}
 use Rattle.uc_term.specs.Table.{Table, IsDistinct}
 use Rattle.uc_term.specs.Conversion.{SomeFollows}
 use Rattle.uc_edge.specs.Files.{Files}
+use Rattle.uc_clause.specs.declared.clause.Sourced.{Sourced}
 use Rattle.uc_problem.specs.declared.problem.Problem.{Problem}
+use Rattle.uc_problem.specs.declared.fault.EncodeFault.TheVariants.{GoalTooLarge}
 use Rattle.uc_problem.specs.Loading.{held}
 use Rattle.uc_problem.specs.Holds.{Holds}
-use Rattle.uc_problem.specs.Marks.{Marks}
-use Rattle.uc_tstp.specs.Reading.{ReadsProof}
+use Rattle.uc_problem.specs.Marks.{Marks, is_too_large}
+use Rattle.uc_tstp.specs.declared.fault.ProofFault.{ProofFault}
+use Rattle.uc_tstp.specs.declared.fault.ProofFault.TheVariants.{NoMemory}
+use Rattle.uc_tstp.specs.Reading.{ReadsProof, IsReading}
 use Rattle.uc_check.specs.declared.proof.Proof.{Proof}
-use Rattle.uc_check.specs.Checks.{AreRightBefore, EndsInRefutation}
+use Rattle.uc_check.specs.declared.proof.Line.{Line}
+use Rattle.uc_check.specs.declared.checker.Checked.{Checked}
+use Rattle.uc_check.specs.Checks.{AreRightBefore, EndsInRefutation, IsChecked}
 use Rattle.uc_check.specs.Clauses.{axioms_of, goals_of}
 use Rattle.uc_words.specs.declared.command.Command.{Command}
-use Rattle.uc_words.specs.declared.command.Verb.TheVariants.{Show}
+use Rattle.uc_words.specs.declared.command.Verb.TheVariants.{Check, Show}
 use Rattle.uc_words.specs.Reads.{Reads}
-use Rattle.uc_top.specs.Lines.{memory_line, shown_lines}
+use Rattle.uc_top.specs.Lines.{about_file, proof_line, checked_line, memory_line, shown_lines}
 use Rattle.uc_top.specs.Told.{IsTold}
-use Rattle.uc_top.specs.Answers.{Answers}
+use Rattle.uc_top.specs.Answers.{Answers, large_line, checked_status}
 
 -- An answer to these words, in some table whose symbols are all different; or want of memory, which is free. The library's files
 -- are these, where it tells them, and its count of faults was and is this.
@@ -66,3 +73,32 @@ pub data ShowEnds (table : Table) (problem : Problem) (old new : Option (List �
 -- Where the words show a problem that the files hold, in whatever table its symbols stand, `show` ends so.
 abbrev pub Completes : Files → List (List ℕ) → Option (List ℕ) → Option (List ℕ) → ℕ → Type 0
 Completes files words old new result = (command : Command) (name : List ℕ) (table : Table) (problem : Problem) → Reads words command → command.verb ≡ Show → command.positionals ≡ name ∷ [] → Holds table files command.root name problem → ShowEnds table problem old new result
+
+-- How a run ends that has this to answer: all of it is told, and the status is its own; or for want of memory, which is free.
+pub data EndsWith (status : ℕ) (text : List ℕ) (old new : Option (List ℕ)) : ℕ → Type 0 where
+  tells_all : Appends old new text → EndsWith status text old new status
+  tells_want : Appends old new memory_line → EndsWith status text old new 7
+
+-- How `check` ends for a problem of these clauses and a proof of these lines: with the checker's answer, which is that it is
+-- accepted, with status 0, where all lines are right and the last one refutes a goal, and else the first line and test that
+-- fails, with status 1; or for want of memory.
+pub data CheckEnds (clauses : List Sourced) (marks : Option Fresh) (lines : List Line) (old new : Option (List ℕ)) : ℕ → Type 0 where
+  tells_checked : {answer : Checked} → IsChecked clauses marks lines answer → Appends old new (checked_line lines answer) → CheckEnds clauses marks lines old new (checked_status answer)
+  checks_in_want : Appends old new memory_line → CheckEnds clauses marks lines old new 7
+
+-- How `check` ends for a problem and the proof file of this name, by what the problem, the proof file's text and the proof are
+-- in one table.
+pub record CheckCompletes (table : Table) (files : Files) (problem : Problem) (proof_name : List ℕ) (old new : Option (List ℕ)) (result : ℕ) : Type 0 where
+  -- a goal is too large to be encoded
+  pub large : (number : ℕ) (goal : Sourced) → Marks table problem (Err (GoalTooLarge number)) → slice_get problem.clauses number ≡ Some goal → EndsWith 3 (large_line goal) old new result
+  -- none is, and there is no proof file
+  pub absent : list_any is_too_large problem.clauses ≡ false → held files proof_name ≡ None → EndsWith 3 (about_file proof_name (codes "Absent")) old new result
+  -- none is, and the proof file's text isn't read as a proof
+  pub unread : list_any is_too_large problem.clauses ≡ false → (text : List ℕ) (why : ProofFault) → held files proof_name ≡ Some text → IsReading table text (Err why) → (why ≡ NoMemory → ⊥) → EndsWith 3 (proof_line proof_name why) old new result
+  -- it is read as a proof
+  pub read : (marks : Option Fresh) → Marks table problem (Ok marks) → (text : List ℕ) (proof : Proof) → held files proof_name ≡ Some text → IsReading table text (Ok proof) → CheckEnds problem.clauses marks proof.lines old new result
+
+-- Where the words check a problem that the files hold, in whatever table with different entries its symbols and those of the
+-- proof stand, `check` ends so.
+abbrev pub CompletesCheck : Files → List (List ℕ) → Option (List ℕ) → Option (List ℕ) → ℕ → Type 0
+CompletesCheck files words old new result = (command : Command) (name proof_name : List ℕ) (table : Table) (problem : Problem) → Reads words command → command.verb ≡ Check → command.positionals ≡ name ∷ proof_name ∷ [] → IsDistinct table → Holds table files command.root name problem → CheckCompletes table files problem proof_name old new result

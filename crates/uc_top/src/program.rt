@@ -8,8 +8,8 @@ ghost use Rattle.uc_words.specs.declared.command.Verb.TheVariants.{Check};
 ghost use Rattle.uc_words.specs.Reads.{Reads};
 ghost use Rattle.uc_words.specs.Table.{fits};
 ghost use Rattle.uc_top.specs.Lines.{joined, usage_line};
-ghost use Rattle.uc_top.specs.Runs.{MayAnswer, IsRun, IsCertified, Completes};
-ghost use Rattle.uc_top.specs.OrderRuns.{OrderCompletes};
+ghost use Rattle.uc_top.specs.Runs.{MayAnswer, IsRun, IsCertified, Completes, CompletesCheck};
+ghost use Rattle.uc_top.specs.OrderRuns.{CompletesOrder};
 
 use crate::checking::check_answer;
 use crate::ordering::order_answer;
@@ -44,7 +44,8 @@ pub fn run<R: Threads + Wait + Sync, L: Library, S: Sink, G: Gate + Sync>(
     ensures answers { IsRun (L.holds library.old) (L.faults library.old) (L.faults library.new) (map string_bytes words.now) (S.written sink.old) (S.written sink.new) (S.faults sink.old) (S.faults sink.new) result }
     ensures certified { result ≡ 0 → (files : Files) → L.holds library.old ≡ Some files → (command : Command) → Reads (map string_bytes words.now) command → command.verb ≡ Check → IsCertified files command }
     ensures complete { (files : Files) → L.holds library.old ≡ Some files → (Rose (L.faults library.old) (L.faults library.new) → ⊥) → (Rose (S.faults sink.old) (S.faults sink.new) → ⊥) → Completes files (map string_bytes words.now) (S.written sink.old) (S.written sink.new) result }
-    ensures order_complete { (files : Files) → L.holds library.old ≡ Some files → (Rose (L.faults library.old) (L.faults library.new) → ⊥) → (Rose (S.faults sink.old) (S.faults sink.new) → ⊥) → OrderCompletes files (map string_bytes words.now) (S.written sink.old) (S.written sink.new) result }
+    ensures complete_check { (files : Files) → L.holds library.old ≡ Some files → (Rose (L.faults library.old) (L.faults library.new) → ⊥) → (Rose (S.faults sink.old) (S.faults sink.new) → ⊥) → CompletesCheck files (map string_bytes words.now) (S.written sink.old) (S.written sink.new) result }
+    ensures complete_order { (files : Files) → L.holds library.old ≡ Some files → (Rose (L.faults library.old) (L.faults library.new) → ⊥) → (Rose (S.faults sink.old) (S.faults sink.new) → ⊥) → CompletesOrder files (map string_bytes words.now) (S.written sink.old) (S.written sink.new) result }
     ensures same { L.holds library.new ≡ L.holds library.old }
     ensures later { L.faults library.old ≤ L.faults library.new }
     ensures sink_later { S.faults sink.old ≤ S.faults sink.new }

@@ -20,6 +20,8 @@ pub mod NamesOnce
 pub mod MeantOnce
 pub mod ReadingOnce
 pub mod PrintedPieces
+pub mod Seen
+pub mod Bounded
 pub mod LinePieces
 pub mod FrameAgain
 pub mod TokensAgain
@@ -28,3 +30,4 @@ pub mod SourceAgain
 pub mod LineAgain
 pub mod ProofAgain
 pub mod ReadingGrows
+pub mod InOrder

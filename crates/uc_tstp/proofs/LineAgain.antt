@@ -35,7 +35,8 @@ use Rattle.uc_tstp.specs.Meaning.{MeansBody, MeansSource, MeansLine, MeanLines, 
 use Rattle.uc_tstp.specs.Meaning as meaning
 use Rattle.uc_tstp.specs.Reading.{first_unknown}
 use Rattle.uc_tstp.specs.Printing.{role_of, names_in}
-use Rattle.uc_tstp.specs.Printable.{IsPrintableTerm, IsPrintableStep, IsPrintableSource, IsPrintableBody, source_variables, renumbered_source, renumbered_line, AreLineNames}
+use Rattle.uc_tstp.specs.Printable.{source_variables, renumbered_source, renumbered_line, AreLineNames}
+use Rattle.uc_tstp.proofs.Bounded.{IsPrintableTerm, IsPrintableStep, IsPrintableSource, IsPrintableBody}
 use Rattle.uc_tstp.proofs.PrintedPieces.{comma, equation_pieces}
 use Rattle.uc_tstp.proofs.LinePieces.{readable_term, source_pieces, IsSourceBy, body_pieces, end_pieces, line_pieces, lines_pieces, IsLineAgain, AreLinesAgain}
 use Rattle.uc_tstp.proofs.TokensAgain.{At, mark_here, comma_here, skip, lower_here, name_here, reads_lower, reads_word}

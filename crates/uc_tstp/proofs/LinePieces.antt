@@ -19,7 +19,8 @@ use Rattle.uc_check.specs.declared.proof.LineStep.{LineStep}
 use Rattle.uc_check.specs.declared.proof.LineSource.{LineSource}
 use Rattle.uc_check.specs.declared.proof.LineSource.TheVariants.{File, Chain, Reflexive, EncodeGoal, Refute}
 use Rattle.uc_tstp.specs.Printing.{further, path_text, way_text, role_of, is_refutation, line_name, inference_text, step_text, source_text, lines_text}
-use Rattle.uc_tstp.specs.Printable.{IsPath, IsPrintableTerm, IsPrintableStep, IsPrintableSource, IsPrintableBody, IsPrintableLine}
+use Rattle.uc_tstp.specs.Printable.{IsPath}
+use Rattle.uc_tstp.proofs.Bounded.{IsPrintableTerm, IsPrintableStep, IsPrintableSource, IsPrintableBody, IsPrintableLine}
 use Rattle.uc_tstp.proofs.PrintedPieces.{Spells, followed, ended, nothing_spells, mark, open_spells, close_spells, open_square_spells, close_square_spells, bare_comma_spells, dot_spells, comma, comma_spells, lower, lower_spells, bare_spells, word, word_spells, name, name_spells, number, number_spells, term_spells, equation_pieces, equation_spells, further_pieces, listed_pieces, further_spells, listed_spells}
 
 -- a term that can be printed is readable

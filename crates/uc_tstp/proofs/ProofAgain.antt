@@ -20,7 +20,8 @@ use Rattle.uc_tstp.specs.Lines.{LinesAt}
 use Rattle.uc_tstp.specs.Meaning.{names_of, MeanLines}
 use Rattle.uc_tstp.specs.Reading.{inside, first_unknown, ReadsProof, in_frame, reads}
 use Rattle.uc_tstp.specs.Printing.{names_in, border_text, lines_text, proof_text, AreNumbers, IsStepOf, IsSourceOf, IsLineOf, AreLinesOf}
-use Rattle.uc_tstp.specs.Printable.{AreLineNames, IsPrintableStep, IsPrintableSource, ArePrintableLines, IsPrintableProof, renumbered_proof}
+use Rattle.uc_tstp.specs.Printable.{AreLineNames, renumbered_proof}
+use Rattle.uc_tstp.proofs.Bounded.{IsPrintableStep, IsPrintableSource, ArePrintableLines, IsPrintableProof}
 use Rattle.uc_tstp.proofs.LinePieces.{IsBy, IsStepBy, IsSourceBy, AreLinesAgain, lines_pieces, lines_whole, lines_apart, lines_in_lines}
 use Rattle.uc_tstp.proofs.FrameAgain.{frame_again}
 use Rattle.uc_tstp.proofs.LineAgain.{lines_here}

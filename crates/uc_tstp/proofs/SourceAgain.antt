@@ -26,7 +26,8 @@ use Rattle.uc_tstp.specs.Meaning.{MeanSteps, no_steps, one_step, MeansSource}
 use Rattle.uc_tstp.specs.Meaning as meaning
 use Rattle.uc_tstp.specs.Reading.{first_unknown}
 use Rattle.uc_tstp.specs.Printing.{step_text}
-use Rattle.uc_tstp.specs.Printable.{IsPrintableSource, source_variables, renumbered_step, renumbered_source}
+use Rattle.uc_tstp.specs.Printable.{source_variables, renumbered_step, renumbered_source}
+use Rattle.uc_tstp.proofs.Bounded.{IsPrintableSource}
 use Rattle.uc_tstp.proofs.PrintedPieces.{mark, comma, lower, further_pieces}
 use Rattle.uc_tstp.proofs.LinePieces.{step_pieces, parents_pieces, chain_pieces, source_pieces, IsSourceBy}
 use Rattle.uc_tstp.proofs.TokensAgain.{At, mark_here, comma_here, LowerHere, lower_here, reads_word, is_word_here, functor_here, clause_name_here, Pairs}

@@ -23,7 +23,7 @@ use Rattle.uc_tstp.specs.Lines as lines
 use Rattle.uc_tstp.specs.Meaning.{IsNamed, AreNamed, none_named, one_named}
 use Rattle.uc_tstp.specs.Reading.{first_unknown}
 use Rattle.uc_tstp.specs.Printing.{way_text, line_name, step_text}
-use Rattle.uc_tstp.specs.Printable.{IsPrintableTerm}
+use Rattle.uc_tstp.proofs.Bounded.{IsPrintableTerm}
 use Rattle.uc_tstp.proofs.PrintedPieces.{mark, comma, further_pieces}
 use Rattle.uc_tstp.proofs.LinePieces.{readable_term, the_name, by_pieces, IsBy, step_pieces, IsStepBy, parents_pieces}
 use Rattle.uc_tstp.proofs.TokensAgain.{At, mark_here, comma_here, is_comma, lower_here, name_here, reads_lower, reads_word, reads_way, way_some, Member, Pairs, Listed, IsRead, members_here, list_here, not_close_at, path_here}

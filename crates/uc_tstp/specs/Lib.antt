@@ -6,6 +6,7 @@ pub mod Drafts
 pub mod Parts
 pub mod Reading
 pub mod Printing
+pub mod Bounds
 pub mod Printable
 pub mod Resolving
 pub mod Faults

@@ -1,12 +1,12 @@
 -- What is read again as it was printed, and as which proof.
-use Rattle.std.specs.Prelude.{ℕ, ◌≡◌, ◌<◌, ◌≤◌, true, false, List, [], ◌∷◌, ◌++◌, length, map, bytes_eq}
+use Rattle.std.specs.Prelude.{ℕ, ◌≡◌, ◌<◌, ◌≤◌, ◌+◌, true, false, List, [], ◌∷◌, ◌++◌, length, map, bytes_eq}
 use Rattle.std.specs.List.{flat_map, list_any, list_all, AllByRecursion}
-use Rattle.uc_term.specs.Tree.{Tree, var, nodes}
+use Rattle.uc_term.specs.Tree.{var}
 use Rattle.uc_term.specs.Table.{Table}
 use Rattle.uc_term.specs.Variables.{variables, firsts, renumbered_by}
 use Rattle.uc_clause.specs.Bytes.{in_line, is_name}
 use Rattle.uc_clause.specs.Names.{IsSpellable, IsSpellableName}
-use Rattle.uc_clause.specs.Printable.{IsPrintable, AreNumbered}
+use Rattle.uc_clause.specs.Printable.{IsPrintable}
 use Rattle.uc_check.specs.declared.proof.Proof.{Proof}
 use Rattle.uc_check.specs.declared.proof.Line.{Line}
 use Rattle.uc_check.specs.declared.proof.LineStep.{LineStep}
@@ -28,28 +28,22 @@ abbrev pub IsPath : List ℕ → Type 0
 IsPath path = AllByRecursion (λ number. (1 ≤ number) × (number ≤ 255)) path
 
 module _ (table : Table) where
-  -- a term within a reader's limits, whose symbols can be spelled with the arguments that they have
-  pub record IsPrintableTerm (t : Tree) : Type 0 where
-    pub printable : IsPrintable table t
-    pub small : nodes t ≤ 4096
-    pub numbered : AreNumbered (variables t)
-
   pub record IsPrintableStep (s : LineStep) : Type 0 where
     pub path : IsPath s.path
-    pub to : IsPrintableTerm s.to
+    pub to : IsPrintable table s.to
 
   -- a clause's file and its name can be spelled
   abbrev pub IsPrintableSource : List ℕ → LineSource → Type 0
   IsPrintableSource file (File name) = IsSpellable file × IsSpellableName name
-  IsPrintableSource file (Chain start steps parents) = IsPrintableTerm start × AllByRecursion IsPrintableStep steps
+  IsPrintableSource file (Chain start steps parents) = IsPrintable table start × AllByRecursion IsPrintableStep steps
   IsPrintableSource file other = Unit {0}
 
   -- what a line of this source says: a clause of the problem an equation or its denial, a refutation nothing, with the variable
   -- 0 on both sides, and all else an equation
   abbrev pub IsPrintableBody : LineSource → Line → Type 0
-  IsPrintableBody (File name) line = IsPrintableTerm line.left × IsPrintableTerm line.right
+  IsPrintableBody (File name) line = IsPrintable table line.left × IsPrintable table line.right
   IsPrintableBody (Refute parents) line = (line.positive ≡ true) × (line.left ≡ var 0) × (line.right ≡ var 0)
-  IsPrintableBody other line = (line.positive ≡ true) × IsPrintableTerm line.left × IsPrintableTerm line.right
+  IsPrintableBody other line = (line.positive ≡ true) × IsPrintable table line.left × IsPrintable table line.right
 
   pub record IsPrintableLine (file : List ℕ) (line : Line) : Type 0 where
     pub body : IsPrintableBody line.source line
@@ -91,3 +85,12 @@ renumbered_line line = record line { left = renumbered_by (line_variables line) 
 -- the same proof, with the variables of each line numbered by first occurrence
 abbrev pub renumbered_proof : Proof → Proof
 renumbered_proof proof = record { lines = map renumbered_line proof.lines }
+
+-- n, n + 1 and so on
+abbrev pub CountUp : ℕ → List ℕ → Type 0
+CountUp n [] = Unit {0}
+CountUp n (x ∷ xs) = (x ≡ n) × CountUp (n + 1) xs
+
+-- the variables of each line are numbered by first occurrence already
+abbrev pub AreInOrder : List Line → Type 0
+AreInOrder lines = AllByRecursion (λ line. CountUp 0 (line_variables line)) lines

@@ -4,6 +4,7 @@
 #![tactic(auto)]
 
 mod bodies;
+mod bounds;
 mod drafts;
 mod fault;
 mod framing;

@@ -6,12 +6,13 @@ ghost use Rattle.uc_term.specs.Table.{IsOf};
 ghost use Rattle.uc_clause.specs.Names.{spelling, name_spelling};
 ghost use Rattle.uc_clause.specs.Printing.{term_text, role_text};
 ghost use Rattle.uc_tstp.specs.Printing.{border_text, proof_text, lines_text, line_text, body_text, source_text, inference_text, replacement_text, step_text, line_name, path_text, way_text, role_of, is_refutation, names_in, listed, further, AreNumbers, IsStepOf, IsSourceOf, IsLineOf, AreLinesOf};
-ghost use Rattle.uc_tstp.specs.Printable.{IsPrintableProof, renumbered_proof};
+ghost use Rattle.uc_tstp.specs.Printable.{IsPrintableProof, AreInOrder, renumbered_proof};
 ghost use Rattle.uc_tstp.specs.Reading.{ReadsProof};
 
 #[cfg(test)]
 mod tests;
 
+use crate::bounds::see_bounds;
 use crate::framing::{END, START};
 use itoa::Buffer;
 use std::alloc::{AllocError, Global};
@@ -27,8 +28,9 @@ use uc_term::{Symbols, Term, Text};
 ///
 /// The text is read again as the same proof, with the variables of each line numbered by first occurrence, where: the name has
 /// one byte or more and no line feed; the lines' names are lower-case words, all different; a token can spell each other name
-/// and each file of a clause; no symbol has more than 255 arguments, no term more than 4,096 nodes, and paths have the numbers
-/// 1 to 255; chain and encode lines are positive; and refute lines are so too, with the variable 0 on both sides.
+/// and each file of a clause; no symbol has more than 255 arguments, and paths have the numbers 1 to 255; chain and encode
+/// lines are positive; and refute lines are so too, with the variable 0 on both sides. Where the variables of each line are
+/// numbered by first occurrence, it is the very same proof.
 pub fn print_proof(
     alloc: Global,
     proof: &Proof,
@@ -40,7 +42,9 @@ pub fn print_proof(
     requires lines { AreLinesOf symbols.now proof.now.lines }
     ensures text { IfOk result (λ text. text ≡ proof_text symbols.now name.now file_of.now proof.now.lines) }
     ensures read_again { IsPrintableProof symbols.now name.now file_of.now proof.now.lines → IfOk result (λ text. ReadsProof symbols.now text (Ok (renumbered_proof proof.now))) }
+    ensures read_back { IsPrintableProof symbols.now name.now file_of.now proof.now.lines → AreInOrder proof.now.lines → IfOk result (λ text. ReadsProof symbols.now text (Ok proof.now)) }
 {
+    see_bounds(proof.lines.as_slice());
     let mut out = Text::new(alloc);
     write_border(&mut out, START, name)?;
     write_lines(alloc, &mut out, file_of, proof.lines.as_slice(), symbols)?;

@@ -1,6 +1,7 @@
 use Rattle.uc_top.specs.Runs.{wants_memory}
 use Rattle.uc_top.proofs.Completing.{own_status, completes}
 use Rattle.uc_top.proofs.OrderCompleting.{order_completes}
+use Rattle.uc_top.proofs.CheckEnding.{completes_check}
 use Rattle.uc_top.proofs.program.run.Goals as goal
 
 pub returns-in-Err-clause-answers : goal.returns-in-Err-clause-answers
@@ -9,14 +10,19 @@ returns-in-Err-clause-answers g c = record { status = 7; text = _; answer = want
 pub returns-in-Err-clause-complete : goal.returns-in-Err-clause-complete
 returns-in-Err-clause-complete g c = completes _ _ _ _ _ _ _ _ _ (record { status = 7; text = _; answer = wants_memory; told = c.tell_memory_out.ensures.told })
 
+pub returns-in-Err-clause-complete_check : goal.returns-in-Err-clause-complete_check
+returns-in-Err-clause-complete_check g c = completes_check _ _ _ _ _ _ _ _ _ (record { status = 7; text = _; answer = wants_memory; told = c.tell_memory_out.ensures.told })
+
 pub returns-in-Ok-clause-certified : goal.returns-in-Ok-clause-certified
 returns-in-Ok-clause-certified g c done = c.in-Ok.ensures.certified (own_status c.tell.ensures.told done)
 
 pub returns-in-Ok-clause-complete : goal.returns-in-Ok-clause-complete
 returns-in-Ok-clause-complete g c = completes _ _ _ _ _ _ _ _ _ (record { status = _; text = _; answer = c.in-Ok.ensures.answers; told = c.tell.ensures.told })
 
-pub returns-in-Err-clause-order_complete : goal.returns-in-Err-clause-order_complete
-returns-in-Err-clause-order_complete g c = order_completes _ _ _ _ _ _ _ _ _ (record { status = 7; text = _; answer = wants_memory; told = c.tell_memory_out.ensures.told })
+pub returns-in-Err-clause-complete_order : goal.returns-in-Err-clause-complete_order
+returns-in-Err-clause-complete_order g c = order_completes _ _ _ _ _ _ _ _ _ (record { status = 7; text = _; answer = wants_memory; told = c.tell_memory_out.ensures.told })
 
-pub returns-in-Ok-clause-order_complete : goal.returns-in-Ok-clause-order_complete
-returns-in-Ok-clause-order_complete g c = order_completes _ _ _ _ _ _ _ _ _ (record { status = _; text = _; answer = c.in-Ok.ensures.answers; told = c.tell.ensures.told })
+pub returns-in-Ok-clause-complete_order : goal.returns-in-Ok-clause-complete_order
+returns-in-Ok-clause-complete_order g c = order_completes _ _ _ _ _ _ _ _ _ (record { status = _; text = _; answer = c.in-Ok.ensures.answers; told = c.tell.ensures.told })
+pub returns-in-Ok-clause-complete_check : goal.returns-in-Ok-clause-complete_check
+returns-in-Ok-clause-complete_check g c = completes_check _ _ _ _ _ _ _ _ _ (record { status = _; text = _; answer = c.in-Ok.ensures.answers; told = c.tell.ensures.told })
