@@ -144,12 +144,12 @@ module _ (table : Table) (distinct : IsDistinct table) where
     verb_once verb.Gen k x y = usage_once x y
 
     module _ (words : List (List ℕ)) where
-      pub answer_once : {s t : ℕ} {a b : List ℕ} → Answers table (Some files) before now words s a → Answers table (Some files) before now words t b → (s ≡ t) × (a ≡ b)
-      answer_once {s} {t} {a} {b} x y = go (read_or_not table (Some files) before now words x) (read_or_not table (Some files) before now words y)
-        where
-          abbrev Either : ℕ → List ℕ → Type 0
-          Either n text = ((command : Command) × Reads words command) ⊎ (((command : Command) → Reads words command → ⊥) × IsUsage table (Some files) before now n text)
+      abbrev Either : ℕ → List ℕ → Type 0
+      Either status text = ((command : Command) × Reads words command) ⊎ (((command : Command) → Reads words command → ⊥) × IsUsage table (Some files) before now status text)
 
+      pub answer_once : {s t : ℕ} {a b : List ℕ} → Answers table (Some files) before now words s a → Answers table (Some files) before now words t b → (s ≡ t) × (a ≡ b)
+      answer_once {s} {t} {a} {b} x y = go (read_or_not table (Some files) before now words s a x) (read_or_not table (Some files) before now words t b y)
+        where
           go : Either s a → Either t b → (s ≡ t) × (a ≡ b)
           go (inl p) q = verb_once p.0.verb p.0 (of_command table (Some files) before now words p.1 x) (of_command table (Some files) before now words p.1 y)
           go (inr p) (inl q) = absurd (p.0 q.0 q.1)

@@ -37,24 +37,24 @@ module _ (table : Table) (holds : Option Files) (before now : ℕ) where
 
   module _ (words : List (List ℕ)) where
     -- the answer of a command that the words are, which is the only one
-    of_other : {command other : Command} {v : Verb} {status : ℕ} {text : List ℕ} → Reads words command → Reads words other → other.verb ≡ v → Of v other status text → Of command.verb command status text
-    of_other {command} {other} {v} {status} {text} x y e a = subst (λ (k : Command). Of k.verb k status text) (only words other command y x) (subst (λ w. Of w other status text) (sym e) a)
+    of_other : {command other : Command} (v : Verb) (status : ℕ) (text : List ℕ) → Reads words command → Reads words other → other.verb ≡ v → Of v other status text → Of command.verb command status text
+    of_other {command} {other} v status text x y e a = subst (λ (k : Command). Of k.verb k status text) (only words other command y x) (subst (λ w. Of w other status text) (sym e) a)
 
     pub of_command : {command : Command} {status : ℕ} {text : List ℕ} → Reads words command → Answers table holds before now words status text → Of command.verb command status text
     of_command {command} x (has_no_reading n) = absurd (n command x)
-    of_command x (isnt_built {command = other} y n) = of_other x y refl (not_of other.verb other n)
-    of_command x (checks {name = name} {proof = proof} y v p a) = of_other x y v (name, proof, p, a)
-    of_command x (shows {name = name} y v p a) = of_other x y v (name, p, a)
-    of_command x (orders {name = name} y v p a) = of_other x y v (name, p, a)
+    of_command x (isnt_built {command = other} y n) = of_other other.verb 4 usage_line x y refl (not_of other.verb other n)
+    of_command {status = status} {text = text} x (checks {name = name} {proof = proof} y v p a) = of_other verb.Check status text x y v (name, proof, p, a)
+    of_command {status = status} {text = text} x (shows {name = name} y v p a) = of_other verb.Show status text x y v (name, p, a)
+    of_command {status = status} {text = text} x (orders {name = name} y v p a) = of_other verb.Order status text x y v (name, p, a)
 
     -- the same by the command's verb
     pub of_verb : {command : Command} {status : ℕ} {text : List ℕ} (v : Verb) → command.verb ≡ v → Reads words command → Answers table holds before now words status text → Of v command status text
     of_verb {command} {status} {text} v e x a = subst (λ w. Of w command status text) e (of_command x a)
 
     -- whether the words are a command
-    pub read_or_not : {status : ℕ} {text : List ℕ} → Answers table holds before now words status text → ((command : Command) × Reads words command) ⊎ (((command : Command) → Reads words command → ⊥) × IsUsage status text)
-    read_or_not (has_no_reading n) = inr (n, refl, refl)
-    read_or_not (isnt_built {command = other} y n) = inl (other, y)
-    read_or_not (checks {command = other} y v p a) = inl (other, y)
-    read_or_not (shows {command = other} y v p a) = inl (other, y)
-    read_or_not (orders {command = other} y v p a) = inl (other, y)
+    pub read_or_not : (status : ℕ) (text : List ℕ) → Answers table holds before now words status text → ((command : Command) × Reads words command) ⊎ (((command : Command) → Reads words command → ⊥) × IsUsage status text)
+    read_or_not status text (has_no_reading n) = inr (n, (refl, refl))
+    read_or_not status text (isnt_built {command = other} y n) = inl (other, y)
+    read_or_not status text (checks {command = other} y v p a) = inl (other, y)
+    read_or_not status text (shows {command = other} y v p a) = inl (other, y)
+    read_or_not status text (orders {command = other} y v p a) = inl (other, y)

@@ -35,7 +35,7 @@ module _ (m : Meaning) (s t : Tree) where
 module _ (table : Table) where
   pub directed_once : (m : Meaning) {number : ℕ} {es : List Equation} {a b : List ℕ} → AreDirected table m number es a → AreDirected table m number es b → a ≡ b
   directed_once m none_left none_left = refl
-  directed_once m {number = number} (one_line {e = e} cmp x xs) (one_line other y ys) = ap₂ (λ c lines. directed_line table number c e ++ lines) (compares_once m e.left e.right cmp other x y) (directed_once m xs ys)
+  directed_once m {number = number} (one_line cmp {e = e} x xs) (one_line other y ys) = ap₂ (λ c lines. directed_line table number c e ++ lines) (compares_once m e.left e.right cmp other x y) (directed_once m xs ys)
 
   module _ (words : OrderWords) (problem : Problem) where
     pub ordered_once : {s t : ℕ} {a b : List ℕ} → IsOrdered table words problem s a → IsOrdered table words problem t b → (s ≡ t) × (a ≡ b)

@@ -1,6 +1,6 @@
 use Rattle.std.proofs.Common.{◌≡◌, [], ◌∷◌, refl, sym, ◌∙◌, arith}
 use Rattle.std.proofs.lemmas.Result.{IfOk-weaker}
-use Rattle.uc_top.specs.Answers.{checks, shows, isnt_built}
+use Rattle.uc_top.specs.Answers.{checks, shows, orders, isnt_built}
 use Rattle.uc_top.specs.Runs.{MayAnswer, is_answer}
 use Rattle.uc_top.proofs.Answering.{one_line, one_name, two_names, not_built, none_distinct, usage_not_done}
 use Rattle.uc_top.proofs.program.command_answer.Goals as goal
@@ -27,9 +27,14 @@ returns-in-len1-clause-answers g c words r =
     let names : c.args.command.now.positionals ≡ c.name-item-then-this-lt2.result ∷ [] = sym c.as_slice-in-Show.ensures ∙ one_name c.as_slice-in-Show.result.now c.name-item-then-this-lt2.result c.in-len1.len_at_least c.in-len1.len_below c.name-item-then-this-lt2.is in
     IfOk-weaker c.show_answer.result _ _ (λ answer a. is_answer a.1 (shows r c.in-Show.is names a.2)) (rw c.as_ref-in-len1.ensures.value at c.show_answer.ensures.answers)
 
+pub returns-in-len1-as_slice-clause-answers : goal.returns-in-len1-as_slice-clause-answers
+returns-in-len1-as_slice-clause-answers g c words r =
+    let names : c.args.command.now.positionals ≡ c.name-item-then-this-lt2-2.result ∷ [] = sym c.as_slice-in-Order.ensures ∙ one_name c.as_slice-in-Order.result.now c.name-item-then-this-lt2-2.result c.in-len1-as_slice.len_at_least c.in-len1-as_slice.len_below c.name-item-then-this-lt2-2.is in
+    IfOk-weaker c.order_answer.result _ _ (λ answer a. is_answer a.1 (orders r c.in-Order.is names a.2)) (rw c.as_ref-in-len1-as_slice.ensures.value at c.order_answer.ensures.answers)
+
 pub returns-in_default : goal.returns-in_default
 returns-in_default g c = record {
-  answers = λ words r. one_line c.usage_answer.result (MayAnswer _ _ _ words) _ _ c.usage_answer.ensures (is_answer {table = []} none_distinct (isnt_built r (not_built _ c.in_default.not-Check c.in_default.not-Show)));
+  answers = λ words r. one_line c.usage_answer.result (MayAnswer _ _ _ words) _ _ c.usage_answer.ensures (is_answer {table = []} none_distinct (isnt_built r (not_built _ c.in_default.not-Check c.in_default.not-Show c.in_default.not-Order)));
   certified = λ v. usage_not_done _ c.usage_answer.result _ c.usage_answer.ensures;
   same = refl;
   later = omega arith;
