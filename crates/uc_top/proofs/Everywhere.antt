@@ -102,7 +102,7 @@ module _ (t u : Table) (ρ : Sym → Sym) (moves : (f : Sym) (e : Entry) → sli
 
   -- what is printed
   mutual
-    term_moved : (x : Tree) → IsOf t x → term_text u (renamed ρ x) ≡ term_text t x
+    pub term_moved : (x : Tree) → IsOf t x → term_text u (renamed ρ x) ≡ term_text t x
     term_moved (var n) h = refl
     term_moved (app f ts) h = ap₂ (λ n r. spelling n ++ r) (name_moved f h.0) (args_moved ts h.2)
 

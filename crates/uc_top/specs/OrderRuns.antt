@@ -20,7 +20,7 @@ pub data OrderEnds (table : Table) (spec : OrderSpec) (problem : Problem) (old n
   directs_all : {lines : List ℕ} → AreDirected table (meaning_of table spec) 0 (axioms_of problem.clauses) lines → Appends old new lines → OrderEnds table spec problem old new 0
   lacks_memory : Appends old new memory_line → OrderEnds table spec problem old new 7
 
--- The run has a table, whose symbols are all different. Where the files hold a problem in it, and the words of `order` name an
--- order for it, `order` ends so.
+-- Where the words of `order` name an order for a problem that the files hold, in whatever table without an entry twice its symbols
+-- stand, `order` ends so.
 abbrev pub CompletesOrder : Files → List (List ℕ) → Option (List ℕ) → Option (List ℕ) → ℕ → Type 0
-CompletesOrder files words old new result = (table : Table) × IsDistinct table × ((command : Command) (name : List ℕ) (problem : Problem) (spec : OrderSpec) → Reads words command → command.verb ≡ Order → command.positionals ≡ name ∷ [] → Holds table files command.root name problem → IsChosen table problem.signature command.order None spec → OrderEnds table spec problem old new result)
+CompletesOrder files words old new result = (command : Command) (name : List ℕ) (table : Table) (problem : Problem) (spec : OrderSpec) → Reads words command → command.verb ≡ Order → command.positionals ≡ name ∷ [] → IsDistinct table → Holds table files command.root name problem → IsChosen table problem.signature command.order None spec → OrderEnds table spec problem old new result
