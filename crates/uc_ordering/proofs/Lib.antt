@@ -1,0 +1,15 @@
+pub mod Once
+pub mod NumberLists
+pub mod Made
+pub mod Steps
+pub mod Again
+pub mod Lists
+pub mod Signatures
+pub mod Named
+pub mod Sorted
+pub mod Totals
+pub mod Marks
+pub mod GoodWeights
+pub mod Fitting
+pub mod Choosing
+pub mod Lasts
