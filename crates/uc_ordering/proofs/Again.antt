@@ -1,5 +1,5 @@
 -- The first name that stands again, found from the end.
-use Rattle.std.proofs.Common.{◌≡◌, ℕ, zero, suc, ◌+◌, ◌-◌, ◌<◌, ◌≤◌, Bool, true, false, List, [], ◌∷◌, length, drop, get_or, bytes_eq, Option, Some, None, is_some, ◌||◌, map, if◌then◌else◌, refl, sym, ap, ◌∙◌, arith}
+use Rattle.std.proofs.Common.{◌≡◌, ℕ, zero, suc, ◌+◌, ◌<◌, ◌≤◌, Bool, true, false, List, [], ◌∷◌, length, drop, get_or, bytes_eq, Option, Some, None, is_some, ◌||◌, map, if◌then◌else◌, refl, sym, ap, ◌∙◌, arith}
 use Rattle.std.specs.List.{list_any}
 use Rattle.uc_order.proofs.Renaming.{drop_more, drop_end}
 use Rattle.uc_ordering.specs.Choice.{first_again}
@@ -46,8 +46,8 @@ one_put names place next v name old new e h it was now n = ap is_some (now n) �
 pub weight_put : (weights : List (List ℕ × ℕ)) (place next v : ℕ) (name : List ℕ) (d : List ℕ × ℕ) (old new : List ℕ → Option ℕ) → next + 1 ≡ place → place ≤ length weights → name ≡ (get_or weights next d).0 → v ≡ (get_or weights next d).1 → ((n : List ℕ) → old n ≡ weight_given (drop place weights) n) → ((n : List ℕ) → new n ≡ (if bytes_eq name n then Some v else old n)) → (n : List ℕ) → new n ≡ weight_given (drop next weights) n
 weight_put weights place next v name d old new e h it this was now n =
     now n ∙ ap (λ o. if bytes_eq name n then Some v else o) (was n) ∙ ap (λ l. if bytes_eq l n then Some v else weight_given (drop place weights) n) it
-      ∙ ap (λ w. if bytes_eq (get_or weights next d).0 n then Some w else weight_given (drop place weights) n) this
-      ∙ sym (ap (λ l. weight_given l n) (drop_more weights next d (omega (arith, e)) ∙ ap (λ m. get_or weights next d ∷ drop m weights) e))
+    ∙ ap (λ w. if bytes_eq (get_or weights next d).0 n then Some w else weight_given (drop place weights) n) this
+    ∙ sym (ap (λ l. weight_given l n) (drop_more weights next d (omega (arith, e)) ∙ ap (λ m. get_or weights next d ∷ drop m weights) e))
 
 -- a name is some's number there exactly where it is among them
 pub given_names : (weights : List (List ℕ × ℕ)) (n : List ℕ) → is_some (weight_given weights n) ≡ list_any (bytes_eq n) (map (λ p. p.0) weights)

@@ -1,5 +1,5 @@
 -- What the look-ups come to.
-use Rattle.std.proofs.Common.{◌≡◌, ℕ, Bool, true, false, not, List, [], ◌∷◌, ◌++◌, ◌==◌, bytes_eq, map, fold, max, find, filter, filter_map, is_none, is_some, unwrap_or, Vec, Option, Some, None, Result, Ok, Err, IfErr, IfSome, if◌then◌else◌, refl, sym, ap, ◌∙◌, subst}
+use Rattle.std.proofs.Common.{◌≡◌, ℕ, Bool, true, false, not, List, [], ◌∷◌, ◌++◌, ◌==◌, bytes_eq, map, fold, max, find, filter, filter_map, is_none, is_some, unwrap_or, Vec, Option, Some, None, IfSome, if◌then◌else◌, refl, sym, ap, ◌∙◌}
 use Rattle.std.proofs.Math.Path.{fun_ext}
 use Rattle.std.specs.List.{list_any}
 use Rattle.std.specs.declared.alloc.Global.{Global}
@@ -14,8 +14,8 @@ use Rattle.uc_words.specs.declared.command.OrderWords.{OrderWords}
 use Rattle.uc_ordering.specs.declared.fault.ChoiceFault.{ChoiceFault}
 use Rattle.uc_ordering.specs.declared.fault.ChoiceFault.TheVariants.{UnknownSymbol, NotTotal, BadWeight, NoMemory}
 use Rattle.uc_ordering.specs.Numbers.{number_in, symbol_in, is_bad_in, IsLacking, IsAgain, IsBadAmong}
-use Rattle.uc_ordering.specs.Precedence.{by_arity, is_named, unnamed, symbols_named, precedence_of}
-use Rattle.uc_ordering.specs.Weights.{weight_given, weight_of, heaviest, is_bad_at, is_bad_for}
+use Rattle.uc_ordering.specs.Precedence.{by_arity, is_named, unnamed}
+use Rattle.uc_ordering.specs.Weights.{weight_given, weight_of, is_bad_at, is_bad_for}
 use Rattle.uc_ordering.specs.Choice.{own_symbols, first_again, first_or, first_unknown, first_twice, first_bad, own_precedence, own_weights, heaviest_constant, weighed_names, below_marks, with_behind, spec_of, IsChosen, IsChoiceFault}
 use Rattle.uc_ordering.proofs.Lists.{each_in, in_each}
 use Rattle.uc_ordering.proofs.Signatures.{Signed, found_is}
@@ -147,6 +147,6 @@ module _ (table : Table) (signature : Signature) (words : OrderWords) where
           once = once;
           fit = fit;
           is = e ∙ ap (λ (n : ℕ). spec_of words.lpo words.w0 (with_behind (below_marks weights) weights (n ∷ n ∷ words.w0 ∷ [])) (with_behind (below_marks weights) list three)) h
-            ∙ ap (λ (ws : List ℕ). spec_of words.lpo words.w0 (with_behind (below_marks ws) ws (heaviest_constant table signature words ∷ heaviest_constant table signature words ∷ words.w0 ∷ [])) (with_behind (below_marks ws) list three)) weights_are
-            ∙ ap (λ (fs : List Sym). spec_of words.lpo words.w0 (with_behind (below_marks (own_weights table signature words)) (own_weights table signature words) (heaviest_constant table signature words ∷ heaviest_constant table signature words ∷ words.w0 ∷ [])) (with_behind (below_marks (own_weights table signature words)) fs three)) list_is;
+              ∙ ap (λ (ws : List ℕ). spec_of words.lpo words.w0 (with_behind (below_marks ws) ws (heaviest_constant table signature words ∷ heaviest_constant table signature words ∷ words.w0 ∷ [])) (with_behind (below_marks ws) list three)) weights_are
+              ∙ ap (λ (fs : List Sym). spec_of words.lpo words.w0 (with_behind (below_marks (own_weights table signature words)) (own_weights table signature words) (heaviest_constant table signature words ∷ heaviest_constant table signature words ∷ words.w0 ∷ [])) (with_behind (below_marks (own_weights table signature words)) fs three)) list_is;
         }

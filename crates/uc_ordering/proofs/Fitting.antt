@@ -1,18 +1,17 @@
 -- What the options name fits the signature.
-use Rattle.std.proofs.Common.{◌≡◌, ℕ, ◌+◌, ◌≤◌, Bool, true, false, List, [], ◌∷◌, ◌++◌, length, map, take, drop, find, is_none, Option, Some, None, refl, sym, ap, ◌∙◌, subst, arith, take-append-drop}
+use Rattle.std.proofs.Common.{◌≡◌, ℕ, ◌+◌, ◌≤◌, Bool, true, false, List, [], ◌∷◌, ◌++◌, length, take, drop, is_none, Option, Some, None, refl, sym, ap, subst, arith, take-append-drop}
 use Rattle.std.proofs.lemmas.List.{length-map, length-append}
 use Rattle.uc_term.specs.declared.node.Sym.{Sym}
 use Rattle.uc_term.specs.declared.fresh.Fresh.{Fresh}
 use Rattle.uc_term.specs.declared.signature.Signature.{Signature}
-use Rattle.uc_term.specs.Table.{Table, Has, arity_of}
+use Rattle.uc_term.specs.Table.{Table, Has}
 use Rattle.uc_term.specs.Signatures.{first_named}
-use Rattle.uc_order.specs.Members.{In, Each, AreDistinct}
+use Rattle.uc_order.specs.Members.{In, Each}
 use Rattle.uc_order.specs.Precedence.{IsTotalOn}
 use Rattle.uc_order.specs.declared.spec.OrderSpec.{OrderSpec}
-use Rattle.uc_kbo.specs.Faults.{HasConstant}
 use Rattle.uc_words.specs.declared.command.OrderWords.{OrderWords}
-use Rattle.uc_ordering.specs.Choice.{own_symbols, all_symbols, first_again, first_or, first_unknown, first_twice, first_bad, own_precedence, own_weights, heaviest_constant, weighed_names, below_marks, with_behind, spec_of, chosen, IsChosen}
-use Rattle.uc_ordering.specs.Weights.{weight_of, heaviest}
+use Rattle.uc_ordering.specs.Choice.{own_symbols, all_symbols, first_again, first_or, own_precedence, own_weights, heaviest_constant, weighed_names, below_marks, with_behind, spec_of, chosen, IsChosen}
+use Rattle.uc_ordering.specs.Weights.{weight_of}
 use Rattle.uc_ordering.specs.Fits.{Fits, IsTotalSpec, AreWeights}
 use Rattle.uc_ordering.specs.Premises.{IsSignature, AreMarks}
 use Rattle.uc_ordering.proofs.Lists.{In-left, in_each}

@@ -1,19 +1,18 @@
 -- The weights that options name are good, with and without the encoding's symbols.
-use Rattle.std.proofs.Common.{◌≡◌, ℕ, zero, suc, ◌+◌, ◌-◌, ◌<◌, ◌≤◌, ◌==◌, ◌&&◌, ◌||◌, nat_lt, max, fold, Bool, true, false, not, List, [], ◌∷◌, ◌++◌, length, take, drop, map, bytes_eq, unwrap_or, Option, Some, None, is_none, find, if◌then◌else◌, refl, sym, ap, ◌∙◌, subst, arith, ◌⊎◌, inl, inr}
+use Rattle.std.proofs.Common.{◌≡◌, ℕ, suc, ◌-◌, ◌≤◌, ◌==◌, ◌&&◌, ◌||◌, nat_lt, max, fold, Bool, true, false, not, List, [], ◌∷◌, ◌++◌, length, map, bytes_eq, unwrap_or, Option, Some, None, is_none, find, if◌then◌else◌, refl, sym, ap, ◌∙◌, subst, arith, inl, inr}
 use Rattle.std.specs.Cmp.Lexicographic.{bytes_decides}
 use Rattle.std.proofs.lemmas.Bool.{eqb-true, eq-eqb, false≢true}
 use Rattle.std.proofs.lemmas.Bool.Decides.{nat_tests}
-use Rattle.std.proofs.lemmas.List.{length-map}
 use Rattle.uc_term.specs.declared.node.Sym.{Sym}
 use Rattle.uc_term.specs.declared.signature.Signature.{Signature}
 use Rattle.uc_term.specs.Table.{Table, name_of, arity_of}
-use Rattle.uc_term.specs.Signatures.{first_named, same_symbol}
+use Rattle.uc_term.specs.Signatures.{first_named}
 use Rattle.uc_order.specs.Members.{In, in_front, in_rest, AreDistinct}
 use Rattle.uc_order.proofs.Counts.{same_sym}
 use Rattle.uc_kbo.specs.Faults.{weighed, IsBad, NoneBad}
 use Rattle.uc_kbo.specs.declared.weights.Weighed.{Weighed}
 use Rattle.uc_ordering.specs.Choice.{below_marks, ends_in_zero, with_behind}
-use Rattle.uc_ordering.specs.Weights.{weight_given, weight_of, is_last, is_bad, is_bad_for, heaviest}
+use Rattle.uc_ordering.specs.Weights.{weight_given, weight_of, is_last, is_bad, is_bad_for}
 use Rattle.uc_ordering.proofs.Signatures.{Signed}
 use Rattle.uc_ordering.proofs.Named.{find_none-in}
 use Rattle.uc_ordering.proofs.Totals.{same_symbol_of}
@@ -168,7 +167,7 @@ module _ (table : Table) (w0 : ℕ) (some : 1 ≤ w0) (most : w0 ≤ 1000000) wh
           go false e = (entry_good f (w f) (weighed table marks weights) (some_fine (f ∷ []) f (length (weighed table marks weights)) (h f in_front) (λ z. absurd (false≢true (sym e ∙ eq-eqb (w f) 0 z)))), marks_good [] [] tt)
       none_bad_with (f ∷ g ∷ gs) a h =
           rw (one_below (w f) (w g) (map w gs))
-             (entry_good f (w f) (weighed table (with_behind (below_marks (map w (g ∷ gs))) (g ∷ gs) marks) (with_behind (below_marks (map w (g ∷ gs))) (map w (g ∷ gs)) weights)) (some_fine (f ∷ g ∷ gs) f (length (weighed table (with_behind (below_marks (map w (g ∷ gs))) (g ∷ gs) marks) (with_behind (below_marks (map w (g ∷ gs))) (map w (g ∷ gs)) weights))) (h f in_front) (behind f g gs a (h f in_front))), none_bad_with (g ∷ gs) a.1 (λ e i. later e (h e (in_rest i))))
+          (entry_good f (w f) (weighed table (with_behind (below_marks (map w (g ∷ gs))) (g ∷ gs) marks) (with_behind (below_marks (map w (g ∷ gs))) (map w (g ∷ gs)) weights)) (some_fine (f ∷ g ∷ gs) f (length (weighed table (with_behind (below_marks (map w (g ∷ gs))) (g ∷ gs) marks) (with_behind (below_marks (map w (g ∷ gs))) (map w (g ∷ gs)) weights))) (h f in_front) (behind f g gs a (h f in_front))), none_bad_with (g ∷ gs) a.1 (λ e i. later e (h e (in_rest i))))
         where
           later : (e : Sym) → FineIn (f ∷ g ∷ gs) e (w e) → FineIn (g ∷ gs) e (w e)
           later e k = record { bounded = k.bounded; constant = k.constant; vanishing = k.vanishing }

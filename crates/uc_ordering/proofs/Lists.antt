@@ -1,5 +1,5 @@
 -- Members of lists, and lists without a double.
-use Rattle.std.proofs.Common.{◌≡◌, ℕ, zero, suc, ◌+◌, ◌<◌, Bool, true, false, List, [], ◌∷◌, ◌++◌, length, take, drop, filter, not, refl, sym, ap, ◌∙◌, subst, ◌⊎◌, inl, inr, if◌then◌else◌}
+use Rattle.std.proofs.Common.{◌≡◌, Bool, true, false, List, [], ◌∷◌, ◌++◌, filter, refl, subst, ◌⊎◌, inl, inr, if◌then◌else◌}
 use Rattle.uc_order.specs.Members.{In, in_front, in_rest, Each, AreDistinct}
 
 module _ {A : Type 0} where

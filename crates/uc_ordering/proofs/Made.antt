@@ -1,9 +1,9 @@
 -- Of a description that fits, an order of either kind is made, or memory is wanting.
-use Rattle.std.proofs.Common.{◌≡◌, ℕ, List, [], ◌∷◌, Result, Ok, Err, IfOk, IfErr, MatchResult, refl, sym, subst, ◌∙◌, ap, ◌⊎◌, inl, inr}
+use Rattle.std.proofs.Common.{◌≡◌, ℕ, List, [], ◌∷◌, Result, Ok, Err, IfOk, IfErr, MatchResult, refl, sym, subst, inl, inr}
 use Rattle.std.specs.declared.alloc.AllocError.{AllocError}
 use Rattle.uc_term.specs.declared.node.Sym.{Sym}
 use Rattle.uc_term.specs.Table.{Table}
-use Rattle.uc_order.specs.Members.{In, in_front, in_rest, Each, IsFirst, first_front, first_rest, IsTwice, twice_front, twice_rest, AreDistinct}
+use Rattle.uc_order.specs.Members.{In, Each, IsFirst, first_front, first_rest, IsTwice, twice_front, twice_rest, AreDistinct}
 use Rattle.uc_order.specs.Precedence.{IsTotalOn, IsPrecedenceFault}
 use Rattle.uc_order.specs.declared.spec.OrderSpec.{OrderSpec}
 use Rattle.uc_order.specs.declared.spec.OrderSpec.TheVariants as spec

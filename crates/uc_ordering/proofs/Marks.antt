@@ -1,12 +1,12 @@
 -- The encoding's symbols are three, and none of the signature's.
-use Rattle.std.proofs.Common.{◌≡◌, ℕ, zero, suc, List, [], ◌∷◌, ◌++◌, get_or, codes, Option, Some, None, refl, sym, ap, ◌∙◌, subst, arith}
+use Rattle.std.proofs.Common.{◌≡◌, ℕ, zero, suc, List, [], ◌∷◌, get_or, codes, Some, refl, sym, ap, ◌∙◌, arith}
 use Rattle.std.proofs.lemmas.Option.{slice_get_within}
 use Rattle.uc_term.specs.declared.node.Sym.{Sym}
 use Rattle.uc_term.specs.declared.fresh.Fresh.{Fresh}
 use Rattle.uc_term.specs.declared.signature.Signature.{Signature}
 use Rattle.uc_term.specs.Table.{Table, Has, name_of, arity_of}
 use Rattle.uc_term.specs.Signatures.{first_named, IsFreshFor, tried_name}
-use Rattle.uc_order.specs.Members.{Each, In, in_front, in_rest, AreDistinct}
+use Rattle.uc_order.specs.Members.{Each, In, in_front, in_rest}
 use Rattle.uc_ordering.specs.Premises.{AreMarks}
 use Rattle.uc_ordering.proofs.Signatures.{symbol_name, symbol_arity, named_none}
 use Rattle.uc_ordering.proofs.Totals.{AreApart}

@@ -1,5 +1,5 @@
 -- The symbols that names name.
-use Rattle.std.proofs.Common.{◌≡◌, ℕ, Bool, true, false, List, [], ◌∷◌, ◌++◌, ◌||◌, bytes_eq, find, filter_map, map, Option, Some, None, is_none, if◌then◌else◌, refl, sym, ap, ◌∙◌, subst, ◌⊎◌, inl, inr}
+use Rattle.std.proofs.Common.{◌≡◌, ℕ, Bool, true, false, List, [], ◌∷◌, ◌++◌, ◌||◌, bytes_eq, find, Option, Some, None, if◌then◌else◌, refl, sym, ◌∙◌, subst}
 use Rattle.std.specs.List.{list_any, cons_option}
 use Rattle.std.specs.Cmp.Lexicographic.{bytes_decides}
 use Rattle.std.proofs.lemmas.Bool.{false≢true}
@@ -8,7 +8,7 @@ use Rattle.uc_term.specs.Table.{Table, name_of}
 use Rattle.uc_term.specs.Signatures.{first_named}
 use Rattle.uc_order.specs.Members.{In, in_front, in_rest, AreDistinct}
 use Rattle.uc_ordering.specs.Choice.{first_again}
-use Rattle.uc_ordering.specs.Precedence.{symbols_named, is_named}
+use Rattle.uc_ordering.specs.Precedence.{symbols_named}
 use Rattle.uc_ordering.proofs.Signatures.{found_is}
 
 find_none : {X : Type 0} (p : X → Bool) (x : X) (xs : List X) → find p (x ∷ xs) ≡ None → (p x ≡ false) × (find p xs ≡ None)

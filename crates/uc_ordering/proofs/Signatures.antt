@@ -1,5 +1,5 @@
 -- What the symbols of a signature keep.
-use Rattle.std.proofs.Common.{◌≡◌, ℕ, zero, suc, ◌+◌, ◌-◌, ◌<◌, Bool, true, false, List, [], ◌∷◌, ◌++◌, ◌==◌, length, take, get_or, append-nil, slice_get, unwrap_or, codes, bytes_eq, Option, Some, None, Result, Ok, Err, if◌then◌else◌, refl, sym, ap, ◌∙◌, subst, arith, ◌⊎◌, inl, inr}
+use Rattle.std.proofs.Common.{◌≡◌, ℕ, zero, suc, ◌-◌, Bool, true, false, List, [], ◌∷◌, ◌++◌, ◌==◌, length, take, append-nil, unwrap_or, codes, bytes_eq, Option, Some, None, Result, Ok, if◌then◌else◌, refl, sym, ap, ◌∙◌, subst, arith, ◌⊎◌, inl, inr}
 use Rattle.std.specs.Cmp.Lexicographic.{bytes_decides}
 use Rattle.std.proofs.lemmas.Option.{slice_get_within}
 use Rattle.std.proofs.lemmas.List.{take_at, length-append}
@@ -7,10 +7,9 @@ use Rattle.std.proofs.lemmas.Bool.{eqb-true}
 use Rattle.uc_term.specs.declared.node.Sym.{Sym}
 use Rattle.uc_term.specs.declared.fault.TermFault.{TermFault}
 use Rattle.uc_term.specs.declared.signature.Signature.{Signature}
-use Rattle.uc_term.specs.Tree.{Tree}
 use Rattle.uc_term.specs.Table.{Table, Entry, Has, Grows, IsSymbol, name_of, arity_of}
 use Rattle.uc_term.specs.Gathering.{HasAll}
-use Rattle.uc_term.specs.Signatures.{Occurrence, occurrences_of, Gathers, all_seen, seen_before, is_new, clashes, is_too_many, first_named, first_constant, IsFree, IsFreshFor, Completes, has_constant, gets_constant, IsSignatureOf, tried_name}
+use Rattle.uc_term.specs.Signatures.{Occurrence, Gathers, all_seen, seen_before, is_new, clashes, is_too_many, first_named, first_constant, Completes, has_constant, gets_constant, tried_name}
 use Rattle.uc_term.proofs.Grown.{gathers-grows, have_from}
 use Rattle.uc_order.specs.Members.{In, in_front, in_rest, Each, AreDistinct}
 use Rattle.uc_kbo.specs.Faults.{HasConstant}

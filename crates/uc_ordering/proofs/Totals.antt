@@ -1,17 +1,16 @@
 -- The precedence that options name is total on the signature, with and without the encoding's symbols.
-use Rattle.std.proofs.Common.{◌≡◌, ℕ, zero, suc, ◌+◌, ◌<◌, Bool, true, false, not, List, [], ◌∷◌, ◌++◌, length, take, drop, get_or, codes, Option, Some, None, is_none, find, map, refl, sym, ap, ◌∙◌, subst, arith, ◌⊎◌, inl, inr, take-append-drop, append_assoc}
+use Rattle.std.proofs.Common.{◌≡◌, ℕ, Bool, true, false, not, List, ◌++◌, take, drop, Option, Some, None, is_none, find, refl, sym, ap, ◌∙◌, subst, ◌⊎◌, inl, inr, take-append-drop, append_assoc}
 use Rattle.std.proofs.lemmas.Bool.{false≢true}
 use Rattle.uc_term.specs.declared.node.Sym.{Sym}
-use Rattle.uc_term.specs.declared.fresh.Fresh.{Fresh}
 use Rattle.uc_term.specs.declared.signature.Signature.{Signature}
-use Rattle.uc_term.specs.Table.{Table, Has, name_of, arity_of}
-use Rattle.uc_term.specs.Signatures.{first_named, IsFreshFor, tried_name}
-use Rattle.uc_order.specs.Members.{In, in_front, in_rest, Each, AreDistinct}
+use Rattle.uc_term.specs.Table.{Table, name_of}
+use Rattle.uc_term.specs.Signatures.{first_named}
+use Rattle.uc_order.specs.Members.{In, AreDistinct}
 use Rattle.uc_order.specs.Precedence.{IsTotalOn}
 use Rattle.uc_ordering.specs.Choice.{first_again, with_behind}
 use Rattle.uc_ordering.specs.Precedence.{is_named, unnamed, symbols_named, by_arity, precedence_of}
 use Rattle.uc_ordering.proofs.Lists.{In-left, In-right, In-cases, In-filter, filter-In, each_in, in_each, distinct-append, distinct-filter, distinct-left, distinct-right, distinct-apart}
-use Rattle.uc_ordering.proofs.Signatures.{Signed, Apart, found_is, symbol_name}
+use Rattle.uc_ordering.proofs.Signatures.{Signed}
 use Rattle.uc_ordering.proofs.Named.{find_none-in, any_in, in_any, distinct_names, named_from, named_to, distinct_named}
 use Rattle.uc_ordering.proofs.Sorted.{sorted_in, in_sorted, distinct_sorted}
 
@@ -63,7 +62,7 @@ module _ (table : Table) (own : List Sym) (signature : Signature) (s : Signed ta
     distinct_all : AreDistinct precedence
     distinct_all =
         distinct-append (by_arity table rest) (symbols_named table own names) (distinct_sorted table rest (distinct-filter (λ g. not (is_named table names g)) signature.symbols s.distinct)) (distinct_named table own names (distinct_names names once))
-            (λ f i j. absurd (false≢true (sym (rest_in f i).1 ∙ in_any (name_of table f) names (named_from table own names f j).0)))
+        (λ f i j. absurd (false≢true (sym (rest_in f i).1 ∙ in_any (name_of table f) names (named_from table own names f j).0)))
 
     pub total : IsTotalOn signature.symbols precedence
     total = (each_in (In signature.symbols) precedence known_in, distinct_all, each_in (In precedence) signature.symbols all_in)
@@ -102,8 +101,8 @@ module _ (fs marks list : List Sym) (n : ℕ) (t : IsTotalOn fs list) (a : AreAp
   distinct : AreDistinct (take n list ++ (marks ++ drop n list))
   distinct =
       distinct-append (take n list) (marks ++ drop n list) (distinct-left (take n list) (drop n list) both)
-          (distinct-append marks (drop n list) a.three (distinct-right (take n list) (drop n list) both) (λ f i j. a.others f (old f (In-right (take n list) (drop n list) f j)) i))
-          (λ f i k. elim (In-cases marks (drop n list) f k) [ inl j ↦ a.others f (old f (In-left (take n list) (drop n list) f i)) j | inr j ↦ distinct-apart (take n list) (drop n list) both f i j ])
+      (distinct-append marks (drop n list) a.three (distinct-right (take n list) (drop n list) both) (λ f i j. a.others f (old f (In-right (take n list) (drop n list) f j)) i))
+      (λ f i k. elim (In-cases marks (drop n list) f k) [ inl j ↦ a.others f (old f (In-left (take n list) (drop n list) f i)) j | inr j ↦ distinct-apart (take n list) (drop n list) both f i j ])
 
   pub total_with : IsTotalOn (fs ++ marks) (with_behind n list marks)
   total_with =

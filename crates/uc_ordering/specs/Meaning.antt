@@ -1,5 +1,5 @@
 -- What an order of either kind says.
-use Rattle.std.specs.Prelude.{◌≡◌, ◌↔◌, List, map, Option, Some, None}
+use Rattle.std.specs.Prelude.{◌≡◌, ◌↔◌, map, Option, Some, None}
 use Rattle.uc_term.specs.declared.node.Sym.{Sym}
 use Rattle.uc_term.specs.Tree.{Tree}
 use Rattle.uc_term.specs.Table.{Table, arity_of}

@@ -1,5 +1,5 @@
 -- The weights that an option gives to names.
-use Rattle.std.specs.Prelude.{ℕ, ◌==◌, ◌&&◌, ◌||◌, not, nat_lt, max, fold, Bool, true, false, List, [], ◌∷◌, Option, Some, None, unwrap_or, bytes_eq, if◌then◌else◌}
+use Rattle.std.specs.Prelude.{ℕ, ◌==◌, ◌&&◌, ◌||◌, not, nat_lt, max, fold, Bool, false, List, [], ◌∷◌, Option, Some, None, unwrap_or, bytes_eq, if◌then◌else◌}
 use Rattle.uc_term.specs.declared.node.Sym.{Sym}
 use Rattle.uc_term.specs.Table.{Table, name_of, arity_of}
 use Rattle.uc_term.specs.Signatures.{first_named, same_symbol}

@@ -1,5 +1,5 @@
 -- How `check` ends.
-use Rattle.std.proofs.Common.{◌⊎◌, inl, inr, ℕ, zero, suc, ◌+◌, ◌≡◌, ◌<◌, ◌≤◌, ◌||◌, Bool, true, false, cond, List, [], ◌∷◌, ◌++◌, codes, map, length, slice_get, get_or, unwrap_or, position, Option, Some, None, Result, Ok, Err, refl, sym, ap, ap₂, ◌∙◌, subst, arith}
+use Rattle.std.proofs.Common.{inl, inr, ℕ, zero, suc, ◌+◌, ◌≡◌, ◌||◌, Bool, true, false, cond, List, [], ◌∷◌, ◌++◌, codes, map, slice_get, get_or, unwrap_or, position, Option, Some, None, Result, Ok, Err, refl, sym, ap, ◌∙◌, subst}
 use Rattle.std.specs.List.{list_any, position_from}
 use Rattle.std.specs.Io.KnownBytes.{Appends}
 use Rattle.std.proofs.lemmas.Iterator.Adapters.{position_from-zero}
@@ -34,7 +34,7 @@ use Rattle.uc_words.specs.declared.command.Verb.TheVariants as verb
 use Rattle.uc_words.specs.Reads.{Reads}
 use Rattle.uc_words.proofs.Only.{only}
 use Rattle.uc_top.specs.Lines.{about_file, name_or_dash, cause_word, memory_line, checked_line, proof_line}
-use Rattle.uc_top.specs.Answers.{large_line, checked_status, TextAnswers, is_not_read, is_checked, ProofAnswers, is_absent, isnt_fetched, is_found, ProblemAnswers, has_large_goal, is_marked, CheckAnswers, fetch_fails, is_refused, is_loaded, Answers}
+use Rattle.uc_top.specs.Answers.{large_line, checked_status, TextAnswers, is_not_read, is_checked, is_absent, isnt_fetched, is_found, ProblemAnswers, has_large_goal, is_marked, CheckAnswers, fetch_fails, is_refused, is_loaded, Answers}
 use Rattle.uc_top.specs.Runs.{MayAnswer, is_answer, wants_memory, IsRun, EndsWith, tells_all, tells_want, CheckEnds, tells_checked, checks_in_want, CheckCompletes, CompletesCheck}
 use Rattle.uc_top.proofs.AnswersOnce.{LongOrRead, long_or_read, either_once, not_memory, read_not_memory, first_name, second_name}
 use Rattle.uc_top.proofs.ByVerb.{of_verb}
@@ -44,7 +44,7 @@ use Rattle.uc_top.proofs.Merged.{Merged, merged, moved, is_moved, placed, place_
 use Rattle.uc_top.proofs.Renamed.{sourced_renamed, flattens_renamed}
 use Rattle.uc_top.proofs.CheckMoved.{got, line_moved, marks_moved, checked_there}
 use Rattle.uc_top.proofs.CheckRead.{answer_moved, read_there, read_is_over}
-use Rattle.uc_top.proofs.CheckHeld.{problem_moved, held_there, marked_there, marks_had, none_large_moved, large_number_moved}
+use Rattle.uc_top.proofs.CheckHeld.{problem_moved, held_there, marked_there, marks_had, large_number_moved}
 
 none_passes : {X : Type 0} (p : X → Bool) (xs : List X) (n : ℕ) → list_any p xs ≡ false → position_from p n xs ≡ None
 none_passes p [] n e = refl

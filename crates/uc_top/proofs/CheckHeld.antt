@@ -1,6 +1,6 @@
 -- A problem that a library's files hold in one table of symbols they hold in another, with the symbols renamed; and its encoding
 -- has the renamed symbols.
-use Rattle.std.proofs.Common.{ℕ, zero, suc, ◌+◌, ◌≡◌, ◌==◌, ◌||◌, ◌&&◌, nat_lt, Bool, true, false, cond, List, [], ◌∷◌, ◌++◌, length, map, slice_get, get_or, option_map, codes, bytes_eq, position, Option, Some, None, Result, Ok, Err, if◌then◌else◌, refl, sym, ap, ap₂, ◌∙◌, subst, arith}
+use Rattle.std.proofs.Common.{ℕ, zero, suc, ◌+◌, ◌≡◌, ◌==◌, ◌||◌, ◌&&◌, nat_lt, Bool, true, false, cond, List, [], ◌∷◌, map, slice_get, get_or, option_map, codes, bytes_eq, position, Option, Some, None, Ok, if◌then◌else◌, refl, sym, ap, ap₂, ◌∙◌, subst}
 use Rattle.std.specs.List.{list_any, position_from}
 use Rattle.std.proofs.lemmas.Iterator.Adapters.{position_from-zero}
 use Rattle.std.proofs.lemmas.List.{map-append}
@@ -8,10 +8,8 @@ use Rattle.std.proofs.lemmas.Option.{slice_get_within, slice_get-get_or}
 use Rattle.uc_term.specs.declared.node.Sym.{Sym}
 use Rattle.uc_term.specs.declared.fresh.Fresh.{Fresh}
 use Rattle.uc_term.specs.declared.signature.Signature.{Signature}
-use Rattle.uc_term.specs.declared.fault.TermFault.{TermFault}
-use Rattle.uc_term.specs.Tree.{Tree, var, app, Trees, none, more, count, nodes, nodes_all}
+use Rattle.uc_term.specs.Tree.{Tree, var, app, Trees, none, more, nodes, nodes_all}
 use Rattle.uc_term.specs.Over.{AreOver}
-use Rattle.uc_term.specs.Variables.{has_variable}
 use Rattle.uc_term.specs.Table.{Table, Entry, Has, IsOf, Grows, name_of, arity_of}
 use Rattle.uc_term.specs.Gathering.{HasAll}
 use Rattle.uc_term.specs.Signatures.{occurrences_from, occurrences_of, Gathers, first_named, first_constant, tried_name, IsFreshFor, Completes, has_constant, gets_constant, IsSignatureOf}
@@ -19,15 +17,15 @@ use Rattle.uc_term.proofs.Grown.{have_from, gathers-grows}
 use Rattle.uc_edge.specs.Files.{Files}
 use Rattle.uc_clause.specs.declared.clause.Sourced.{Sourced}
 use Rattle.uc_problem.specs.declared.problem.Problem.{Problem}
-use Rattle.uc_problem.specs.Holds.{terms_of, numbers_of, Agrees, Holds}
-use Rattle.uc_problem.specs.Marks.{is_open_goal, is_too_large, AreMarks, Marks}
+use Rattle.uc_problem.specs.Holds.{terms_of, numbers_of, Holds}
+use Rattle.uc_problem.specs.Marks.{is_open_goal, is_too_large, Marks}
 use Rattle.uc_problem.specs.Sound.{AreSound}
 use Rattle.uc_problem.proofs.Sound.{terms_sound}
 use Rattle.uc_problem.proofs.Later.{Grows-refl}
 use Rattle.uc_problem.proofs.FreshMarks.{signature_has}
 use Rattle.uc_top.proofs.Renamed.{renamed, all_renamed, count_renamed, sourced_renamed, flattens_renamed}
 use Rattle.uc_top.proofs.Everywhere.{flat_sound, entry_moved, name_moved, terms_renamed, from_renamed, gathers_renamed, none_has}
-use Rattle.uc_top.proofs.CheckMoved.{open_renamed, fresh_moved, marks_moved, MarksOf}
+use Rattle.uc_top.proofs.CheckMoved.{open_renamed, marks_moved, MarksOf}
 
 abbrev signature_moved : (Sym → Sym) → Signature → Signature
 signature_moved ρ s = record { symbols = map ρ s.symbols; least = ρ s.least; least_is_fresh = s.least_is_fresh }
@@ -99,11 +97,14 @@ module _ (t u : Table) (ρ : Sym → Sym) (moves : (f : Sym) (e : Entry) → sli
 
   sound_there : (ss : List Sourced) → AreSound t ss → AreSound u (map (sourced_renamed ρ) ss)
   sound_there [] h = tt
-  sound_there (s ∷ ss) h = (record {
-    left = term_there s.clause.left h.0.left;
-    right = term_there s.clause.right h.0.right;
-    places = h.0.places ∙ sym (ap₂ (λ a b. a + b) (nodes_renamed ρ s.clause.left) (nodes_renamed ρ s.clause.right));
-  }, sound_there ss h.1)
+  sound_there (s ∷ ss) h = (
+    record {
+      left = term_there s.clause.left h.0.left;
+      right = term_there s.clause.right h.0.right;
+      places = h.0.places ∙ sym (ap₂ (λ a b. a + b) (nodes_renamed ρ s.clause.left) (nodes_renamed ρ s.clause.right));
+    },
+    sound_there ss h.1,
+  )
 
   named_there : (name : List ℕ) (fs : List Sym) → HasAll t fs → first_named u name (map ρ fs) ≡ option_map ρ (first_named t name fs)
   named_there name [] h = refl

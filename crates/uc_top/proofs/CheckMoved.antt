@@ -1,10 +1,10 @@
 -- What a proof is checked to stays so when symbols are renamed, where another renaming leads back.
-use Rattle.std.proofs.Common.{ℕ, zero, suc, ◌+◌, ◌≡◌, ◌<◌, ◌⊎◌, inl, inr, Bool, true, false, ◌||◌, List, [], ◌∷◌, map, length, slice_get, option_map, option_and_then, Option, Some, None, Result, Ok, Err, refl, sym, ap, ap₂, ◌∙◌, subst, arith}
+use Rattle.std.proofs.Common.{ℕ, zero, suc, ◌≡◌, inl, inr, Bool, true, false, ◌||◌, List, [], ◌∷◌, map, length, slice_get, option_map, option_and_then, Option, Some, None, Result, Ok, Err, refl, sym, ap, ap₂, ◌∙◌, subst}
 use Rattle.std.proofs.lemmas.List.{length-map}
 use Rattle.uc_term.specs.declared.node.Sym.{Sym}
 use Rattle.uc_term.specs.declared.fresh.Fresh.{Fresh}
 use Rattle.uc_term.specs.Tree.{Tree, var, app, Trees, none, more, apply, apply_all}
-use Rattle.uc_term.specs.Path.{nth, change, argument, written_argument, at_position, put_position}
+use Rattle.uc_term.specs.Path.{nth, change, written_argument, at_position, put_position}
 use Rattle.uc_term.specs.Over.{AreOver}
 use Rattle.uc_term.specs.Table.{Table, Has, IsOf, arity_of}
 use Rattle.uc_term.specs.Variables.{firsts, has_variable, any_has_variable}
@@ -19,7 +19,7 @@ use Rattle.uc_check.specs.declared.checker.Cause.{Cause}
 use Rattle.uc_check.specs.declared.checker.Checked.{Checked}
 use Rattle.uc_check.specs.Variants.{AreVariants}
 use Rattle.uc_check.specs.Replacements.{IsRefutation, from_side, to_side, IsReplacement, Leads, arrives, not_earlier, no_replacement, goes_on}
-use Rattle.uc_check.specs.Lines.{SaysSame, IsClause, IsFile, IsChain, IsDenial, IsDerived, is_open, named_by, ReadsReflexive, ReadsRefuted, ReadsGoal, ShowsDenied, ShowsFalse, RefutesGround, RefutesEncoded, Tested, file_right, file_wrong, chain_right, chain_start, chain_step, chain_end, chain_parents, reflexive_right, reflexive_early, reflexive_wrong, goal_right, goal_early, goal_wrong, refute_right, refute_early, refute_wrong}
+use Rattle.uc_check.specs.Lines.{IsClause, IsFile, IsChain, IsDenial, IsDerived, is_open, named_by, ReadsReflexive, ReadsGoal, RefutesGround, RefutesEncoded, Tested, file_right, file_wrong, chain_right, chain_start, chain_step, chain_end, chain_parents, reflexive_right, reflexive_early, reflexive_wrong, goal_right, goal_early, goal_wrong, refute_right, refute_early, refute_wrong}
 use Rattle.uc_check.specs.Checks.{EndsInRefutation, IsRightLine, AreRightBefore, FailsFirst, IsChecked, accepted, rejected, no_line, no_refutation}
 use Rattle.uc_problem.specs.Sound.{AreSound}
 use Rattle.uc_top.proofs.Renamed.{renamed, all_renamed, sourced_renamed}

@@ -1,8 +1,8 @@
 -- What a text reads as in one table of symbols it reads as in another, with the symbols renamed.
-use Rattle.std.proofs.Common.{ℕ, ◌≡◌, List, [], ◌∷◌, map, slice_get, unwrap_or, Option, Some, Result, Ok, Err, refl, sym, ap, subst}
+use Rattle.std.proofs.Common.{ℕ, ◌≡◌, List, [], map, slice_get, unwrap_or, Option, Some, Result, Ok, Err, sym, ap, subst}
 use Rattle.std.proofs.lemmas.Option.{slice_get_within}
 use Rattle.uc_term.specs.declared.node.Sym.{Sym}
-use Rattle.uc_term.specs.Tree.{Tree, var, Trees, count}
+use Rattle.uc_term.specs.Tree.{Tree, Trees, count}
 use Rattle.uc_term.specs.Over.{AreOver}
 use Rattle.uc_term.specs.Table.{Table, Entry, Has, IsOf, IsSymbol, arity_of}
 use Rattle.uc_clause.specs.declared.token.Token.{Token}
@@ -21,7 +21,7 @@ use Rattle.uc_tstp.specs.Meaning.{MeanSteps, no_steps, one_step, MeansSource, Me
 use Rattle.uc_tstp.specs.Reading.{ReadsInside, no_token, no_name, reads, ReadsProof, no_frame, in_frame}
 use Rattle.uc_tstp.specs.Reading as reading
 use Rattle.uc_top.proofs.Renamed.{renamed, means_renamed}
-use Rattle.uc_top.proofs.CheckMoved.{step_moved, source_moved, line_moved, proof_moved, StepsOf, SourceOf, LineOf, LinesOf}
+use Rattle.uc_top.proofs.CheckMoved.{step_moved, source_moved, line_moved, proof_moved, StepsOf, SourceOf, LinesOf}
 
 -- what is read is over the table
 module _ (bytes : List ℕ) (tokens : List Token) (table : Table) where

@@ -4,7 +4,7 @@ use Rattle.std.specs.List.{flat_map}
 use Rattle.std.proofs.lemmas.Bool.{eqb-true, eq-eqb}
 use Rattle.std.proofs.Math.Bool.{or-true}
 use Rattle.uc_term.specs.Tree.{Tree, var, app, Trees, none, more, apply_all}
-use Rattle.uc_term.specs.Variables.{variables, variables_all, is_among, firsts_after, firsts, place_of, renumbered_by}
+use Rattle.uc_term.specs.Variables.{variables, variables_all, is_among, firsts_after, place_of, renumbered_by}
 use Rattle.uc_term.proofs.Firsts.{is_among-append}
 use Rattle.uc_check.specs.declared.proof.Proof.{Proof}
 use Rattle.uc_check.specs.declared.proof.Line.{Line}

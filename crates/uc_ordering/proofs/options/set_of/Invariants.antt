@@ -1,4 +1,4 @@
-use Rattle.std.proofs.Common.{◌≡◌, ◌≤◌, ℕ, List, [], length, drop, is_some, bytes_eq}
+use Rattle.std.proofs.Common.{◌≡◌, ◌≤◌, ℕ, List, length, drop, is_some, bytes_eq}
 use Rattle.std.specs.List.{list_any}
 use Rattle.uc_ordering.specs.Numbers.{number_in}
 use Rattle.uc_ordering.proofs.Again.{Found}

@@ -1,4 +1,4 @@
-use Rattle.std.proofs.Common.{◌≡◌, ℕ, List, take, drop, find, filter_map, is_none}
+use Rattle.std.proofs.Common.{◌≡◌, take, drop, find, filter_map, is_none}
 use Rattle.uc_ordering.specs.Numbers.{symbol_in}
 use Rattle.uc_ordering.proofs.options.symbols_named.Given as goal
 

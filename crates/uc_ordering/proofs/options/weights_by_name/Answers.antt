@@ -20,8 +20,7 @@ loop-place-preserved c =
     let item : c.as_bytes.result.now ≡ (get_or weights (place - 1) d).0 = c.as_bytes.ensures ∙ ap (λ (p : List ℕ × ℕ). p.0) (get_any weights (place - 1) c.index-weights-place.result d within) in
     let number : ℕ = (get_or weights (place - 1) c.index-weights-place-in-loop-place.result).1 in
     let weight : number ≡ (get_or weights (place - 1) d).1 = ap (λ (p : List ℕ × ℕ). p.1) (get_any weights (place - 1) c.index-weights-place-in-loop-place.result d within) in
-    let name : c.as_bytes.result.now ≡ get_or names (place - 1) [] = item ∙ sym (map-get_or (λ (p : List ℕ × ℕ). p.0) weights (place - 1) d [] within) in
-    (
+    let name : c.as_bytes.result.now ≡ get_or names (place - 1) [] = item ∙ sym (map-get_or (λ (p : List ℕ × ℕ). p.0) weights (place - 1) d [] within) in (
       omega (arith, within),
       weight_put weights place (place - 1) number c.as_bytes.result.now d (number_in c.loop-place.given.map.entries) (number_in c.put.new.self.map.entries) next i.0 item weight i.1 c.in_ok-was.ensures.put,
       one_earlier names place (place - 1) c.in_ok-was.was' c.loop-place.again c.earlier-again.result next inside (c.in_ok-was.ensures.was ∙ ap is_some (i.1 c.as_bytes.result.now) ∙ given_names (drop place weights) c.as_bytes.result.now ∙ ap (list_any (bytes_eq c.as_bytes.result.now)) (map-drop (λ (p : List ℕ × ℕ). p.0) weights place) ∙ ap (λ n. list_any (bytes_eq n) (drop place names)) name) c.earlier-again.ensures i.2,

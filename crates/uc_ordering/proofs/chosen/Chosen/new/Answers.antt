@@ -1,4 +1,3 @@
-use Rattle.uc_ordering.specs.Fits.{IsTotalSpec}
 use Rattle.uc_ordering.proofs.Made.{kbo_memory, lpo_memory, kbo_says, lpo_says}
 use Rattle.uc_ordering.proofs.chosen.Chosen.new.Goals as goal
 
