@@ -49,7 +49,7 @@ right : (a b : Bool) → b ≡ true → (a || b) ≡ true
 right true b e = refl
 right false b e = e
 
-first_is_one : (seen xs : List ℕ) (y : ℕ) → is_among y (firsts_after seen xs) ≡ true → is_among y xs ≡ true
+pub first_is_one : (seen xs : List ℕ) (y : ℕ) → is_among y (firsts_after seen xs) ≡ true → is_among y xs ≡ true
 first_is_one seen [] y h = h
 first_is_one seen (x ∷ xs) y h = go (is_among x seen) (first_is_one seen xs y) (first_is_one (x ∷ seen) xs y) h
   where

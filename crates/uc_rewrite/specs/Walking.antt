@@ -1,16 +1,17 @@
 -- A walk over a term in postorder: where it stands, and what is known of what lies behind it.
-use Rattle.std.specs.Prelude.{ℕ, ◌≡◌, ◌+◌, ◌<◌, ◌≤◌, ◌⊎◌, List, [], ◌∷◌, ◌++◌, length, Some}
+use Rattle.std.specs.Prelude.{ℕ, ◌≡◌, ◌+◌, ◌-◌, ◌*◌, ◌<◌, ◌≤◌, ◌⊎◌, List, [], ◌∷◌, ◌++◌, length, Some}
 use Rattle.uc_term.specs.declared.node.Sym.{Sym}
 use Rattle.uc_term.specs.declared.node.Node.{Node}
 use Rattle.uc_term.specs.declared.node.Node.TheVariants.{Var, App}
 use Rattle.uc_term.specs.Tree.{Tree, var, app, of_list, list_of, nodes, nodes_all}
 use Rattle.uc_order.specs.Members.{Each}
-use Rattle.uc_fact.specs.declared.index.Found.{Found}
+use Rattle.uc_term.specs.Flat.{tree_of}
 use Rattle.uc_fact.specs.declared.chain.Step.{Step}
 use Rattle.uc_fact.specs.Live.{Live, Rule, rules_of, equations_of}
 use Rattle.uc_fact.specs.Retrieval.{FirstThat}
 use Rattle.uc_fact.specs.Ordered.{IsIrreducible}
 use Rattle.uc_rewrite.specs.declared.walk.Open.{Open}
+use Rattle.uc_rewrite.specs.declared.walk.Redex.{Redex}
 use Rattle.uc_rewrite.specs.Completed.{LeadsDown}
 use Rattle.uc_rewrite.specs.Normalising.{FirstStep, step_by}
 
@@ -72,16 +73,21 @@ module _ (Greater : Tree → Tree → Type 0) (least : Sym) (live : List Live) w
   abbrev pub Walks : Tree → List Open → ℕ → Type 0
   Walks t opened place = Stands t opened place ⊎ ((opened ≡ []) × IsIrreducible Greater least (equations_of live) t)
 
+  -- the walk, from which the innermost subterm was taken, went on by one move
+  abbrev pub Advances : List Node → List Open → ℕ → List Open → ℕ → Type 0
+  Advances list old from new to = Walks (tree_of list) new to × (2 * (length list - to) + length new < 2 * (length list - from) + (length old + 1))
+
   -- the walk has left all arguments of u behind, and this is the first by which a step from u is possible
-  pub record Stops (t : Tree) (opened : List Open) (place : ℕ) (found : Found) : Type 0 where
+  pub record Stops (t : Tree) (opened : List Open) (redex : Redex) : Type 0 where
     pub frames : List Frame
     pub u : Tree
     pub t_is : t ≡ plug frames u
-    pub opened_is : opened ≡ opens frames ++ record { place = hole frames; pending = 0 } ∷ []
-    pub place_is : place ≡ hole frames + nodes u
+    pub opened_is : opened ≡ opens frames
+    pub from_is : redex.from ≡ hole frames
+    pub to_is : redex.to ≡ hole frames + nodes u
     pub frames_behind : IsBehind frames
     pub behind : AreNormal (arguments u)
-    pub first : FirstThat (LeadsDown Greater least live u) u (rules_of live) (Some found)
+    pub first : FirstThat (LeadsDown Greater least live u) u (rules_of live) (Some redex.found)
 
   -- the first possible step of t is this one, and over the term to which it leads the walk goes on
   pub record Steps (t : Tree) (step : Step) (opened : List Open) (place : ℕ) : Type 0 where

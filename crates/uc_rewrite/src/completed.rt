@@ -6,7 +6,7 @@ ghost use Rattle.uc_term.specs.Flat.{flat, tree_of, IsWhole};
 ghost use Rattle.uc_rewrite.specs.Completed.{completed};
 
 use std::alloc::{AllocError, Global};
-use uc_term::{MAX_NODES, Node, Subst, Sym};
+use uc_term::{MAX_INSTANCE, MAX_NODES, Node, Subst, Sym};
 
 /// The nodes of the pattern's instance, whatever its size, in which variables without a pair are the least constant.
 pub fn completed_instance(
@@ -17,7 +17,8 @@ pub fn completed_instance(
 ) -> Result<Vec<Node>, AllocError>
     requires whole { IsWhole pattern.now }
     requires small { length pattern.now ≤ MAX_NODES }
-    ensures { IfOk result (λ list. list.items ≡ flat (apply (completed least subst.now) (tree_of pattern.now))) }
+    ensures nodes { IfOk result (λ list. list.items ≡ flat (apply (completed least subst.now) (tree_of pattern.now))) }
+    ensures small { IfOk result (λ list. length list.items ≤ MAX_INSTANCE) }
 {
     let mut list = Vec::new(alloc);
     for node in pattern {

@@ -1,6 +1,6 @@
 //! Whether a step is possible.
 
-ghost use Rattle.std.specs.Prelude.{◌≡◌, ◌≤◌, length, MatchOption, None};
+ghost use Rattle.std.specs.Prelude.{◌≡◌, ◌≤◌, ◌↔◌, length, MatchOption, None, IsTrue};
 ghost use Rattle.uc_term.specs.Flat.{tree_of, IsWhole};
 ghost use Rattle.uc_fact.specs.Live.{rules_of, fact_at};
 ghost use Rattle.uc_fact.specs.Retrieval.{IsFound};
@@ -37,16 +37,13 @@ impl<'a, O: Order, I: Index> Test for Falls<'a, O, I> {
         };
         match self.rules.order.compare(from.as_nodes(), to.as_nodes()) {
             Cmp::Greater => Ok(true),
-            Cmp::Less | Cmp::Equal => Ok(false),
+            Cmp::Less => Ok(false),
+            Cmp::Equal => Ok(false),
             Cmp::Unknown => {
-                let smaller = completed_instance(
-                    alloc,
-                    to.as_nodes(),
-                    &found.subst,
-                    self.rules.order.least(),
-                )?;
+                let least = self.rules.order.least();
+                let smaller = completed_instance(alloc, to.as_nodes(), &found.subst, least)?;
                 let compared = self.rules.order.compare(self.term, smaller.as_slice());
-                Ok(compared == Cmp::Greater)
+                Ok(is_greater(compared))
             }
         }
     }
@@ -61,4 +58,10 @@ pub fn sides<'a, I: Index>(index: &'a I, found: &Found) -> Option<(&'a Term, &'a
         Side::Left => Some((left, right)),
         Side::Right => Some((right, left)),
     }
+}
+
+fn is_greater(compared: Cmp) -> bool
+    ensures { IsTrue result ↔ (compared ≡ Cmp.Greater) }
+{
+    compared == Cmp::Greater
 }

@@ -1,11 +1,11 @@
 //! Matching that takes no memory for a pattern whose symbols don't fit.
 
-ghost use Rattle.std.specs.Prelude.{◌≡◌, ◌≤◌, length, IfOk, MatchOption, false};
+ghost use Rattle.std.specs.Prelude.{◌≡◌, ◌≤◌, ◌↔◌, length, IfOk, IsTrue, MatchOption, false};
 ghost use Rattle.uc_term.specs.Flat.{IsWhole, tree_of};
 ghost use Rattle.uc_unify.specs.Matching.{IsMatch, HasNoMatch};
 
 use std::alloc::{AllocError, Global};
-use uc_term::{MAX_NODES, Node, Subst, end_of};
+use uc_term::{MAX_NODES, Node, Subst, Sym, end_of};
 use uc_unify::matches;
 
 /// The substitution that makes the pattern the term. None exactly where there is none.
@@ -33,8 +33,8 @@ fn fits(pattern: &[Node], term: &[Node]) -> bool
     for node in pattern {
         match *node {
             Node::Var(_) => place = end_of(term, place),
-            Node::App(_, _) => {
-                if term[place] != *node {
+            Node::App(f, n) => {
+                if !is_head(term[place], f, n) {
                     return false;
                 }
                 place += 1;
@@ -42,4 +42,15 @@ fn fits(pattern: &[Node], term: &[Node]) -> bool
         }
     }
     true
+}
+
+/// Whether the node is this symbol with this number of arguments.
+#[inline]
+fn is_head(node: Node, f: Sym, n: u32) -> bool
+    ensures { IsTrue result ↔ (node ≡ Node.App f n) }
+{
+    match node {
+        Node::App(g, m) => g == f && m == n,
+        Node::Var(_) => false,
+    }
 }

@@ -82,10 +82,10 @@ fn next_step<O: Order, I: Index>(
     ensures { IfOk result (IsNext (O.meaning rules.now.order.now).greater (O.meaning rules.now.order.now).least (I.live rules.now.index.now) term.now walk.new.opened.items walk.new.place) }
 {
     let list = term.as_nodes();
-    let Some(found) = walk.next(alloc, list, rules)? else {
+    let Some(redex) = walk.next(alloc, list, rules)? else {
         return Ok(Next::Irreducible);
     };
-    match walk.step(alloc, list, rules, &found)? {
+    match walk.step(alloc, list, rules, &redex)? {
         Some(step) => Ok(Next::Made(step)),
         None => Ok(Next::TooLarge),
     }

@@ -52,16 +52,19 @@ impl<'a> Index for Scan<'a> {
         test: &T,
     ) -> Result<Option<Found>, AllocError> {
         for (number, fact) in self.facts.iter().enumerate() {
-            let found = first_of_sides(alloc, fact, number as u32, term, test)?;
-            if found.is_some() {
-                return Ok(found);
+            if let Some(found) = first_of_sides(alloc, fact, number as u32, term, test)? {
+                return Ok(Some(found));
             }
         }
         Ok(None)
     }
 
     fn pair(&self, fact: u32) -> Option<(&Term, &Term)> {
-        let equation = self.facts.get(fact as usize)?;
+        let place = fact as usize;
+        if place >= self.facts.len() {
+            return None;
+        }
+        let equation = &self.facts[place];
         Some((&equation.left, &equation.right))
     }
 
@@ -91,14 +94,17 @@ fn add_match(
     requires small { length term.now ≤ MAX_NODES }
     ensures { IfOk result (λ _. Adds (tree_of term.now) (rule_of side (live_fact number fact.now) ∷ []) list.old.items list.new.items) }
 {
-    if let Some(subst) = matching(alloc, side_term(fact, side).as_nodes(), term)? {
-        list.push(Found {
-            fact: number,
-            side,
-            subst,
-        })?;
+    match matching(alloc, side_term(fact, side).as_nodes(), term)? {
+        Some(subst) => {
+            list.push(Found {
+                fact: number,
+                side,
+                subst,
+            })?;
+            Ok(())
+        }
+        None => Ok(()),
     }
-    Ok(())
 }
 
 /// The first of a fact's sides, left before right, of which the term is an instance and that passes the test.
@@ -114,11 +120,10 @@ fn first_of_sides<T: Test>(
     requires can { (found : AnyFound) → IsFound (tree_of term.now) (rules_of (live_fact number fact.now ∷ [])) found → T.can_test test.now found }
     ensures { IfOk result (FirstThat (T.accepts test.now) (tree_of term.now) (rules_of (live_fact number fact.now ∷ []))) }
 {
-    let found = first_of_side(alloc, fact, number, Side::Left, term, test)?;
-    if found.is_some() {
-        return Ok(found);
+    match first_of_side(alloc, fact, number, Side::Left, term, test)? {
+        Some(found) => Ok(Some(found)),
+        None => first_of_side(alloc, fact, number, Side::Right, term, test),
     }
-    first_of_side(alloc, fact, number, Side::Right, term, test)
 }
 
 /// A side of a fact, where the term is an instance of it and it passes the test.
@@ -135,17 +140,19 @@ fn first_of_side<T: Test>(
     requires can { (found : AnyFound) → IsFound (tree_of term.now) (rule_of side (live_fact number fact.now) ∷ []) found → T.can_test test.now found }
     ensures { IfOk result (FirstThat (T.accepts test.now) (tree_of term.now) (rule_of side (live_fact number fact.now) ∷ [])) }
 {
-    let Some(subst) = matching(alloc, side_term(fact, side).as_nodes(), term)? else {
-        return Ok(None);
-    };
-    let found = Found {
-        fact: number,
-        side,
-        subst,
-    };
-    if test.passes(alloc, &found)? {
-        Ok(Some(found))
-    } else {
-        Ok(None)
+    match matching(alloc, side_term(fact, side).as_nodes(), term)? {
+        Some(subst) => {
+            let found = Found {
+                fact: number,
+                side,
+                subst,
+            };
+            if test.passes(alloc, &found)? {
+                Ok(Some(found))
+            } else {
+                Ok(None)
+            }
+        }
+        None => Ok(None),
     }
 }

@@ -7,8 +7,9 @@ ghost use Rattle.uc_term.specs.declared.node.Node.TheVariants.{Var};
 ghost use Rattle.uc_fact.specs.Live.{rules_of, equations_of};
 ghost use Rattle.uc_fact.specs.Retrieval.{FirstThat};
 ghost use Rattle.uc_fact.specs.Ordered.{IsIrreducible};
+ghost use Rattle.uc_rewrite.specs.Normalising.{is_left};
 ghost use Rattle.uc_rewrite.specs.Completed.{LeadsDown};
-ghost use Rattle.uc_rewrite.specs.Walking.{arguments_of, Walks, Stops, Steps, IsLarge};
+ghost use Rattle.uc_rewrite.specs.Walking.{arguments_of, Walks, Advances, Stops, Steps, IsLarge};
 
 use crate::completed::completed_instance;
 use crate::falls::{Falls, Rules, sides};
@@ -22,6 +23,14 @@ use uc_term::{MAX_NODES, Node, Pos, Term};
 pub struct Open {
     place: usize,
     pending: u32,
+}
+
+/// A subterm from which a step is possible: its place, the place behind it, and by what the first one is.
+#[derive(Drop)]
+pub struct Redex {
+    from: usize,
+    to: usize,
+    found: Found,
 }
 
 /// A walk over a term in postorder: the subterms that it goes through, from the whole term inwards, and the place that comes
@@ -68,90 +77,139 @@ impl Walk {
         Ok(())
     }
 
-    /// Goes on to the first subterm from which a step is possible, with what is found there. None exactly where there is
-    /// none, so that the term is irreducible.
+    /// Goes on to the first subterm from which a step is possible. None exactly where there is none, so that the term is
+    /// irreducible.
     pub fn next<O: Order, I: Index>(
         &mut self,
         alloc: Global,
         list: &[Node],
         rules: &Rules<O, I>,
-    ) -> Result<Option<Found>, AllocError>
+    ) -> Result<Option<Redex>, AllocError>
         requires whole { IsWhole list.now }
         requires small { length list.now ≤ MAX_NODES }
         requires walks { Walks (O.meaning rules.now.order.now).greater (O.meaning rules.now.order.now).least (I.live rules.now.index.now) (tree_of list.now) self.old.opened.items self.old.place }
-        ensures { IfOk result (λ found. MatchOption found (IsIrreducible (O.meaning rules.now.order.now).greater (O.meaning rules.now.order.now).least (equations_of (I.live rules.now.index.now)) (tree_of list.now)) (Stops (O.meaning rules.now.order.now).greater (O.meaning rules.now.order.now).least (I.live rules.now.index.now) (tree_of list.now) self.new.opened.items self.new.place)) }
+        ensures { IfOk result (λ redex. MatchOption redex (IsIrreducible (O.meaning rules.now.order.now).greater (O.meaning rules.now.order.now).least (equations_of (I.live rules.now.index.now)) (tree_of list.now)) (Stops (O.meaning rules.now.order.now).greater (O.meaning rules.now.order.now).least (I.live rules.now.index.now) (tree_of list.now) self.new.opened.items)) }
     {
-        while !self.opened.is_empty() {
-            if let Some(found) = self.advance(alloc, list, rules)? {
-                return Ok(Some(found));
+        while let Some(top) = self.opened.pop() {
+            if let Some(redex) = self.advance(alloc, list, rules, top)? {
+                return Ok(Some(redex));
             }
         }
         Ok(None)
     }
 
-    /// Enters the next argument of the innermost subterm, or leaves that behind where it has no further one and no step from
-    /// it is possible.
+    /// Enters the next argument of the innermost subterm; or leaves that subterm behind, where it has no further one and no
+    /// step from it is possible.
     fn advance<O: Order, I: Index>(
         &mut self,
         alloc: Global,
         list: &[Node],
         rules: &Rules<O, I>,
-    ) -> Result<Option<Found>, AllocError>
+        top: Open,
+    ) -> Result<Option<Redex>, AllocError>
         requires whole { IsWhole list.now }
         requires small { length list.now ≤ MAX_NODES }
-        requires opened { 0 < length self.old.opened.items }
-        requires walks { Walks (O.meaning rules.now.order.now).greater (O.meaning rules.now.order.now).least (I.live rules.now.index.now) (tree_of list.now) self.old.opened.items self.old.place }
-        ensures { IfOk result (λ found. MatchOption found (Walks (O.meaning rules.now.order.now).greater (O.meaning rules.now.order.now).least (I.live rules.now.index.now) (tree_of list.now) self.new.opened.items self.new.place × (2 * (length list.now - self.new.place) + length self.new.opened.items < 2 * (length list.now - self.old.place) + length self.old.opened.items)) (Stops (O.meaning rules.now.order.now).greater (O.meaning rules.now.order.now).least (I.live rules.now.index.now) (tree_of list.now) self.new.opened.items self.new.place)) }
+        requires walks { Walks (O.meaning rules.now.order.now).greater (O.meaning rules.now.order.now).least (I.live rules.now.index.now) (tree_of list.now) (self.old.opened.items ++ top ∷ []) self.old.place }
+        ensures { IfOk result (λ redex. MatchOption redex (Advances (O.meaning rules.now.order.now).greater (O.meaning rules.now.order.now).least (I.live rules.now.index.now) list.now self.old.opened.items self.old.place self.new.opened.items self.new.place) (Stops (O.meaning rules.now.order.now).greater (O.meaning rules.now.order.now).least (I.live rules.now.index.now) (tree_of list.now) self.new.opened.items)) }
     {
-        let last = self.opened.len() - 1;
-        let top = self.opened[last];
         if top.pending > 0 {
-            self.opened[last].pending = top.pending - 1;
-            self.enter(list)?;
-            return Ok(None);
+            self.descend(list, top)?;
+            Ok(None)
+        } else {
+            self.leave(alloc, list, rules, top)
         }
-        let found = first_possible(alloc, &list[top.place..self.place], rules)?;
-        if found.is_none() {
-            self.opened.pop();
-        }
-        Ok(found)
     }
 
-    /// The step from the subterm at which the walk stopped, by what was found there; the walk then stands at the beginning of
-    /// the new subterm. None exactly where the step leads to a term of more than 4,096 nodes.
+    /// Enters the next argument of the innermost subterm.
+    fn descend(&mut self, list: &[Node], top: Open) -> Result<(), AllocError>
+        requires some { 0 < top.pending }
+        requires within { self.old.place < length list.now }
+        ensures opened { OnOk result (self.new.opened.items ≡ (self.old.opened.items ++ record { place = top.place; pending = top.pending - 1 } ∷ []) ++ record { place = self.old.place; pending = arguments_of (get_or list.now self.old.place (Var 0)) } ∷ []) }
+        ensures place { OnOk result (self.new.place ≡ self.old.place + 1) }
+    {
+        self.opened.push(Open {
+            place: top.place,
+            pending: top.pending - 1,
+        })?;
+        self.enter(list)
+    }
+
+    /// Leaves the innermost subterm behind, where no step from it is possible.
+    fn leave<O: Order, I: Index>(
+        &self,
+        alloc: Global,
+        list: &[Node],
+        rules: &Rules<O, I>,
+        top: Open,
+    ) -> Result<Option<Redex>, AllocError>
+        requires whole { IsWhole list.now }
+        requires small { length list.now ≤ MAX_NODES }
+        requires none { top.pending ≡ 0 }
+        requires walks { Walks (O.meaning rules.now.order.now).greater (O.meaning rules.now.order.now).least (I.live rules.now.index.now) (tree_of list.now) (self.now.opened.items ++ top ∷ []) self.now.place }
+        ensures { IfOk result (λ redex. MatchOption redex (Walks (O.meaning rules.now.order.now).greater (O.meaning rules.now.order.now).least (I.live rules.now.index.now) (tree_of list.now) self.now.opened.items self.now.place) (Stops (O.meaning rules.now.order.now).greater (O.meaning rules.now.order.now).least (I.live rules.now.index.now) (tree_of list.now) self.now.opened.items)) }
+    {
+        let term = part(list, top.place, self.place);
+        match first_possible(alloc, term, rules)? {
+            Some(found) => Ok(Some(Redex {
+                from: top.place,
+                to: self.place,
+                found,
+            })),
+            None => Ok(None),
+        }
+    }
+
+    /// The step from the subterm at which the walk stopped; the walk then stands at the beginning of the new subterm. None
+    /// exactly where the step leads to a term of more than 4,096 nodes.
     pub fn step<O: Order, I: Index>(
         &mut self,
         alloc: Global,
         list: &[Node],
         rules: &Rules<O, I>,
-        found: &Found,
+        redex: &Redex,
     ) -> Result<Option<Step>, AllocError>
         requires whole { IsWhole list.now }
         requires small { length list.now ≤ MAX_NODES }
-        requires stops { Stops (O.meaning rules.now.order.now).greater (O.meaning rules.now.order.now).least (I.live rules.now.index.now) (tree_of list.now) self.old.opened.items self.old.place found.now }
+        requires stops { Stops (O.meaning rules.now.order.now).greater (O.meaning rules.now.order.now).least (I.live rules.now.index.now) (tree_of list.now) self.old.opened.items redex.now }
         ensures { IfOk result (λ step. MatchOption step (IsLarge (O.meaning rules.now.order.now).greater (O.meaning rules.now.order.now).least (I.live rules.now.index.now) (tree_of list.now)) (λ step. Steps (O.meaning rules.now.order.now).greater (O.meaning rules.now.order.now).least (I.live rules.now.index.now) (tree_of list.now) step self.new.opened.items self.new.place)) }
     {
-        let Some((_, to)) = sides(rules.index, found) else {
+        let Some((_, to)) = sides(rules.index, &redex.found) else {
             return Ok(None);
         };
-        let part = completed_instance(alloc, to.as_nodes(), &found.subst, rules.order.least())?;
-        let Some(top) = self.opened.pop() else {
-            return Ok(None);
-        };
-        let size = list.len() - (self.place - top.place) + part.len();
-        if size > MAX_NODES {
+        let least = rules.order.least();
+        let part = completed_instance(alloc, to.as_nodes(), &redex.found.subst, least)?;
+        if list.len() - (redex.to - redex.from) + part.len() > MAX_NODES {
             return Ok(None);
         }
-        let to = replaced(alloc, list, top.place, self.place, part.as_slice())?;
-        self.place = top.place;
+        let to = replaced(alloc, list, redex.from, redex.to, part.as_slice())?;
+        self.place = redex.from;
         self.enter(to.as_nodes())?;
         Ok(Some(Step {
-            by: By::Fact(found.fact),
-            left_to_right: found.side == Side::Left,
-            position: Pos(top.place as u32),
+            by: By::Fact(redex.found.fact),
+            left_to_right: is_left(redex.found.side),
+            position: Pos(redex.from as u32),
             to,
         }))
     }
+}
+
+/// Whether a side is the left one.
+fn is_left(side: Side) -> bool
+    ensures { result ≡ is_left side }
+{
+    match side {
+        Side::Left => true,
+        Side::Right => false,
+    }
+}
+
+/// The nodes between two places.
+fn part(list: &[Node], from: usize, to: usize) -> &[Node]
+    requires order { from ≤ to }
+    requires within { to ≤ length list.now }
+    ensures { result.now ≡ take (to - from) (drop from list.now) }
+{
+    &list[from..to]
 }
 
 /// The first by which a step from the term is possible.
