@@ -1,5 +1,5 @@
 -- How a walk moves.
-use Rattle.std.proofs.Common.{◌≡◌, ℕ, zero, suc, ◌+◌, ◌-◌, ◌*◌, ◌<◌, ◌≤◌, List, [], ◌∷◌, ◌++◌, length, take, drop, get_or, Some, None, Option, MatchOption, refl, sym, ap, ap₂, ◌∙◌, arith, append_assoc, append-nil, length-append, subst, ◌⊎◌, inl, inr}
+use Rattle.std.proofs.Common.{◌≡◌, ℕ, ◌+◌, ◌-◌, ◌<◌, ◌≤◌, List, [], ◌∷◌, ◌++◌, length, take, drop, get_or, Some, None, Option, MatchOption, refl, sym, ap, ap₂, ◌∙◌, arith, append_assoc, append-nil, length-append, subst, inl, inr}
 use Rattle.uc_term.specs.declared.node.Node.{Node}
 use Rattle.uc_term.specs.declared.node.Node.TheVariants.{Var}
 use Rattle.uc_term.specs.declared.node.Sym.{Sym}
@@ -15,7 +15,7 @@ use Rattle.uc_fact.specs.Ordered.{IsIrreducible}
 use Rattle.uc_rewrite.specs.declared.walk.Open.{Open}
 use Rattle.uc_rewrite.specs.Completed.{LeadsDown}
 use Rattle.uc_rewrite.specs.Walking.{Frame, plug, hole, opens, arguments, arguments_of, AreNormal, IsBehind, Stands, Walks, Advances, Stops}
-use Rattle.uc_rewrite.proofs.Frames.{node_is, inside, part_is, length_is, nodes_all-append, right}
+use Rattle.uc_rewrite.proofs.Frames.{node_is, inside, part_is, length_is, nodes_all-append}
 use Rattle.uc_rewrite.proofs.Reading.{irreducible, none_below}
 use Rattle.uc_rewrite.proofs.Choosing.{all_known, nothing}
 
@@ -224,3 +224,7 @@ module _ (Greater : Tree → Tree → Type 0) (least : Sym) (live : List Live) (
 pub changed : {A : Type 0} (P Q : Type 0) (R : A → Type 0) (o : Option A) → (P → Q) → MatchOption o P R → MatchOption o Q R
 changed P Q R None f m = f m
 changed P Q R (Some x) f m = m
+
+pub some_of : {A : Type 0} (P : Type 0) (R : A → Type 0) (o : Option A) (x : A) → o ≡ Some x → MatchOption o P R → R x
+some_of P R None x e m = absurd cc
+some_of P R (Some y) x e m = subst R (let h : y ≡ x = cc in h) m

@@ -1,17 +1,17 @@
 -- The first that leads down is the first rule by which a step is possible.
-use Rattle.std.proofs.Common.{◌≡◌, ℕ, ◌==◌, ◌+◌, ◌≤◌, ◌<◌, Bool, true, false, List, [], ◌∷◌, Some, None, Option, if◌then◌else◌, refl, sym, ap, ◌∙◌, arith, subst}
+use Rattle.std.proofs.Common.{◌≡◌, ℕ, ◌==◌, ◌+◌, ◌≤◌, Bool, true, false, List, [], ◌∷◌, Some, None, Option, if◌then◌else◌, refl, sym, ap, ◌∙◌, arith, subst}
 use Rattle.std.proofs.lemmas.Bool.{eqb-true, eq-eqb}
 use Rattle.uc_term.specs.declared.node.Sym.{Sym}
 use Rattle.uc_term.specs.declared.equation.Equation.{Equation}
 use Rattle.uc_term.specs.Equations.{side_of, other_side_of}
 use Rattle.uc_term.specs.Tree.{Tree, apply}
-use Rattle.uc_unify.specs.Matching.{IsMatch, HasNoMatch}
-use Rattle.uc_order.specs.Members.{In, in_front, in_rest, Each}
+use Rattle.uc_unify.specs.Matching.{IsMatch}
+use Rattle.uc_order.specs.Members.{Each}
 use Rattle.uc_fact.specs.declared.index.Found.{Found}
 use Rattle.uc_fact.specs.Live.{Live, Rule, RiseFrom, AreRising, fact_at, rules_of}
-use Rattle.uc_fact.specs.Retrieval.{found_by, IsFound, by_first, by_later, FirstThat, no_rule_left, accepted, not_accepted, matches_not}
+use Rattle.uc_fact.specs.Retrieval.{found_by, IsFound, by_first, by_later, FirstThat, accepted, not_accepted, matches_not}
 use Rattle.uc_rewrite.specs.Normalising.{Makes, FirstRule, this_rule, later_rule}
-use Rattle.uc_rewrite.specs.Completed.{completed, AreSides, LeadsDown}
+use Rattle.uc_rewrite.specs.Completed.{completed, LeadsDown}
 use Rattle.uc_rewrite.proofs.Reading.{MakeNothing}
 use Rattle.uc_rewrite.proofs.Unique.{one_instance}
 use Rattle.uc_rewrite.proofs.Completing.{completes, gives}
@@ -50,10 +50,13 @@ here f fs = ap (λ b. pick b f.equation (fact_at fs f.number)) (eq-eqb f.number 
 
 known_from : (n : ℕ) (fs : List Live) → RiseFrom n fs → Each (IsRuleOf fs) (rules_of fs)
 known_from n [] h = tt
-known_from n (f ∷ fs) h =
-    ( record { equation = f.equation; equation_is = here f fs; from_is = refl; to_is = refl },
-      ( record { equation = f.equation; equation_is = here f fs; from_is = refl; to_is = refl },
-        all_later n f fs (rules_of fs) h (known_from (f.number + 1) fs h.1)))
+known_from n (f ∷ fs) h = (
+  record { equation = f.equation; equation_is = here f fs; from_is = refl; to_is = refl },
+  (
+    record { equation = f.equation; equation_is = here f fs; from_is = refl; to_is = refl },
+    all_later n f fs (rules_of fs) h (known_from (f.number + 1) fs h.1),
+  ),
+)
 
 pub all_known : (live : List Live) → AreRising live → Each (IsRuleOf live) (rules_of live)
 all_known live h = known_from 0 live h

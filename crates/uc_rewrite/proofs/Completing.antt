@@ -1,10 +1,10 @@
 -- What completed matches give.
-use Rattle.std.proofs.Common.{◌≡◌, ℕ, ◌==◌, ◌||◌, Bool, true, false, List, [], ◌∷◌, Some, None, Option, unwrap_or, if◌then◌else◌, refl, sym, ap, ◌∙◌, ◌⊎◌, inl, inr}
+use Rattle.std.proofs.Common.{◌≡◌, ℕ, ◌==◌, ◌||◌, Bool, true, false, List, [], ◌∷◌, Some, None, unwrap_or, if◌then◌else◌, refl, sym, ap, ◌∙◌, ◌⊎◌, inl, inr}
 use Rattle.std.proofs.lemmas.Bool.{eqb-true}
 use Rattle.uc_term.specs.declared.node.Sym.{Sym}
 use Rattle.uc_term.specs.Tree.{Tree, var, app, none, apply}
 use Rattle.uc_term.specs.Subst.{found, image, domain}
-use Rattle.uc_term.specs.Variables.{Occurs, is_among, variables, firsts, firsts_after}
+use Rattle.uc_term.specs.Variables.{Occurs, is_among, variables, firsts_after}
 use Rattle.uc_term.proofs.Agree.{same_if}
 use Rattle.uc_term.proofs.Pairs.{known, found_among, found_not_among}
 use Rattle.uc_unify.specs.Matching.{IsMatch}

@@ -1,5 +1,5 @@
 -- A walk over a pattern and a term that looks at their symbols alone.
-use Rattle.std.proofs.Common.{◌≡◌, ℕ, ◌+◌, ◌<◌, ◌≤◌, ◌-◌, List, get_or, take, drop, length, refl, sym, ap, ap₂, ◌∙◌, arith}
+use Rattle.std.proofs.Common.{◌≡◌, ℕ, ◌+◌, ◌<◌, ◌-◌, List, get_or, take, drop, length, refl, sym, ap, ap₂, ◌∙◌, arith}
 use Rattle.uc_term.specs.declared.node.Sym.{Sym}
 use Rattle.uc_term.specs.declared.node.Node.{Node}
 use Rattle.uc_term.specs.declared.node.Node.TheVariants.{Var, App}
@@ -7,7 +7,7 @@ use Rattle.uc_term.specs.Tree.{Tree, var, app, Trees, none, more, count, nodes, 
 use Rattle.uc_term.specs.Flat.{trees_of, tree_of, IsWhole}
 use Rattle.uc_term.proofs.Terms.{whole_one}
 use Rattle.uc_term.proofs.Ahead.{join, count-join}
-use Rattle.uc_term.proofs.Joins.{apply_all-join, count-apply_all, join_cancel, opened_at, var_at, place_within, trees_of-whole}
+use Rattle.uc_term.proofs.Joins.{apply_all-join, count-apply_all, opened_at, var_at, place_within, trees_of-whole}
 use Rattle.uc_term.proofs.Parts.{split}
 use Rattle.uc_unify.specs.Matching.{HasNoMatch}
 

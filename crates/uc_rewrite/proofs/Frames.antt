@@ -1,11 +1,11 @@
 -- The flat list of a term and of the frames round it.
-use Rattle.std.proofs.Common.{◌≡◌, ℕ, ◌+◌, ◌-◌, ◌<◌, ◌≤◌, List, [], ◌∷◌, ◌++◌, length, take, drop, get_or, refl, sym, ap, ap₂, ◌∙◌, arith, append_assoc, append-nil, length-append, subst}
+use Rattle.std.proofs.Common.{◌≡◌, ℕ, ◌+◌, ◌-◌, ◌<◌, List, [], ◌∷◌, ◌++◌, length, take, drop, get_or, refl, sym, ap, ap₂, ◌∙◌, arith, append_assoc, append-nil, length-append}
 use Rattle.std.proofs.Math.Seq.{drop-append_seam, take-append_seam, get_or-append_seam}
 use Rattle.uc_term.specs.declared.node.Node.{Node}
 use Rattle.uc_term.specs.declared.node.Node.TheVariants.{Var, App}
-use Rattle.uc_term.specs.Tree.{Tree, var, app, Trees, none, more, count, list_of, of_list, nodes, nodes_all}
+use Rattle.uc_term.specs.Tree.{Tree, var, app, count, of_list, nodes, nodes_all}
 use Rattle.uc_term.specs.Flat.{flat, flat_all, tree_of, IsWhole}
-use Rattle.uc_term.specs.Code.{length-list_of, tree_of-flat}
+use Rattle.uc_term.specs.Code.{length-list_of}
 use Rattle.uc_term.proofs.Terms.{length-flat, length-flat_all, nodes_pos}
 use Rattle.uc_rewrite.specs.Walking.{Frame, plug, hole, arguments, arguments_of}
 

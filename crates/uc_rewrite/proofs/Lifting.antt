@@ -1,5 +1,5 @@
 -- A first possible step inside of frames.
-use Rattle.std.proofs.Common.{◌≡◌, ℕ, suc, ◌+◌, List, [], ◌∷◌, ◌++◌, refl, sym, ap, ◌∙◌, arith, subst}
+use Rattle.std.proofs.Common.{◌≡◌, ℕ, suc, ◌+◌, List, [], ◌∷◌, ◌++◌, arith, subst}
 use Rattle.uc_term.specs.declared.node.Sym.{Sym}
 use Rattle.uc_term.specs.Tree.{Tree, app, Trees, of_list, nodes, nodes_all}
 use Rattle.uc_fact.specs.Live.{Live, Rule}
@@ -22,4 +22,4 @@ module _ (Greater : Tree → Tree → Type 0) (least : Sym) (live : List Live) w
   first_in_frames [] u v p r n f = moved u v r p (0 + p) (omega arith) f
   first_in_frames (frame ∷ frames) u v p r n f =
       moved (plug (frame ∷ frames) u) (plug (frame ∷ frames) v) r (hole frames + suc (nodes_all (of_list frame.before) + p)) (hole (frame ∷ frames) + p) (omega arith)
-        (first_in_frames frames (app frame.head (of_list (frame.before ++ u ∷ frame.after))) (app frame.head (of_list (frame.before ++ v ∷ frame.after))) (suc (nodes_all (of_list frame.before) + p)) r n.1 (in_arguments (among_behind frame.before frame.after u v p r n.0 f)))
+      (first_in_frames frames (app frame.head (of_list (frame.before ++ u ∷ frame.after))) (app frame.head (of_list (frame.before ++ v ∷ frame.after))) (suc (nodes_all (of_list frame.before) + p)) r n.1 (in_arguments (among_behind frame.before frame.after u v p r n.0 f)))

@@ -1,15 +1,14 @@
 -- Steps by rules are steps by equations.
-use Rattle.std.proofs.Common.{◌≡◌, ℕ, zero, suc, List, [], ◌∷◌, ◌++◌, Some, slice_get, refl, sym, ap, ◌∙◌}
+use Rattle.std.proofs.Common.{◌≡◌, ℕ, zero, suc, List, [], ◌∷◌, refl, sym, ap, ◌∙◌}
 use Rattle.uc_term.specs.declared.node.Sym.{Sym}
-use Rattle.uc_term.specs.declared.equation.Equation.{Equation}
 use Rattle.uc_term.specs.declared.equation.Side.{Side}
 use Rattle.uc_term.specs.declared.equation.Side.TheVariants.{Left, Right}
 use Rattle.uc_term.specs.Equations.{Sides, side_of, other_side_of}
 use Rattle.uc_term.specs.Tree.{Tree, var, app, Trees, none, more, apply, list_of}
-use Rattle.uc_term.specs.Within.{Within, at_root, under, WithinOne, at_first, at_later}
+use Rattle.uc_term.specs.Within.{at_root, under, at_first, at_later}
 use Rattle.uc_order.specs.Members.{In, in_front, in_rest, Each}
 use Rattle.uc_fact.specs.Live.{Live, Rule, rules_of, equations_of}
-use Rattle.uc_fact.specs.Ordered.{Falls, OStep, IsIrreducible, AreIrreducible, IsIrreducibleBelow}
+use Rattle.uc_fact.specs.Ordered.{Falls, IsIrreducible, AreIrreducible, IsIrreducibleBelow}
 use Rattle.uc_rewrite.specs.Normalising.{Makes, FirstRule, this_rule, later_rule}
 use Rattle.uc_rewrite.specs.Walking.{arguments, AreNormal}
 

@@ -9,9 +9,9 @@ use Rattle.uc_term.specs.declared.equation.Equation.{Equation}
 use Rattle.uc_term.specs.Tree.{Tree}
 use Rattle.uc_unify.specs.Matching.{IsMatch, HasNoMatch}
 use Rattle.uc_fact.specs.declared.index.Found.{Found}
-use Rattle.uc_fact.specs.Live.{Live, Rule, fact_at, numbered_from, numbered, rule_of, rules_of}
+use Rattle.uc_fact.specs.Live.{Rule, fact_at, numbered_from, numbered, rule_of, rules_of}
 use Rattle.uc_term.specs.declared.equation.Side.TheVariants.{Left, Right}
-use Rattle.uc_fact.specs.Retrieval.{found_by, Generalises, no_rules, is_instance, is_no_instance, IsFound, by_first, by_later, FirstThat, no_rule_left, accepted, not_accepted, matches_not}
+use Rattle.uc_fact.specs.Retrieval.{Generalises, no_rules, is_instance, is_no_instance, IsFound, by_first, by_later, FirstThat, no_rule_left, accepted, not_accepted, matches_not}
 use Rattle.uc_rewrite.specs.Scanning.{live_fact, Adds}
 
 -- the fact of a number is the one at its place

@@ -1,23 +1,22 @@
 -- The step where a walk stops.
-use Rattle.std.proofs.Common.{◌≡◌, ℕ, ◌+◌, ◌-◌, ◌<◌, ◌≤◌, List, [], ◌∷◌, ◌++◌, length, take, drop, get_or, Some, None, Bool, refl, sym, ap, ap₂, ◌∙◌, arith, length-append, append_assoc, subst}
+use Rattle.std.proofs.Common.{◌≡◌, ℕ, ◌+◌, ◌-◌, ◌<◌, ◌≤◌, List, [], ◌∷◌, ◌++◌, length, take, drop, get_or, Some, None, sym, ap, ap₂, ◌∙◌, arith, length-append, append_assoc, subst}
 use Rattle.uc_term.specs.declared.node.Sym.{Sym}
 use Rattle.uc_term.specs.declared.node.Node.{Node}
 use Rattle.uc_term.specs.declared.node.Node.TheVariants.{Var}
-use Rattle.uc_term.specs.declared.equation.Equation.{Equation}
 use Rattle.uc_term.specs.declared.equation.Side.{Side}
 use Rattle.uc_term.specs.Equations.{other_side_of}
 use Rattle.uc_term.specs.Tree.{Tree, apply, nodes}
 use Rattle.uc_term.specs.Flat.{flat, tree_of, IsWhole}
-use Rattle.uc_term.specs.Code.{tree_of-flat}
 use Rattle.uc_term.proofs.Terms.{length-flat}
 use Rattle.uc_fact.specs.declared.chain.Step.{Step}
 use Rattle.uc_fact.specs.declared.chain.By.TheVariants.{Fact}
-use Rattle.uc_fact.specs.Live.{Live, Rule, AreRising, fact_at, rules_of}
+use Rattle.uc_fact.specs.Live.{Live, AreRising, fact_at, rules_of}
 use Rattle.uc_rewrite.specs.declared.walk.Open.{Open}
 use Rattle.uc_rewrite.specs.declared.walk.Redex.{Redex}
 use Rattle.uc_rewrite.specs.Completed.{completed, AreSides}
-use Rattle.uc_rewrite.specs.Normalising.{FirstRule, FirstStep, at_the_term, is_left, step_by}
-use Rattle.uc_rewrite.specs.Walking.{Frame, plug, hole, opens, arguments_of, Walks, Stops, Steps, IsLarge}
+use Rattle.uc_rewrite.specs.Normalising.{FirstRule, FirstStep, at_the_term, is_left}
+use Rattle.uc_rewrite.specs.Walking.{Frame, plug, hole, arguments_of, Walks, Stops, Steps, IsLarge}
+use Rattle.uc_rewrite.specs.Ends.{CanStep}
 use Rattle.uc_rewrite.proofs.Choosing.{Chosen, chosen, all_known}
 use Rattle.uc_rewrite.proofs.Reading.{none_below}
 use Rattle.uc_rewrite.proofs.Lifting.{first_in_frames}
@@ -43,6 +42,12 @@ module _ (Greater : Tree → Tree → Type 0) (least : Sym) (live : List Live) (
 
   pub within : redex.to ≤ length list
   within = omega (arith, s.to_is, length_is list w s.frames s.u s.t_is)
+
+  pub can_step : CanStep Greater least live (tree_of list)
+  can_step =
+      let v = apply (completed least redex.found.subst) by.rule.to in
+      let g : FirstStep Greater least live (plug s.frames s.u) (hole s.frames + 0) by.rule (plug s.frames v) = first_in_frames Greater least live s.frames s.u v 0 by.rule s.frames_behind (at_the_term (none_below Greater least live s.u s.behind) by.first) in
+      record { at = hole s.frames + 0; rule = by.rule; v = plug s.frames v; first = subst (λ t. FirstStep Greater least live t (hole s.frames + 0) by.rule (plug s.frames v)) (sym s.t_is) g }
 
   module _ (from to : Tree) (sides : AreSides live redex.found from to) (part : List Node) (part_is : part ≡ flat (apply (completed least redex.found.subst) to)) where
     abbrev v : Tree

@@ -1,8 +1,7 @@
 -- When what is found leads down.
-use Rattle.std.proofs.Common.{◌≡◌, ℕ, List, Some, None, Bool, true, false, IsTrue, ◌↔◌, refl, sym, ap, ap₂, ◌∙◌, subst}
+use Rattle.std.proofs.Common.{◌≡◌, ℕ, List, true, false, IsTrue, refl, sym, ap, ◌∙◌, subst}
 use Rattle.uc_term.specs.declared.node.Node.{Node}
 use Rattle.uc_term.specs.declared.node.Sym.{Sym}
-use Rattle.uc_term.specs.declared.equation.Equation.{Equation}
 use Rattle.uc_term.specs.Equations.{side_of, other_side_of}
 use Rattle.uc_term.specs.Tree.{Tree, apply}
 use Rattle.uc_term.specs.Flat.{flat, tree_of, IsWhole}
@@ -10,10 +9,10 @@ use Rattle.uc_term.specs.Code.{tree_of-flat}
 use Rattle.uc_unify.specs.Matching.{IsMatch}
 use Rattle.uc_order.specs.Laws.{Meaning, Laws}
 use Rattle.uc_fact.specs.declared.index.Found.{Found}
-use Rattle.uc_fact.specs.Live.{Live, Rule, AreRising, fact_at, rules_of}
+use Rattle.uc_fact.specs.Live.{Live, Rule, AreRising, rules_of}
 use Rattle.uc_fact.specs.Retrieval.{found_by, IsFound}
 use Rattle.uc_rewrite.specs.Completed.{completed, AreSides, LeadsDown}
-use Rattle.uc_rewrite.proofs.Choosing.{IsRuleOf, FoundBy, found_rule, all_known}
+use Rattle.uc_rewrite.proofs.Choosing.{IsRuleOf, found_rule, all_known}
 use Rattle.uc_rewrite.proofs.Completing.{gives}
 
 pub whole_flat : (ns : List Node) (t : Tree) → ns ≡ flat t → IsWhole ns

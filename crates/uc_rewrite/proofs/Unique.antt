@@ -1,15 +1,14 @@
 -- What normalising comes to is one.
 use Rattle.std.proofs.Common.{◌≡◌, ℕ, zero, suc, ◌+◌, ◌<◌, ◌≤◌, List, [], ◌∷◌, refl, sym, ap, ap₂, ◌∙◌, arith, ◌⊎◌, inl, inr, subst}
 use Rattle.uc_term.specs.declared.node.Sym.{Sym}
-use Rattle.uc_term.specs.declared.equation.Equation.{Equation}
-use Rattle.uc_term.specs.Tree.{Tree, var, app, Trees, none, more, apply, nodes}
+use Rattle.uc_term.specs.Tree.{Tree, app, Trees, none, more, apply, nodes}
 use Rattle.uc_term.specs.Variables.{Occurs}
-use Rattle.uc_term.specs.Within.{Within, at_root, under, WithinOne, at_first, at_later}
+use Rattle.uc_term.specs.Within.{at_root, under, WithinOne, at_first, at_later}
 use Rattle.uc_term.proofs.Agree.{agree_at, same_if}
 use Rattle.uc_fact.specs.declared.chain.Step.{Step}
 use Rattle.uc_fact.specs.declared.fact.Stop.{Stop}
 use Rattle.uc_fact.specs.Live.{Live, Rule, rules_of, equations_of}
-use Rattle.uc_fact.specs.Ordered.{IsCompleted, Falls, OStep, IsIrreducible, AreIrreducible, IsIrreducibleBelow}
+use Rattle.uc_fact.specs.Ordered.{IsCompleted, Falls, OStep, IsIrreducible}
 use Rattle.uc_fact.proofs.Occurring.{occurs_or_not}
 use Rattle.uc_rewrite.specs.declared.normal.Normal.{Normal}
 use Rattle.uc_rewrite.specs.Normalising.{Makes, FirstRule, this_rule, later_rule, FirstStep, in_arguments, at_the_term, FirstStepAmong, in_this, in_another, Normalises, is_full, is_spent, is_large, goes_on, IsNormalOf, step_by}

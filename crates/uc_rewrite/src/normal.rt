@@ -8,7 +8,7 @@ ghost use Rattle.uc_fact.specs.Ordered.{OStep, IsIrreducible};
 ghost use Rattle.uc_fact.specs.Chains.{Links};
 ghost use Rattle.uc_rewrite.specs.Normalising.{IsNormalOf};
 ghost use Rattle.uc_rewrite.specs.Walking.{Walks};
-ghost use Rattle.uc_rewrite.specs.Ends.{IsNext, end_of_steps, normal_by};
+ghost use Rattle.uc_rewrite.specs.Ends.{IsNext, IsLast, end_of_steps, normal_by};
 
 use crate::falls::Rules;
 use crate::walk::Walk;
@@ -56,10 +56,7 @@ pub fn normalise<O: Order, I: Index>(
         }
     }
     let last = last_term(term, steps.as_slice());
-    let stop = match walk.next(alloc, last.as_nodes(), &rules)? {
-        Some(_) => Stop::Steps,
-        None => Stop::Full,
-    };
+    let stop = last_stop(alloc, &mut walk, last, &rules)?;
     ended(alloc, term, steps, stop)
 }
 
@@ -89,6 +86,22 @@ fn next_step<O: Order, I: Index>(
         Some(step) => Ok(Next::Made(step)),
         None => Ok(Next::TooLarge),
     }
+}
+
+/// Why there is no step where none may be made any more: a further one is possible, or none is.
+fn last_stop<O: Order, I: Index>(
+    alloc: Global,
+    walk: &mut Walk,
+    term: &Term,
+    rules: &Rules<O, I>,
+) -> Result<Stop, AllocError>
+    requires { Walks (O.meaning rules.now.order.now).greater (O.meaning rules.now.order.now).least (I.live rules.now.index.now) term.now walk.old.opened.items walk.old.place }
+    ensures { IfOk result (IsLast (O.meaning rules.now.order.now).greater (O.meaning rules.now.order.now).least (I.live rules.now.index.now) term.now) }
+{
+    let Some(_redex) = walk.next(alloc, term.as_nodes(), rules)? else {
+        return Ok(Stop::Full);
+    };
+    Ok(Stop::Steps)
 }
 
 /// The term to which the steps lead.

@@ -1,4 +1,3 @@
-use Rattle.std.proofs.Common.{arith, ◌≤◌, ◌*◌, length}
 use Rattle.uc_term.proofs.Instances.{instance_list}
 use Rattle.uc_rewrite.specs.Completed.{completed}
 use Rattle.uc_rewrite.proofs.completed.completed_instance.Goals as goal

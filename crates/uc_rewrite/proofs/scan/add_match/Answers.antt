@@ -1,4 +1,4 @@
-use Rattle.std.proofs.Common.{◌≡◌, sym, ◌∙◌, ◌∷◌, [], append-nil}
+use Rattle.std.proofs.Common.{sym, ◌∙◌, ◌∷◌, [], append-nil}
 use Rattle.uc_term.specs.Equations.{side_of}
 use Rattle.uc_term.specs.Flat.{tree_of}
 use Rattle.uc_fact.specs.Retrieval.{no_rules, is_instance, is_no_instance}

@@ -1,4 +1,4 @@
-use Rattle.std.proofs.Common.{◌≡◌, Bool, true, false, IsTrue, ◌∙◌, ◌∷◌, []}
+use Rattle.std.proofs.Common.{◌≡◌, Bool, true, false, IsTrue, ◌∙◌}
 use Rattle.uc_term.specs.Equations.{side_of}
 use Rattle.uc_term.specs.Flat.{tree_of}
 use Rattle.uc_fact.specs.Retrieval.{by_first, no_rule_left, accepted, not_accepted, matches_not}

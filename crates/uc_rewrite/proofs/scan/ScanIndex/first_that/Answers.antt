@@ -1,6 +1,5 @@
-use Rattle.std.proofs.Common.{◌≡◌, ◌∷◌, [], Some, None, Option, refl}
+use Rattle.std.proofs.Common.{◌∷◌, [], Some, None}
 use Rattle.uc_term.specs.Flat.{tree_of}
-use Rattle.uc_fact.specs.declared.index.Found.{Found}
 use Rattle.uc_fact.specs.Live.{rules_of}
 use Rattle.uc_rewrite.specs.Scanning.{live_fact}
 use Rattle.uc_rewrite.proofs.Scanned.{drop_there, past_end, found_at, answered, passes_on, passes_here, none_passes}

@@ -1,4 +1,4 @@
-use Rattle.std.proofs.Common.{◌≡◌, sym, subst}
+use Rattle.std.proofs.Common.{sym, subst}
 use Rattle.uc_term.specs.Flat.{tree_of}
 use Rattle.uc_fact.specs.Live.{numbered, rules_of}
 use Rattle.uc_fact.specs.Retrieval.{Generalises}

@@ -1,4 +1,4 @@
-use Rattle.std.proofs.Common.{◌≡◌, ◌<◌, MatchOption, arith}
+use Rattle.std.proofs.Common.{MatchOption, arith}
 use Rattle.std.proofs.lemmas.Result.{IfOk-weaker}
 use Rattle.uc_term.specs.Flat.{tree_of}
 use Rattle.uc_rewrite.specs.Walking.{Walks, Advances, Stops}

@@ -1,12 +1,12 @@
-use Rattle.std.proofs.Common.{◌≡◌, ◌<◌, ◌≤◌, ◌+◌, ◌-◌, ◌++◌, length, take, drop, sym, ap, ap₂, ◌∙◌, arith, subst}
-use Rattle.uc_term.specs.Tree.{apply, nodes}
+use Rattle.std.proofs.Common.{◌++◌, length, take, drop, sym, ap, ap₂, ◌∙◌, arith, subst}
+use Rattle.uc_term.specs.Tree.{apply}
 use Rattle.uc_term.specs.Flat.{flat, tree_of}
 use Rattle.uc_term.proofs.Terms.{length-flat}
 use Rattle.uc_fact.specs.declared.chain.By.TheVariants.{Fact}
 use Rattle.uc_rewrite.specs.Completed.{completed}
 use Rattle.uc_rewrite.specs.Walking.{Steps}
 use Rattle.uc_rewrite.proofs.Testing.{whole_flat, tree_flat}
-use Rattle.uc_rewrite.proofs.Stepping.{has_fact, order, within, whole_term, list_is, nodes_are, large, inside_new, small_place, steps}
+use Rattle.uc_rewrite.proofs.Stepping.{has_fact, within, whole_term, list_is, nodes_are, large, inside_new, small_place, steps}
 use Rattle.uc_rewrite.proofs.walk.Walk.step.Goals as goal
 
 pub returns-in_default : goal.returns-in_default
