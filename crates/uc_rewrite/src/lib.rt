@@ -13,3 +13,6 @@ mod walk;
 pub use laws::one_normal_form;
 pub use normal::{Normal, normalise};
 pub use scan::Scan;
+
+#[cfg(test)]
+mod tests;
