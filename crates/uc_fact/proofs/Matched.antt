@@ -1,7 +1,7 @@
 -- A match is determined by its pattern and its term.
-use Rattle.std.proofs.Common.{◌≡◌, ℕ, ◌==◌, ◌||◌, Bool, true, false, List, [], ◌∷◌, if◌then◌else◌, Some, unwrap_or, Option, refl, sym, ap, ap₂, ◌∙◌, ◌⊎◌, inl, inr}
+use Rattle.std.proofs.Common.{◌≡◌, ℕ, ◌==◌, ◌||◌, Bool, true, false, List, [], ◌∷◌, if◌then◌else◌, Some, unwrap_or, refl, sym, ap, ap₂, ◌∙◌, ◌⊎◌, inl, inr}
 use Rattle.std.proofs.lemmas.Bool.{eqb-true, eq-eqb}
-use Rattle.uc_term.specs.Tree.{Tree, var, apply}
+use Rattle.uc_term.specs.Tree.{Tree, var}
 use Rattle.uc_term.specs.Subst.{found, image, domain}
 use Rattle.uc_term.specs.Variables.{is_among, variables, firsts, firsts_after}
 use Rattle.uc_term.proofs.Agree.{agree_at}

@@ -1,5 +1,5 @@
 -- What is found for a term: the sides of live facts of which it is an instance.
-use Rattle.std.specs.Prelude.{ℕ, ◌≡◌, List, [], ◌∷◌, Option, Some, None}
+use Rattle.std.specs.Prelude.{ℕ, List, [], ◌∷◌, Option, Some, None}
 use Rattle.uc_term.specs.Tree.{Tree}
 use Rattle.uc_unify.specs.Matching.{IsMatch, HasNoMatch}
 use Rattle.uc_fact.specs.declared.index.Found.{Found}
