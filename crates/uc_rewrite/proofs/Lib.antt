@@ -1,0 +1,4 @@
+pub mod Decided
+pub mod Replacing
+pub mod Converting
+pub mod Replays
