@@ -27,13 +27,17 @@ fn tower(g: Global, times: u32, constant: Sym) -> Result<Term, Fail> {
     nested(g, times, Term::app(g, constant, &[])?)
 }
 
-// f(a) = b
+// f(a) = b, and b = b
 fn axioms(g: Global) -> Result<Vec<Equation>, Fail> {
-    let axiom = Equation {
+    let first = Equation {
         left: tower(g, 1, A)?,
         right: tower(g, 0, B)?,
     };
-    Ok(vec![in g; axiom]?)
+    let second = Equation {
+        left: tower(g, 0, B)?,
+        right: tower(g, 0, B)?,
+    };
+    Ok(vec![in g; first, second]?)
 }
 
 fn fact(g: Global, left: Term, right: Term) -> Result<Fact, Fail> {
