@@ -1,8 +1,8 @@
-# A proof of n chain lines of about 2,000 bytes each, every one a replacement of `f(a)` by `b` under 60 functors, and a refutation of the problem's goal.
+# A proof of n chain lines of about 2,000 bytes each, every one a replacement of `f(a)` by `b` under 66 functors, and a refutation of the problem's goal.
 BEGIN {
     before = "f(a)"
     after = "b"
-    for (k = 1; k <= 60; k++) {
+    for (k = 1; k <= 66; k++) {
         before = "g(" before ",c" k ")"
         after = "g(" after ",c" k ")"
         path = path (k > 1 ? "," : "") "1"
