@@ -1,0 +1,9 @@
+-- Chains of terms.
+use Rattle.std.specs.Prelude.{◌≡◌, List, [], ◌∷◌}
+use Rattle.uc_term.specs.Tree.{Tree}
+use Rattle.uc_fact.specs.declared.chain.Step.{Step}
+
+-- the steps lead from u to v: each term is related to the one before it
+abbrev pub Links : (Tree → Tree → Type 0) → Tree → List Step → Tree → Type 0
+Links R u [] v = u ≡ v
+Links R u (step ∷ steps) v = R u step.to × Links R step.to steps v

@@ -1,0 +1,4 @@
+pub mod Live
+pub mod Retrieval
+pub mod Ordered
+pub mod Chains

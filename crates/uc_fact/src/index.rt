@@ -1,0 +1,91 @@
+//! Indexes of facts: which sides of live facts a term is an instance of.
+
+ghost use Rattle.std.specs.Prelude.{IfOk, All};
+ghost use Rattle.uc_fact.specs.Retrieval.{FirstOf};
+
+use std::alloc::{AllocError, Global};
+use uc_term::{MAX_NODES, Node, Seq, Side, Subst, Term};
+
+/// A side of a live fact of which a term is an instance, by the fact's number, and the substitution that makes it the term:
+/// its pairs are those of the side's variables, by first occurrence.
+#[derive(Drop)]
+pub struct Found {
+    pub fact: u32,
+    pub side: Side,
+    pub subst: Subst,
+}
+
+/// A test of what is found for a term.
+pub trait Test {
+    ghost use Rattle.std.specs.Prelude.{◌↔◌, IsTrue, IfOk};
+    ghost use Rattle.uc_fact.specs.declared.index.Found.{Found};
+
+    /// What the test may be asked of.
+    ghost can_test: { Self → Found → Type 0 };
+
+    /// What it accepts.
+    ghost accepts: { Self → Found → Type 0 };
+
+    /// Whether the test accepts what was found.
+    fn passes(&self, alloc: Global, found: &Found) -> Result<bool, AllocError>
+        requires { can_test self.now found.now }
+        ensures { IfOk result (λ passes. IsTrue passes ↔ accepts self.now found.now) };
+}
+
+/// An index of facts. Its answers are a function of the facts that live in it, each with its number.
+pub trait Index {
+    ghost use Rattle.std.specs.Prelude.{◌≡◌, ◌≤◌, List, length, Some, None, IfOk, MatchOption};
+    ghost use Rattle.uc_term.specs.Flat.{tree_of, IsWhole};
+    ghost use Rattle.uc_fact.specs.declared.index.Found.{Found};
+    ghost use Rattle.uc_fact.specs.Live.{Live, AreRising, rules_of, fact_at};
+    ghost use Rattle.uc_fact.specs.Retrieval.{Generalises, IsFound, FirstThat};
+
+    /// The facts that live, by rising numbers.
+    ghost live: { Self → List Live };
+
+    /// Each side of a live fact of which the term is an instance, once, by the fact's number, left before right, with the
+    /// substitution. An empty list takes no memory.
+    fn generalisations(&self, alloc: Global, term: &[Node]) -> Result<Seq<Found>, AllocError>
+        requires whole { IsWhole term.now }
+        requires small { length term.now ≤ MAX_NODES }
+        ensures { IfOk result (Generalises (tree_of term.now) (rules_of (live self.now))) };
+
+    /// The first of `generalisations` that passes a test, for which the list needn't be built. None exactly where none
+    /// passes.
+    fn first_that<T: Test>(
+        &self,
+        alloc: Global,
+        term: &[Node],
+        test: &T,
+    ) -> Result<Option<Found>, AllocError>
+        requires whole { IsWhole term.now }
+        requires small { length term.now ≤ MAX_NODES }
+        requires can { (found : Found) → IsFound (tree_of term.now) (rules_of (live self.now)) found → T.can_test test.now found }
+        ensures { IfOk result (FirstThat (T.accepts test.now) (tree_of term.now) (rules_of (live self.now))) }
+    {
+        first_of(alloc, self.generalisations(alloc, term)?, test)
+    }
+
+    /// The two sides of a live fact. None exactly where no live fact has this number. It takes no memory.
+    fn pair(&self, fact: u32) -> Option<(&Term, &Term)>
+        ensures { MatchOption result (fact_at (live self.now) fact ≡ None) (λ sides. fact_at (live self.now) fact ≡ Some (record { left = sides.0.now; right = sides.1.now })) };
+
+    ghost rising: { (i : Self) → AreRising (live i) };
+}
+
+/// The first element of a list that passes a test. None exactly where none passes.
+pub fn first_of<T: Test>(
+    alloc: Global,
+    list: Seq<Found>,
+    test: &T,
+) -> Result<Option<Found>, AllocError>
+    requires { All (T.can_test test.now) list }
+    ensures { IfOk result (FirstOf (T.accepts test.now) list) }
+{
+    for found in list.into_vec() {
+        if test.passes(alloc, &found)? {
+            return Ok(Some(found));
+        }
+    }
+    Ok(None)
+}

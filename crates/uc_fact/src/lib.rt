@@ -1,0 +1,16 @@
+//! What a fact, a chain of steps and an index of facts are.
+//!
+//! `specs/` holds the definitions that all crates above cite: the facts that live, what is found for a term among them, and
+//! ordered steps (Bachmair, Dershowitz and Plaisted, Completion without failure).
+#![tactic(auto)]
+
+mod chain;
+mod fact;
+mod index;
+mod laws;
+
+pub use chain::{By, Chain, Step};
+pub use fact::{Fact, Origin, Overlap, Stop, System};
+pub use index::{Found, Index, Test, first_of};
+pub use laws::{first_of_the_list, one_list};
+pub use uc_term::{Equation, Side};

@@ -1,0 +1,12 @@
+pub mod Reading
+pub mod Unique
+pub mod Completing
+pub mod Choosing
+pub mod Frames
+pub mod Lifting
+pub mod Advancing
+pub mod Testing
+pub mod Fitting
+pub mod Stepping
+pub mod Chaining
+pub mod Scanned

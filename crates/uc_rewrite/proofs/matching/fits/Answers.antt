@@ -1,0 +1,32 @@
+use Rattle.std.proofs.Common.{◌≡◌, Bool, true, false, IsTrue, refl}
+use Rattle.uc_term.proofs.Terms.{whole_one}
+use Rattle.uc_rewrite.proofs.Fitting.{at_start, at_head, at_clash, at_var, within_var}
+use Rattle.uc_rewrite.proofs.matching.fits.Goals as goal
+use Rattle.uc_rewrite.proofs.matching.fits.Goals.{in-Var, in-App+else-not-is_head}
+
+clashed : (b : Bool) → b ≡ false → IsTrue b → ⊥
+clashed true e h = cc
+clashed false e h = cc
+
+headed : {A : Type 0} (b : Bool) → b ≡ true → (IsTrue b → A) → A
+headed true e h = h refl
+headed false e h = absurd cc
+
+pub loop-node-init : goal.loop-node-init
+loop-node-init c = at_start c.args.pattern.now c.args.term.now c.requires.whole_pattern c.requires.whole_term
+
+pub end_of-place-requires-clause-whole : goal.end_of-place-requires-clause-whole
+end_of-place-requires-clause-whole c = whole_one c.args.term.now c.requires.whole_term
+
+pub end_of-place-requires-clause-within : goal.end_of-place-requires-clause-within
+end_of-place-requires-clause-within c = within_var c.args.pattern.now c.args.term.now c.requires.whole_pattern c.requires.whole_term c.loop-node.node-index c.loop-node.place _ c.loop-node-test.true c.loop-node.invariant c.in-Var.field-0 c.in-Var.is
+
+pub returns-then-not-is_head : goal.returns-then-not-is_head
+returns-then-not-is_head c = λ _. at_clash c.args.pattern.now c.args.term.now c.requires.whole_pattern c.requires.whole_term c.loop-node.node-index c.loop-node.place _ c.loop-node-test.true c.loop-node.invariant c.in-App.f c.in-App.n c.in-App.is (λ e. clashed c.is_head.result c.if-not-is_head.true (c.is_head.ensures.1 e))
+
+pub loop-node-preserved : goal.loop-node-preserved
+loop-node-preserved c =
+    elim c.match-node.branch [
+      | in-Var w ↦ rw w.place-is (at_var c.args.pattern.now c.args.term.now c.requires.whole_pattern c.requires.whole_term c.loop-node.node-index c.loop-node.place _ c.loop-node-test.true c.loop-node.invariant w.in-Var.field-0 w.in-Var.is w.end_of-place.result w.end_of-place.ensures.end)
+      | in-App+else-not-is_head w ↦ rw w.place-is (at_head c.args.pattern.now c.args.term.now c.requires.whole_pattern c.requires.whole_term c.loop-node.node-index c.loop-node.place _ c.loop-node-test.true c.loop-node.invariant w.in-App.f w.in-App.n w.in-App.is (headed w.is_head.result w.if-not-is_head.false w.is_head.ensures.0))
+    ]

@@ -1,0 +1,5 @@
+pub mod Normalising
+pub mod Completed
+pub mod Walking
+pub mod Ends
+pub mod Scanning

@@ -1,0 +1,18 @@
+//! Ordered rewriting: looking through a list of equations, and normalising by the first possible step (Baader and Nipkow,
+//! Term Rewriting and All That, chapter 4; Bachmair, Dershowitz and Plaisted, Completion without failure).
+#![tactic(auto)]
+
+mod completed;
+mod falls;
+mod laws;
+mod matching;
+mod normal;
+mod scan;
+mod walk;
+
+pub use laws::one_normal_form;
+pub use normal::{Normal, normalise};
+pub use scan::Scan;
+
+#[cfg(test)]
+mod tests;

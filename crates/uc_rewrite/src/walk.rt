@@ -1,0 +1,247 @@
+//! A walk over a term in postorder that looks for its first possible step. After a step it goes on at the new subterm, since
+//! what it has left behind outside of that stays irreducible.
+
+ghost use Rattle.std.specs.Prelude.{◌≡◌, ◌+◌, ◌-◌, ◌*◌, ◌<◌, ◌≤◌, ◌++◌, ◌∷◌, [], length, take, drop, get_or, IfOk, OnOk, MatchOption};
+ghost use Rattle.uc_term.specs.Flat.{tree_of, IsWhole};
+ghost use Rattle.uc_term.specs.declared.node.Node.TheVariants.{Var};
+ghost use Rattle.uc_fact.specs.Live.{rules_of, equations_of};
+ghost use Rattle.uc_fact.specs.Retrieval.{FirstThat};
+ghost use Rattle.uc_fact.specs.Ordered.{IsIrreducible};
+ghost use Rattle.uc_rewrite.specs.Normalising.{is_left};
+ghost use Rattle.uc_rewrite.specs.Completed.{LeadsDown};
+ghost use Rattle.uc_rewrite.specs.Walking.{arguments_of, Walks, Advances, Stops, Steps, IsLarge};
+
+use crate::completed::completed_instance;
+use crate::falls::{Falls, Rules, sides};
+use std::alloc::{AllocError, Global};
+use uc_fact::{By, Found, Index, Side, Step};
+use uc_order::Order;
+use uc_term::{MAX_NODES, Node, Pos, Term};
+
+/// A subterm that is gone through: its place, and how many of its arguments are still to come.
+#[derive(Clone, Copy)]
+pub struct Open {
+    place: usize,
+    pending: u32,
+}
+
+/// A subterm from which a step is possible: its place, the place behind it, and by what the first one is.
+#[derive(Drop)]
+pub struct Redex {
+    from: usize,
+    to: usize,
+    found: Found,
+}
+
+/// A walk over a term in postorder: the subterms that it goes through, from the whole term inwards, and the place that comes
+/// next in prefix order.
+#[derive(Drop)]
+pub struct Walk {
+    opened: Vec<Open>,
+    place: usize,
+}
+
+impl Walk {
+    /// A walk at the beginning of a term.
+    pub fn new<O: Order, I: Index>(
+        alloc: Global,
+        list: &[Node],
+        rules: &Rules<O, I>,
+    ) -> Result<Walk, AllocError>
+        requires whole { IsWhole list.now }
+        ensures { IfOk result (λ walk. Walks (O.meaning rules.now.order.now).greater (O.meaning rules.now.order.now).least (I.live rules.now.index.now) (tree_of list.now) walk.opened.items walk.place) }
+    {
+        let mut walk = Walk {
+            opened: Vec::new(alloc),
+            place: 0,
+        };
+        walk.enter(list)?;
+        Ok(walk)
+    }
+
+    /// Enters the subterm at the next place.
+    fn enter(&mut self, list: &[Node]) -> Result<(), AllocError>
+        requires within { self.old.place < length list.now }
+        ensures opened { OnOk result (self.new.opened.items ≡ self.old.opened.items ++ record { place = self.old.place; pending = arguments_of (get_or list.now self.old.place (Var 0)) } ∷ []) }
+        ensures place { OnOk result (self.new.place ≡ self.old.place + 1) }
+    {
+        let pending = match list[self.place] {
+            Node::Var(_) => 0,
+            Node::App(_, arity) => arity,
+        };
+        self.opened.push(Open {
+            place: self.place,
+            pending,
+        })?;
+        self.place += 1;
+        Ok(())
+    }
+
+    /// Goes on to the first subterm from which a step is possible. None exactly where there is none, so that the term is
+    /// irreducible.
+    pub fn next<O: Order, I: Index>(
+        &mut self,
+        alloc: Global,
+        list: &[Node],
+        rules: &Rules<O, I>,
+    ) -> Result<Option<Redex>, AllocError>
+        requires whole { IsWhole list.now }
+        requires small { length list.now ≤ MAX_NODES }
+        requires walks { Walks (O.meaning rules.now.order.now).greater (O.meaning rules.now.order.now).least (I.live rules.now.index.now) (tree_of list.now) self.old.opened.items self.old.place }
+        ensures { IfOk result (λ redex. MatchOption redex (IsIrreducible (O.meaning rules.now.order.now).greater (O.meaning rules.now.order.now).least (equations_of (I.live rules.now.index.now)) (tree_of list.now)) (Stops (O.meaning rules.now.order.now).greater (O.meaning rules.now.order.now).least (I.live rules.now.index.now) (tree_of list.now) self.new.opened.items)) }
+    {
+        while let Some(top) = self.opened.pop() {
+            if let Some(redex) = self.advance(alloc, list, rules, top)? {
+                return Ok(Some(redex));
+            }
+        }
+        Ok(None)
+    }
+
+    /// Enters the next argument of the innermost subterm; or leaves that subterm behind, where it has no further one and no
+    /// step from it is possible.
+    fn advance<O: Order, I: Index>(
+        &mut self,
+        alloc: Global,
+        list: &[Node],
+        rules: &Rules<O, I>,
+        top: Open,
+    ) -> Result<Option<Redex>, AllocError>
+        requires whole { IsWhole list.now }
+        requires small { length list.now ≤ MAX_NODES }
+        requires walks { Walks (O.meaning rules.now.order.now).greater (O.meaning rules.now.order.now).least (I.live rules.now.index.now) (tree_of list.now) (self.old.opened.items ++ top ∷ []) self.old.place }
+        ensures { IfOk result (λ redex. MatchOption redex (Advances (O.meaning rules.now.order.now).greater (O.meaning rules.now.order.now).least (I.live rules.now.index.now) list.now self.old.opened.items self.old.place self.new.opened.items self.new.place) (Stops (O.meaning rules.now.order.now).greater (O.meaning rules.now.order.now).least (I.live rules.now.index.now) (tree_of list.now) self.new.opened.items)) }
+    {
+        if top.pending > 0 {
+            self.descend(list, top)?;
+            Ok(None)
+        } else {
+            self.leave(alloc, list, rules, top)
+        }
+    }
+
+    /// Enters the next argument of the innermost subterm.
+    fn descend(&mut self, list: &[Node], top: Open) -> Result<(), AllocError>
+        requires some { 0 < top.pending }
+        requires within { self.old.place < length list.now }
+        ensures opened { OnOk result (self.new.opened.items ≡ (self.old.opened.items ++ record { place = top.place; pending = top.pending - 1 } ∷ []) ++ record { place = self.old.place; pending = arguments_of (get_or list.now self.old.place (Var 0)) } ∷ []) }
+        ensures place { OnOk result (self.new.place ≡ self.old.place + 1) }
+    {
+        self.opened.push(Open {
+            place: top.place,
+            pending: top.pending - 1,
+        })?;
+        self.enter(list)
+    }
+
+    /// Leaves the innermost subterm behind, where no step from it is possible.
+    fn leave<O: Order, I: Index>(
+        &self,
+        alloc: Global,
+        list: &[Node],
+        rules: &Rules<O, I>,
+        top: Open,
+    ) -> Result<Option<Redex>, AllocError>
+        requires whole { IsWhole list.now }
+        requires small { length list.now ≤ MAX_NODES }
+        requires none { top.pending ≡ 0 }
+        requires walks { Walks (O.meaning rules.now.order.now).greater (O.meaning rules.now.order.now).least (I.live rules.now.index.now) (tree_of list.now) (self.now.opened.items ++ top ∷ []) self.now.place }
+        ensures { IfOk result (λ redex. MatchOption redex (Walks (O.meaning rules.now.order.now).greater (O.meaning rules.now.order.now).least (I.live rules.now.index.now) (tree_of list.now) self.now.opened.items self.now.place) (Stops (O.meaning rules.now.order.now).greater (O.meaning rules.now.order.now).least (I.live rules.now.index.now) (tree_of list.now) self.now.opened.items)) }
+    {
+        let term = part(list, top.place, self.place);
+        match first_possible(alloc, term, rules)? {
+            Some(found) => Ok(Some(Redex {
+                from: top.place,
+                to: self.place,
+                found,
+            })),
+            None => Ok(None),
+        }
+    }
+
+    /// The step from the subterm at which the walk stopped; the walk then stands at the beginning of the new subterm. None
+    /// exactly where the step leads to a term of more than 4,096 nodes.
+    pub fn step<O: Order, I: Index>(
+        &mut self,
+        alloc: Global,
+        list: &[Node],
+        rules: &Rules<O, I>,
+        redex: &Redex,
+    ) -> Result<Option<Step>, AllocError>
+        requires whole { IsWhole list.now }
+        requires small { length list.now ≤ MAX_NODES }
+        requires stops { Stops (O.meaning rules.now.order.now).greater (O.meaning rules.now.order.now).least (I.live rules.now.index.now) (tree_of list.now) self.old.opened.items redex.now }
+        ensures { IfOk result (λ step. MatchOption step (IsLarge (O.meaning rules.now.order.now).greater (O.meaning rules.now.order.now).least (I.live rules.now.index.now) (tree_of list.now)) (λ step. Steps (O.meaning rules.now.order.now).greater (O.meaning rules.now.order.now).least (I.live rules.now.index.now) (tree_of list.now) step self.new.opened.items self.new.place)) }
+    {
+        let Some((_, to)) = sides(rules.index, &redex.found) else {
+            return Ok(None);
+        };
+        let least = rules.order.least();
+        let part = completed_instance(alloc, to.as_nodes(), &redex.found.subst, least)?;
+        if list.len() - (redex.to - redex.from) + part.len() > MAX_NODES {
+            return Ok(None);
+        }
+        let to = replaced(alloc, list, redex.from, redex.to, part.as_slice())?;
+        self.place = redex.from;
+        self.enter(to.as_nodes())?;
+        Ok(Some(Step {
+            by: By::Fact(redex.found.fact),
+            left_to_right: is_left(redex.found.side),
+            position: Pos(redex.from as u32),
+            to,
+        }))
+    }
+}
+
+/// Whether a side is the left one.
+fn is_left(side: Side) -> bool
+    ensures { result ≡ is_left side }
+{
+    match side {
+        Side::Left => true,
+        Side::Right => false,
+    }
+}
+
+/// The nodes between two places.
+fn part(list: &[Node], from: usize, to: usize) -> &[Node]
+    requires order { from ≤ to }
+    requires within { to ≤ length list.now }
+    ensures { result.now ≡ take (to - from) (drop from list.now) }
+{
+    &list[from..to]
+}
+
+/// The first by which a step from the term is possible.
+fn first_possible<O: Order, I: Index>(
+    alloc: Global,
+    term: &[Node],
+    rules: &Rules<O, I>,
+) -> Result<Option<Found>, AllocError>
+    requires whole { IsWhole term.now }
+    requires small { length term.now ≤ MAX_NODES }
+    ensures { IfOk result (FirstThat (LeadsDown (O.meaning rules.now.order.now).greater (O.meaning rules.now.order.now).least (I.live rules.now.index.now) (tree_of term.now)) (tree_of term.now) (rules_of (I.live rules.now.index.now))) }
+{
+    rules.index.first_that(alloc, term, &Falls { rules, term })
+}
+
+/// The term with the nodes between two places replaced.
+fn replaced(
+    alloc: Global,
+    list: &[Node],
+    from: usize,
+    to: usize,
+    part: &[Node],
+) -> Result<Term, AllocError>
+    requires order { from ≤ to }
+    requires within { to ≤ length list.now }
+    requires whole { IsWhole (take from list.now ++ part.now ++ drop to list.now) }
+    requires small { length (take from list.now ++ part.now ++ drop to list.now) ≤ MAX_NODES }
+    ensures { IfOk result (λ term. term ≡ tree_of (take from list.now ++ part.now ++ drop to list.now)) }
+{
+    let mut all = Vec::new(alloc);
+    all.extend_from_slice(&list[..from])?;
+    all.extend_from_slice(part)?;
+    all.extend_from_slice(&list[to..])?;
+    Ok(Term::from_nodes(all))
+}
