@@ -9,7 +9,7 @@ ghost use Rattle.uc_ordering.specs.Fits.{Fits};
 ghost use Rattle.uc_top.specs.Lines.{joined};
 ghost use Rattle.uc_top.specs.TermWords.{IsTermWord, IsWordFault};
 ghost use Rattle.uc_rewrite.specs.declared.normal.Normal.{Normal as AnyNormal};
-ghost use Rattle.uc_top.specs.RewriteAnswers.{stop_status, word_line, IsNormalFor, AreNormalLines, IsRewritten};
+ghost use Rattle.uc_top.specs.RewriteAnswers.{stop_status, word_name, word_line, IsNormalFor, AreNormalLines, IsRewritten};
 ghost use Rattle.uc_top.specs.Answers.{RewriteAnswers};
 
 use crate::axioms::axioms_of;
@@ -19,6 +19,7 @@ use crate::lines::{clause_line, word_line as line_at};
 use crate::loading::{bytes_of, load_answer};
 use crate::output::{Answer, DONE, REFUSED, STOPPED, of_line};
 use crate::term_word::{WordFault, read_word};
+use itoa::Buffer;
 use std::alloc::{AllocError, Global};
 use uc_clause::print_word;
 use uc_edge::Library;
@@ -100,22 +101,36 @@ fn rewritten_answer(
     }
 }
 
-// The line of a word that is no term; for want of memory, no bytes.
-fn word_line(alloc: Global, fault: &WordFault) -> Result<Text, AllocError>
-    ensures { IfOk result (λ text. text ≡ word_line 0 fault.now) }
+// What stands for a file's name where the word of a number is refused.
+fn word_name(alloc: Global, number: u32) -> Result<Text, AllocError>
+    ensures { IfOk result (λ text. text ≡ word_name number) }
 {
+    let mut buffer = Buffer::new();
+    let mut name = Text::from_bytes(alloc, b"word ")?;
+    name.extend(buffer.format(number).as_bytes())?;
+    Ok(name)
+}
+
+// The line of the word of a number that is no term; for want of memory, no bytes.
+fn word_line(alloc: Global, number: u32, fault: &WordFault) -> Result<Text, AllocError>
+    ensures { IfOk result (λ text. text ≡ word_line number fault.now) }
+{
+    let word = word_name(alloc, number)?;
     match fault {
-        WordFault::Unread(why) => clause_line(alloc, WORD, why),
+        WordFault::Unread(why) => clause_line(alloc, word.as_bytes(), why),
         WordFault::UnknownSymbol(place, name) => {
             let name = print_word(alloc, name.as_bytes())?;
-            line_at(alloc, WORD, *place, b"UnknownSymbol", name.as_bytes())
+            line_at(
+                alloc,
+                word.as_bytes(),
+                *place,
+                b"UnknownSymbol",
+                name.as_bytes(),
+            )
         }
         WordFault::NoMemory => Ok(Text::new(alloc)),
     }
 }
-
-// What stands for a file's name where a term is refused.
-const WORD: &[u8] = b"word 0";
 
 // The answer for a word that is no term.
 fn word_answer(alloc: Global, fault: &WordFault) -> Result<Answer, AllocError>
@@ -124,7 +139,7 @@ fn word_answer(alloc: Global, fault: &WordFault) -> Result<Answer, AllocError>
 {
     match fault {
         WordFault::NoMemory => Err(AllocError),
-        _ => of_line(alloc, REFUSED, word_line(alloc, fault)?),
+        _ => of_line(alloc, REFUSED, word_line(alloc, 0, fault)?),
     }
 }
 
