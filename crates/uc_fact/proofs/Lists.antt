@@ -1,12 +1,12 @@
 -- What is found for a term is one list, and the first that is accepted is the first of the list that is.
-use Rattle.std.proofs.Common.{◌≡◌, ℕ, List, [], ◌∷◌, Option, All, refl, ap₂}
+use Rattle.std.proofs.Common.{subst, ◌≡◌, ℕ, List, [], ◌∷◌, Option, All, refl, ap₂}
 use Rattle.std.proofs.lemmas.List.Elements.{All-nil, All-cons}
 use Rattle.uc_term.specs.Tree.{Tree}
 use Rattle.uc_term.specs.Subst.{image}
 use Rattle.uc_unify.specs.Matching.{IsMatch, HasNoMatch}
 use Rattle.uc_fact.specs.declared.index.Found.{Found}
 use Rattle.uc_fact.specs.Live.{Rule}
-use Rattle.uc_fact.specs.Retrieval.{found_by, Generalises, no_rules, is_instance, is_no_instance, IsFound, by_first, by_later, FirstThat, no_rule_left, accepted, not_accepted, matches_not, FirstOf, none_left, is_first, is_later}
+use Rattle.uc_fact.specs.Retrieval.{found_by, Generalises, no_rules, is_instance, is_no_instance, IsFound, by_first, by_later, FirstThat, no_rule_left, accepted, not_accepted, FirstOf, none_left, is_first, is_later}
 use Rattle.uc_fact.proofs.Matched.{one_match}
 
 clash : {A : Type 0} {pattern t : Tree} {pairs : List (ℕ × Tree)} → IsMatch pattern t pairs → HasNoMatch pattern t → A
@@ -23,17 +23,15 @@ module _ (Accepted : Found → Type 0) (t : Tree) where
   pub of_list : (rules : List Rule) (list : List Found) (answer : Option Found) → Generalises t rules list → FirstThat Accepted t rules answer → FirstOf Accepted list answer
   of_list [] list answer no_rules no_rule_left = none_left
   of_list (rule ∷ rules) list answer (is_instance {pairs = p} {list = rest} m g) (accepted {pairs = q} n a) = rw (one_match rule.from t p q m n) (is_first a)
-  of_list (rule ∷ rules) list answer (is_instance {pairs = p} {list = rest} m g) (not_accepted {pairs = q} n a f) = rw (one_match rule.from t p q m n) (is_later a (of_list rules rest answer g f))
-  of_list (rule ∷ rules) list answer (is_instance m g) (matches_not n f) = clash m n
+  of_list (rule ∷ rules) list answer (is_instance {pairs = p} {list = rest} m g) (not_accepted n f) = is_later (n p m) (of_list rules rest answer g f)
   of_list (rule ∷ rules) list answer (is_no_instance n g) (accepted m a) = clash m n
-  of_list (rule ∷ rules) list answer (is_no_instance n g) (not_accepted m a f) = clash m n
-  of_list (rule ∷ rules) list answer (is_no_instance n g) (matches_not _ f) = of_list rules list answer g f
+  of_list (rule ∷ rules) list answer (is_no_instance n g) (not_accepted k f) = of_list rules list answer g f
 
   pub from_list : (rules : List Rule) (list : List Found) (answer : Option Found) → Generalises t rules list → FirstOf Accepted list answer → FirstThat Accepted t rules answer
   from_list [] list answer no_rules none_left = no_rule_left
   from_list (rule ∷ rules) list answer (is_instance m g) (is_first a) = accepted m a
-  from_list (rule ∷ rules) list answer (is_instance m g) (is_later a f) = not_accepted m a (from_list rules _ answer g f)
-  from_list (rule ∷ rules) list answer (is_no_instance n g) f = matches_not n (from_list rules list answer g f)
+  from_list (rule ∷ rules) list answer (is_instance {pairs = p} m g) (is_later a f) = not_accepted (λ q n b. a (subst (λ pairs. Accepted (found_by rule pairs)) (one_match rule.from t q p n m) b)) (from_list rules _ answer g f)
+  from_list (rule ∷ rules) list answer (is_no_instance n g) f = not_accepted (λ q m b. clash m n) (from_list rules list answer g f)
 
 -- what holds of all that is found holds of the list
 pub all_found : (P : Found → Type 0) (t : Tree) (rules : List Rule) (list : List Found) → ((found : Found) → IsFound t rules found → P found) → Generalises t rules list → All P list

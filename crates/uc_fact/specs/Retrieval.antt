@@ -24,8 +24,7 @@ pub data IsFound (t : Tree) : List Rule → Found → Type 0 where
 pub data FirstThat (Accepted : Found → Type 0) (t : Tree) : List Rule → Option Found → Type 0 where
   no_rule_left : FirstThat Accepted t [] None
   accepted : {rule : Rule} {rules : List Rule} {pairs : List (ℕ × Tree)} → IsMatch rule.from t pairs → Accepted (found_by rule pairs) → FirstThat Accepted t (rule ∷ rules) (Some (found_by rule pairs))
-  not_accepted : {rule : Rule} {rules : List Rule} {pairs : List (ℕ × Tree)} {answer : Option Found} → IsMatch rule.from t pairs → (Accepted (found_by rule pairs) → ⊥) → FirstThat Accepted t rules answer → FirstThat Accepted t (rule ∷ rules) answer
-  matches_not : {rule : Rule} {rules : List Rule} {answer : Option Found} → HasNoMatch rule.from t → FirstThat Accepted t rules answer → FirstThat Accepted t (rule ∷ rules) answer
+  not_accepted : {rule : Rule} {rules : List Rule} {answer : Option Found} → ((pairs : List (ℕ × Tree)) → IsMatch rule.from t pairs → Accepted (found_by rule pairs) → ⊥) → FirstThat Accepted t rules answer → FirstThat Accepted t (rule ∷ rules) answer
 
 -- the first element of a list that is accepted; none, where none is
 pub data FirstOf (Accepted : Found → Type 0) : List Found → Option Found → Type 0 where

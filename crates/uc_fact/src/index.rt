@@ -17,7 +17,7 @@ pub struct Found {
 
 /// A test of what is found for a term.
 pub trait Test {
-    ghost use Rattle.std.specs.Prelude.{◌↔◌, IsTrue, IfOk};
+    ghost use Rattle.std.specs.Prelude.{◌≡◌, ◌↔◌, IsTrue, IfOk};
     ghost use Rattle.uc_fact.specs.declared.index.Found.{Found};
 
     /// What the test may be asked of.
@@ -25,6 +25,11 @@ pub trait Test {
 
     /// What it accepts.
     ghost accepts: { Self → Found → Type 0 };
+
+    /// Whether nothing that is found at this side of this fact is accepted, as far as that is seen without the
+    /// substitution. It takes no memory.
+    fn rules_out(&self, fact: u32, side: Side) -> bool
+        ensures { IsTrue result → (found : Found) → can_test self.now found → found.fact ≡ fact → found.side ≡ side → accepts self.now found → ⊥ };
 
     /// Whether the test accepts what was found.
     fn passes(&self, alloc: Global, found: &Found) -> Result<bool, AllocError>

@@ -5,16 +5,17 @@ use Rattle.uc_term.specs.declared.node.Sym.{Sym}
 use Rattle.uc_term.specs.declared.equation.Equation.{Equation}
 use Rattle.uc_term.specs.Equations.{side_of, other_side_of}
 use Rattle.uc_term.specs.Tree.{Tree, apply}
+use Rattle.uc_term.specs.Variables.{variables, firsts}
 use Rattle.uc_unify.specs.Matching.{IsMatch}
 use Rattle.uc_order.specs.Members.{Each}
 use Rattle.uc_fact.specs.declared.index.Found.{Found}
 use Rattle.uc_fact.specs.Live.{Live, Rule, RiseFrom, AreRising, fact_at, rules_of}
-use Rattle.uc_fact.specs.Retrieval.{found_by, IsFound, by_first, by_later, FirstThat, accepted, not_accepted, matches_not}
+use Rattle.uc_fact.specs.Retrieval.{found_by, IsFound, by_first, by_later, FirstThat, accepted, not_accepted}
 use Rattle.uc_rewrite.specs.Normalising.{Makes, FirstRule, this_rule, later_rule}
 use Rattle.uc_rewrite.specs.Completed.{completed, LeadsDown}
 use Rattle.uc_rewrite.proofs.Reading.{MakeNothing}
 use Rattle.uc_rewrite.proofs.Unique.{one_instance}
-use Rattle.uc_rewrite.proofs.Completing.{completes, gives}
+use Rattle.uc_rewrite.proofs.Completing.{completes, gives, pairs_for, match_from}
 
 -- the rule reads a fact that lives
 pub record IsRuleOf (live : List Live) (r : Rule) : Type 0 where
@@ -98,6 +99,12 @@ module _ (Greater : Tree → Tree → Type 0) (least : Sym) (live : List Live) (
         greater = subst (λ z. Greater u z) same a.greater;
       }
 
+  -- a rule of which no match leads down makes nothing
+  makes_none : (r : Rule) → IsRuleOf live r → ((pairs : List (ℕ × Tree)) → IsMatch r.from u pairs → LeadsDown Greater least live u (found_by r pairs) → ⊥) → (w : Tree) → Makes Greater least r u w → ⊥
+  makes_none r k n w a =
+      let m = match_from a.σ r.from u (sym a.u_is) in
+      n (pairs_for a.σ (firsts (variables r.from))) m (leads r (pairs_for a.σ (firsts (variables r.from))) w k m a)
+
   pub record Chosen (rules : List Rule) (found : Found) : Type 0 where
     pub rule : Rule
     pub known : IsRuleOf live rule
@@ -108,14 +115,10 @@ module _ (Greater : Tree → Tree → Type 0) (least : Sym) (live : List Live) (
   pub chosen : (rules : List Rule) (found : Found) → Each (IsRuleOf live) rules → FirstThat (LeadsDown Greater least live u) u rules (Some found) → Chosen rules found
   chosen [] found k f = elim f [ ]
   chosen (r ∷ rules) _ k (accepted {pairs = p} m d) = record { rule = r; known = k.0; number_is = refl; side_is = refl; first = this_rule (makes r p k.0 m d) }
-  chosen (r ∷ rules) found k (not_accepted {pairs = p} m n f) =
+  chosen (r ∷ rules) found k (not_accepted n f) =
       let c = chosen rules found k.1 f in
-      record { rule = c.rule; known = c.known; number_is = c.number_is; side_is = c.side_is; first = later_rule (λ w a. n (leads r p w k.0 m a)) c.first }
-  chosen (r ∷ rules) found k (matches_not n f) =
-      let c = chosen rules found k.1 f in
-      record { rule = c.rule; known = c.known; number_is = c.number_is; side_is = c.side_is; first = later_rule (λ w a. n a.σ (sym a.u_is)) c.first }
+      record { rule = c.rule; known = c.known; number_is = c.number_is; side_is = c.side_is; first = later_rule (makes_none r k.0 n) c.first }
 
   pub nothing : (rules : List Rule) → Each (IsRuleOf live) rules → FirstThat (LeadsDown Greater least live u) u rules None → MakeNothing Greater least u rules
   nothing [] k f = tt
-  nothing (r ∷ rules) k (not_accepted {pairs = p} m n f) = ((λ w a. n (leads r p w k.0 m a)), nothing rules k.1 f)
-  nothing (r ∷ rules) k (matches_not n f) = ((λ w a. n a.σ (sym a.u_is)), nothing rules k.1 f)
+  nothing (r ∷ rules) k (not_accepted n f) = (makes_none r k.0 n, nothing rules k.1 f)

@@ -1,10 +1,10 @@
 -- What completed matches give.
 use Rattle.std.proofs.Common.{◌≡◌, ℕ, ◌==◌, ◌||◌, Bool, true, false, List, [], ◌∷◌, Some, None, unwrap_or, if◌then◌else◌, refl, sym, ap, ◌∙◌, ◌⊎◌, inl, inr}
-use Rattle.std.proofs.lemmas.Bool.{eqb-true}
+use Rattle.std.proofs.lemmas.Bool.{eqb-true, eq-eqb}
 use Rattle.uc_term.specs.declared.node.Sym.{Sym}
 use Rattle.uc_term.specs.Tree.{Tree, var, app, none, apply}
 use Rattle.uc_term.specs.Subst.{found, image, domain}
-use Rattle.uc_term.specs.Variables.{Occurs, is_among, variables, firsts_after}
+use Rattle.uc_term.specs.Variables.{Occurs, is_among, variables, firsts, firsts_after}
 use Rattle.uc_term.proofs.Agree.{same_if}
 use Rattle.uc_term.proofs.Pairs.{known, found_among, found_not_among}
 use Rattle.uc_unify.specs.Matching.{IsMatch}
@@ -59,3 +59,28 @@ module _ (least : Sym) (from t : Tree) (pairs : List (ℕ × Tree)) (m : IsMatch
       go : (x : ℕ) → Occurs x from → ((s : Tree) × (found pairs x ≡ Some s)) ⊎ (found pairs x ≡ None) → completed least pairs x ≡ image pairs x
       go x o (inl s) = ap (λ p. unwrap_or p (app least none)) s.1 ∙ sym (ap (λ p. unwrap_or p (var x)) s.1)
       go x o (inr n) = absurd (has_pair x o n)
+
+-- the pairs that a substitution gives some variables
+abbrev pub pairs_for : (ℕ → Tree) → List ℕ → List (ℕ × Tree)
+pairs_for σ [] = []
+pairs_for σ (x ∷ xs) = (x, σ x) ∷ pairs_for σ xs
+
+domain_for : (σ : ℕ → Tree) (xs : List ℕ) → domain (pairs_for σ xs) ≡ xs
+domain_for σ [] = refl
+domain_for σ (x ∷ xs) = ap (λ l. x ∷ l) (domain_for σ xs)
+
+found_for : (σ : ℕ → Tree) (xs : List ℕ) (x : ℕ) → is_among x xs ≡ true → found (pairs_for σ xs) x ≡ Some (σ x)
+found_for σ [] x h = absurd cc
+found_for σ (y ∷ ys) x h = go (y == x) refl (found_for σ ys x) (either (x == y) (is_among x ys) h)
+  where
+    go : (b : Bool) → (y == x) ≡ b → (is_among x ys ≡ true → found (pairs_for σ ys) x ≡ Some (σ x)) → ((x == y) ≡ true) ⊎ (is_among x ys ≡ true) → (if b then Some (σ y) else found (pairs_for σ ys) x) ≡ Some (σ x)
+    go true e rest s = ap (λ z. Some (σ z)) (eqb-true y x e)
+    go false e rest (inl s) = both (y == x) (eq-eqb y x (sym (eqb-true x y s))) e
+    go false e rest (inr s) = rest s
+
+-- an instance is a match
+pub match_from : (σ : ℕ → Tree) (from t : Tree) → apply σ from ≡ t → IsMatch from t (pairs_for σ (firsts (variables from)))
+match_from σ from t e = record {
+  gives = same_if (image (pairs_for σ (firsts (variables from)))) σ from (λ x o. ap (λ p. unwrap_or p (var x)) (found_for σ (firsts (variables from)) x (among_firsts [] (variables from) x (among x from o) refl))) ∙ e;
+  pairs_are = domain_for σ (firsts (variables from));
+}

@@ -10,3 +10,7 @@ pub mod Fitting
 pub mod Stepping
 pub mod Chaining
 pub mod Scanned
+pub mod Decided
+pub mod Replacing
+pub mod Converting
+pub mod Replays

@@ -11,7 +11,7 @@ use Rattle.uc_unify.specs.Matching.{IsMatch, HasNoMatch}
 use Rattle.uc_fact.specs.declared.index.Found.{Found}
 use Rattle.uc_fact.specs.Live.{Rule, fact_at, numbered_from, numbered, rule_of, rules_of}
 use Rattle.uc_term.specs.declared.equation.Side.TheVariants.{Left, Right}
-use Rattle.uc_fact.specs.Retrieval.{Generalises, no_rules, is_instance, is_no_instance, IsFound, by_first, by_later, FirstThat, no_rule_left, accepted, not_accepted, matches_not}
+use Rattle.uc_fact.specs.Retrieval.{Generalises, no_rules, is_instance, is_no_instance, IsFound, by_first, by_later, FirstThat, no_rule_left, accepted, not_accepted}
 use Rattle.uc_rewrite.specs.Scanning.{live_fact, Adds}
 
 -- the fact of a number is the one at its place
@@ -66,14 +66,12 @@ module _ (t : Tree) where
   module _ (Accepted : Found → Type 0) where
     pub first_past : (xs ys : List Rule) (answer : Option Found) → FirstThat Accepted t xs None → FirstThat Accepted t ys answer → FirstThat Accepted t (xs ++ ys) answer
     first_past [] ys answer no_rule_left h = h
-    first_past (x ∷ xs) ys answer (not_accepted m n f) h = not_accepted m n (first_past xs ys answer f h)
-    first_past (x ∷ xs) ys answer (matches_not n f) h = matches_not n (first_past xs ys answer f h)
+    first_past (x ∷ xs) ys answer (not_accepted n f) h = not_accepted n (first_past xs ys answer f h)
 
     pub first_here : (xs ys : List Rule) (found : Found) → FirstThat Accepted t xs (Some found) → FirstThat Accepted t (xs ++ ys) (Some found)
     first_here [] ys found f = elim f [ ]
     first_here (x ∷ xs) ys _ (accepted m a) = accepted m a
-    first_here (x ∷ xs) ys found (not_accepted m n f) = not_accepted m n (first_here xs ys found f)
-    first_here (x ∷ xs) ys found (matches_not n f) = matches_not n (first_here xs ys found f)
+    first_here (x ∷ xs) ys found (not_accepted n f) = not_accepted n (first_here xs ys found f)
 
     -- what the rest comes to, all come to
     abbrev pub Passes : List Equation → ℕ → Type 0

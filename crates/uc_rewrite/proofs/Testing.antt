@@ -1,17 +1,19 @@
 -- When what is found leads down.
-use Rattle.std.proofs.Common.{◌≡◌, ℕ, List, true, false, IsTrue, refl, sym, ap, ◌∙◌, subst}
+use Rattle.std.proofs.Common.{inl, inr, Some, ◌≡◌, ℕ, List, true, false, IsTrue, refl, sym, ap, ◌∙◌, subst}
 use Rattle.uc_term.specs.declared.node.Node.{Node}
 use Rattle.uc_term.specs.declared.node.Sym.{Sym}
 use Rattle.uc_term.specs.Equations.{side_of, other_side_of}
+use Rattle.uc_term.specs.declared.equation.Side.{Side}
+use Rattle.uc_term.specs.declared.equation.Equation.{Equation}
 use Rattle.uc_term.specs.Tree.{Tree, apply}
 use Rattle.uc_term.specs.Flat.{flat, tree_of, IsWhole}
 use Rattle.uc_term.specs.Code.{tree_of-flat}
 use Rattle.uc_unify.specs.Matching.{IsMatch}
 use Rattle.uc_order.specs.Laws.{Meaning, Laws}
 use Rattle.uc_fact.specs.declared.index.Found.{Found}
-use Rattle.uc_fact.specs.Live.{Live, Rule, AreRising, rules_of}
+use Rattle.uc_fact.specs.Live.{Live, Rule, AreRising, rules_of, fact_at}
 use Rattle.uc_fact.specs.Retrieval.{found_by, IsFound}
-use Rattle.uc_rewrite.specs.Completed.{completed, AreSides, LeadsDown}
+use Rattle.uc_rewrite.specs.Completed.{completed, AreSides, LeadsDown, IsUpward}
 use Rattle.uc_rewrite.proofs.Choosing.{IsRuleOf, found_rule, all_known}
 use Rattle.uc_rewrite.proofs.Completing.{gives}
 
@@ -75,3 +77,17 @@ refused {A} n = ((λ h. absurd (no h)), (λ a. absurd (n a)))
 
 pub agreed : {A : Type 0} → A → (IsTrue true → A) × (A → IsTrue true)
 agreed a = ((λ _. a), (λ _. refl))
+
+-- a side that is the other one, or smaller, leads down nowhere
+pub ruled_out : (m : Meaning) → Laws m → (live : List Live) → AreRising live → (t : Tree) (number : ℕ) (side : Side) (e : Equation) (found : Found) → fact_at live number ≡ Some e → IsUpward m.greater (side_of side e) (other_side_of side e) → IsFound t (rules_of live) found → found.fact ≡ number → found.side ≡ side → LeadsDown m.greater m.least live t found → ⊥
+ruled_out m laws live rising t number side e found at up i ef es d = go up
+  where
+    s : AreSides live found (side_of side e) (other_side_of side e)
+    s = record { equation = e; equation_is = ap (fact_at live) ef ∙ at; from_is = ap (λ z. side_of z e) (sym es); to_is = ap (λ z. other_side_of z e) (sym es) }
+
+    is : apply (completed m.least found.subst) (side_of side e) ≡ t
+    is = instance_is m.least live t (side_of side e) (other_side_of side e) found rising i s
+
+    go : IsUpward m.greater (side_of side e) (other_side_of side e) → ⊥
+    go (inl g) = not_upwards m laws live t (side_of side e) (other_side_of side e) found s is g d
+    go (inr h) = not_same m laws live t (side_of side e) (other_side_of side e) found s is h d

@@ -3,3 +3,4 @@ pub mod Completed
 pub mod Walking
 pub mod Ends
 pub mod Scanning
+pub mod Replay

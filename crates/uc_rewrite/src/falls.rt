@@ -2,9 +2,10 @@
 
 ghost use Rattle.std.specs.Prelude.{◌≡◌, ◌≤◌, ◌↔◌, length, MatchOption, None, IsTrue};
 ghost use Rattle.uc_term.specs.Flat.{tree_of, IsWhole};
+ghost use Rattle.uc_term.specs.Equations.{side_of, other_side_of};
 ghost use Rattle.uc_fact.specs.Live.{rules_of, fact_at};
 ghost use Rattle.uc_fact.specs.Retrieval.{IsFound};
-ghost use Rattle.uc_rewrite.specs.Completed.{AreSides, LeadsDown};
+ghost use Rattle.uc_rewrite.specs.Completed.{AreSides, LeadsDown, IsUpward};
 
 use crate::completed::completed_instance;
 use std::alloc::{AllocError, Global};
@@ -30,6 +31,13 @@ impl<'a, O: Order, I: Index> Test for Falls<'a, O, I> {
     ghost can_test = { λ s found. IsWhole s.term.now × (length s.term.now ≤ 4096) × IsFound (tree_of s.term.now) (rules_of (I.live s.rules.now.index.now)) found };
 
     ghost accepts = { λ s found. LeadsDown (O.meaning s.rules.now.order.now).greater (O.meaning s.rules.now.order.now).least (I.live s.rules.now.index.now) (tree_of s.term.now) found };
+
+    fn rules_out(&self, fact: u32, side: Side) -> bool {
+        match self.rules.index.pair(fact) {
+            Some((left, right)) => is_upward(self.rules.order, side, left, right),
+            None => false,
+        }
+    }
 
     fn passes(&self, alloc: Global, found: &Found) -> Result<bool, AllocError> {
         let Some((from, to)) = sides(self.rules.index, found) else {
@@ -64,4 +72,25 @@ fn is_greater(compared: Cmp) -> bool
     ensures { IsTrue result ↔ (compared ≡ Cmp.Greater) }
 {
     compared == Cmp::Greater
+}
+
+/// Whether a side of an equation is the other one, or smaller; so are its instances then.
+fn is_upward<O: Order>(order: &O, side: Side, left: &Term, right: &Term) -> bool
+    ensures { IsTrue result → IsUpward (O.meaning order.now).greater (side_of side (record { left = left.now; right = right.now })) (other_side_of side (record { left = left.now; right = right.now })) }
+{
+    match side {
+        Side::Left => is_less_or_equal(order, left, right),
+        Side::Right => is_less_or_equal(order, right, left),
+    }
+}
+
+fn is_less_or_equal<O: Order>(order: &O, s: &Term, t: &Term) -> bool
+    ensures { IsTrue result → IsUpward (O.meaning order.now).greater s.now t.now }
+{
+    match order.compare(s.as_nodes(), t.as_nodes()) {
+        Cmp::Less => true,
+        Cmp::Equal => true,
+        Cmp::Greater => false,
+        Cmp::Unknown => false,
+    }
 }

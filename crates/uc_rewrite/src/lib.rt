@@ -1,5 +1,6 @@
-//! Ordered rewriting: looking through a list of equations, and normalising by the first possible step (Baader and Nipkow,
-//! Term Rewriting and All That, chapter 4; Bachmair, Dershowitz and Plaisted, Completion without failure).
+//! Ordered rewriting: looking through a list of equations, normalising by the first possible step, and replaying chains of
+//! steps (Baader and Nipkow, Term Rewriting and All That, chapter 4; Bachmair, Dershowitz and Plaisted, Completion without
+//! failure).
 #![tactic(auto)]
 
 mod completed;
@@ -7,12 +8,16 @@ mod falls;
 mod laws;
 mod matching;
 mod normal;
+mod replaying;
 mod scan;
 mod walk;
 
 pub use laws::one_normal_form;
 pub use normal::{Normal, normalise};
+pub use replaying::replay;
 pub use scan::Scan;
 
+#[cfg(test)]
+mod replaying_tests;
 #[cfg(test)]
 mod tests;

@@ -140,6 +140,9 @@ fn first_of_side<T: Test>(
     requires can { (found : AnyFound) → IsFound (tree_of term.now) (rule_of side (live_fact number fact.now) ∷ []) found → T.can_test test.now found }
     ensures { IfOk result (FirstThat (T.accepts test.now) (tree_of term.now) (rule_of side (live_fact number fact.now) ∷ [])) }
 {
+    if test.rules_out(number, side) {
+        return Ok(None);
+    }
     match matching(alloc, side_term(fact, side).as_nodes(), term)? {
         Some(subst) => {
             let found = Found {

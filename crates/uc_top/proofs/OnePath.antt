@@ -83,7 +83,7 @@ same_path (suc i ∷ p) (suc j ∷ q) (app g ts) s u e f h = go (λ a x y. same_
         let same : first.0 ≡ second.0 = some_same (sym first.1 ∙ b) in
         let there : at_position first.0 q ≡ Some u = ap (λ a. at_position a q) same ∙ second.2 in
         let puts : (w : Tree) → put_position first.0 p w ≡ put_position first.0 q w =
-            λ w. some_same (sym (nth_changed (λ a. put_position a p w) ts i first.0 first.1) ∙ ap (λ us. nth us i) (changed w) ∙ ap (λ n. nth (change (λ a. put_position a q w) ts n) i) (sym k) ∙ nth_changed (λ a. put_position a q w) ts i first.0 first.1) in
+        λ w. some_same (sym (nth_changed (λ a. put_position a p w) ts i first.0 first.1) ∙ ap (λ us. nth us i) (changed w) ∙ ap (λ n. nth (change (λ a. put_position a q w) ts n) i) (sym k) ∙ nth_changed (λ a. put_position a q w) ts i first.0 first.1) in
         ap₂ (λ n r. suc n ∷ r) k (deeper first.0 first.2 there puts)
     go deeper (inr n) = absurd (not_fixed first.0 p s first.2 (λ w. some_same (sym (nth_changed (λ a. put_position a p w) ts i first.0 first.1) ∙ ap (λ us. nth us i) (changed w) ∙ nth_other (λ a. put_position a q w) ts j i (λ e. n (sym e)) ∙ first.1)))
 

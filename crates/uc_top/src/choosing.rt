@@ -13,12 +13,7 @@ use uc_ordering::ChoiceFault;
 use uc_term::Text;
 
 // A line about the order.
-fn about_order(
-    alloc: Global,
-    kind: &[u8],
-    name: &Text,
-    more: &[u8],
-) -> Result<Text, AllocError>
+fn about_order(alloc: Global, kind: &[u8], name: &Text, more: &[u8]) -> Result<Text, AllocError>
     ensures { IfOk result (λ text. text ≡ about_order kind.now name.now more.now) }
 {
     let name = print_word(alloc, name.as_bytes())?;

@@ -91,12 +91,7 @@ const WAYS: &[(&[&str], &str, u8, &str)] = &[
         "0 lr i(m(X1,X2)) = m(i(X2),i(X1))\n",
     ),
     (&["order", "p"], TWO, 0, "0 rl a = b\n"),
-    (
-        &["order", "--precedence", "a", "p"],
-        TWO,
-        0,
-        "0 lr a = b\n",
-    ),
+    (&["order", "--precedence", "a", "p"], TWO, 0, "0 lr a = b\n"),
     (
         &["order", "--precedence", "'a'<b", "p"],
         TWO,
@@ -132,15 +127,15 @@ const WAYS: &[(&[&str], &str, u8, &str)] = &[
 
 // An order that is refused for the problem in `p`: what stands behind `% order`.
 const ORDERS: &[(&[&str], &str, &str)] = &[
-    (&["order", "--precedence", "zz", "p"], RO, "UnknownSymbol zz"),
+    (
+        &["order", "--precedence", "zz", "p"],
+        RO,
+        "UnknownSymbol zz",
+    ),
     (&["order", "--weights", "f=0", "p"], RO, "BadWeight f 0"),
     (&["order", "--precedence", "f<f", "p"], RO, "NotTotal f"),
     (&["order", "--precedence", "f<g<g<f", "p"], RO, "NotTotal f"),
-    (
-        &["order", "--weights", "f=1,f=2", "p"],
-        RO,
-        "NotTotal f",
-    ),
+    (&["order", "--weights", "f=1,f=2", "p"], RO, "NotTotal f"),
     (
         &["order", "--weights", "f=1,f=1", "--precedence", "g<g", "p"],
         RO,
@@ -197,7 +192,11 @@ const WORDS: &[(&[&str], u8, &str)] = &[
     (&["order", "--weights", "a=4294967296", "p"], 4, USAGE),
     (&["order", "--precedence", "a < b", "p"], 4, USAGE),
     (&["order", "no.p"], 3, "% no.p Absent\n"),
-    (&["order", "--precedence", "zz", "no.p"], 3, "% no.p Absent\n"),
+    (
+        &["order", "--precedence", "zz", "no.p"],
+        3,
+        "% no.p Absent\n",
+    ),
 ];
 
 // Whether the row is answered so.

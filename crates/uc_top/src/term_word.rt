@@ -102,12 +102,7 @@ fn first_foreign(known: &[Sym], term: &Term) -> Option<usize>
 }
 
 // The name of the symbol at a node, which is no variable.
-fn name_at(
-    alloc: Global,
-    term: &Term,
-    number: usize,
-    symbols: &Symbols,
-) -> Result<Text, AllocError>
+fn name_at(alloc: Global, term: &Term, number: usize, symbols: &Symbols) -> Result<Text, AllocError>
     requires { (f : AnySym) × (n : ℕ) × (slice_get (flat term.now) number ≡ Some (App f n)) × Has symbols.now f }
     ensures { (f : AnySym) (n : ℕ) → slice_get (flat term.now) number ≡ Some (App f n) → IfOk result (λ name. name ≡ name_of symbols.now f) }
 {

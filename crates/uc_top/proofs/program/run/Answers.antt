@@ -25,6 +25,7 @@ returns-in-Err-clause-complete_order g c = order_completes _ _ _ _ _ _ _ _ _ (re
 
 pub returns-in-Ok-clause-complete_order : goal.returns-in-Ok-clause-complete_order
 returns-in-Ok-clause-complete_order g c = order_completes _ _ _ _ _ _ _ _ _ (record { status = _; text = _; answer = c.in-Ok.ensures.answers; told = c.tell.ensures.told })
+
 pub returns-in-Ok-clause-complete_check : goal.returns-in-Ok-clause-complete_check
 returns-in-Ok-clause-complete_check g c = completes_check _ _ _ _ _ _ _ _ _ (record { status = _; text = _; answer = c.in-Ok.ensures.answers; told = c.tell.ensures.told })
 

@@ -1,0 +1,63 @@
+-- When a chain replays: each of its steps replaces equals by equals, by the equation that it names (Birkhoff's replacement of
+-- equals).
+use Rattle.std.specs.Prelude.{ℕ, ◌≡◌, ◌<◌, Bool, List, [], ◌∷◌, ◌++◌, map, slice_get, Option, Some, if◌then◌else◌}
+use Rattle.uc_term.specs.declared.equation.Equation.{Equation}
+use Rattle.uc_term.specs.declared.equation.Side.{Side}
+use Rattle.uc_term.specs.declared.equation.Side.TheVariants.{Left, Right}
+use Rattle.uc_term.specs.Tree.{Tree, apply, nodes, subterm, put}
+use Rattle.uc_term.specs.Equations.{side_of, other_side_of}
+use Rattle.uc_fact.specs.declared.chain.By.{By}
+use Rattle.uc_fact.specs.declared.chain.By.TheVariants.{Axiom, Fact as FactOf}
+use Rattle.uc_fact.specs.declared.chain.Step.{Step}
+use Rattle.uc_fact.specs.declared.chain.Chain.{Chain}
+use Rattle.uc_fact.specs.declared.fact.Fact.{Fact}
+
+-- the two sides of a fact
+abbrev pub equation_of : Fact → Equation
+equation_of fact = record { left = fact.left; right = fact.right }
+
+-- the equations that steps may name: the axioms, and the facts' equations behind them
+abbrev pub equations : List Equation → List Fact → List Equation
+equations axioms facts = axioms ++ map equation_of facts
+
+-- the equation that is named: that axiom, or that fact's, where there is one of this number
+abbrev pub named : List Equation → List Fact → By → Option Equation
+named axioms facts (Axiom number) = slice_get axioms number
+named axioms facts (FactOf number) = slice_get (map equation_of facts) number
+
+-- the side of its equation that a step replaces
+abbrev pub replaced_side : Bool → Side
+replaced_side left_to_right = if left_to_right then Left else Right
+
+-- The place is one of the term before; one substitution makes the side that is replaced the subterm there, and the term behind
+-- is the one before with the other side's instance in its place.
+pub record ReplacesAt (from to before : Tree) (place : ℕ) (after : Tree) : Type 0 where
+  pub inside : place < nodes before
+  pub σ : ℕ → Tree
+  pub from_is : apply σ from ≡ subterm before place
+  pub to_is : put before place (apply σ to) ≡ after
+
+module _ (axioms : List Equation) (facts : List Fact) where
+  -- the step replaces equals by equals in the term before it: by the equation that it names, the named way and at the named
+  -- place
+  pub record IsReplacement (before : Tree) (step : Step) : Type 0 where
+    pub equation : Equation
+    pub equation_is : named axioms facts step.by ≡ Some equation
+    pub replaces : ReplacesAt (side_of (replaced_side step.left_to_right) equation) (other_side_of (replaced_side step.left_to_right) equation) before step.position.0 step.to
+
+  -- each of the steps does, the first one in this term and each later one in the term behind the one before it
+  abbrev pub AreReplacements : Tree → List Step → Type 0
+  AreReplacements before [] = Unit {0}
+  AreReplacements before (step ∷ steps) = IsReplacement before step × AreReplacements step.to steps
+
+  abbrev pub Replays : Chain → Type 0
+  Replays chain = AreReplacements chain.start chain.steps
+
+-- the term behind the last of the steps; the one before them, where there are none
+abbrev pub last_term : Tree → List Step → Tree
+last_term before [] = before
+last_term before (step ∷ steps) = last_term step.to steps
+
+-- the terms from which and to which a chain leads
+abbrev pub ends : Chain → Tree × Tree
+ends chain = (chain.start, last_term chain.start chain.steps)
