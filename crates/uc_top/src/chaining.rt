@@ -69,12 +69,7 @@ fn term_line(alloc: Global, term: &Term, symbols: &Symbols) -> Result<Text, Allo
 }
 
 // The line of a step from a term.
-fn step_line(
-    alloc: Global,
-    from: &Term,
-    step: &Step,
-    symbols: &Symbols,
-) -> Result<Text, AllocError>
+fn step_line(alloc: Global, from: &Term, step: &Step, symbols: &Symbols) -> Result<Text, AllocError>
     requires inside { step.now.position.0 < nodes from.now }
     requires of_table { IsOf symbols.now step.now.to }
     ensures { IfOk result (IsStepLine symbols.now from.now step.now) }

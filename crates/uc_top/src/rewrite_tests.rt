@@ -12,7 +12,8 @@ const R5: &str =
 const GRP: &str =
     "cnf(left_identity, axiom, m(e,X) = X).\ncnf(left_inverse, axiom, m(i(X),X) = e).\ncnf(associativity, axiom, m(m(X,Y),Z) = m(X,m(Y,Z))).\ncnf(goal, negated_conjecture, m(a,b) != m(b,a)).\n";
 
-const SWAP: &str = "cnf(c, axiom, f(X,Y) = f(Y,X)).\ncnf(g, negated_conjecture, f(a,b) != f(b,a)).\n";
+const SWAP: &str =
+    "cnf(c, axiom, f(X,Y) = f(Y,X)).\ncnf(g, negated_conjecture, f(a,b) != f(b,a)).\n";
 
 const FREE: &str = "cnf(h, axiom, f(X) = g(Y)).\ncnf(g, negated_conjecture, g(a) != g(b)).\n";
 
@@ -165,7 +166,10 @@ fn terms_are_rewritten(rt: HostRuntime) -> Result<(), Fail> {
     for (more, problem, status, answer) in CHAINS {
         let words = rewriting(alloc, more)?;
         let wanted = (*status, answer.as_bytes());
-        assert!(rt; is_answered(&rt, alloc, &words, problem.as_bytes(), wanted)?, "{more:?}");
+        assert!(rt;
+            is_answered(&rt, alloc, &words, problem.as_bytes(), wanted)?,
+            "{more:?}"
+        );
     }
     Ok(())
 }
@@ -177,7 +181,10 @@ fn words_are_no_terms(rt: HostRuntime) -> Result<(), Fail> {
         let words = rewriting(alloc, &[*word])?;
         let line = format!(in alloc; "% word 0:1:{fault}\n")?;
         let wanted = (3, line.as_bytes());
-        assert!(rt; is_answered(&rt, alloc, &words, problem.as_bytes(), wanted)?, "{word}");
+        assert!(rt;
+            is_answered(&rt, alloc, &words, problem.as_bytes(), wanted)?,
+            "{word}"
+        );
     }
     Ok(())
 }
@@ -186,7 +193,10 @@ fn words_are_no_terms(rt: HostRuntime) -> Result<(), Fail> {
 fn orders_come_first(rt: HostRuntime) -> Result<(), Fail> {
     for (words, status, answer) in ORDERS {
         let wanted = (*status, answer.as_bytes());
-        assert!(rt; is_answered(&rt, rt.alloc(), words, R5.as_bytes(), wanted)?, "{words:?}");
+        assert!(rt;
+            is_answered(&rt, rt.alloc(), words, R5.as_bytes(), wanted)?,
+            "{words:?}"
+        );
     }
     Ok(())
 }
@@ -223,11 +233,43 @@ fn sizes_are_counted(rt: HostRuntime) -> Result<(), Fail> {
         (63, "1", 2, "stopped steps\n"),
     ] {
         let side = wide(alloc, "k", "X", times)?;
-        let problem = joined(alloc, &[b"cnf(c, axiom, g(X) = ", side.as_bytes(), b").\ncnf(d, plain, ~ a = a).\n"])?;
+        let problem = joined(
+            alloc,
+            &[
+                b"cnf(c, axiom, g(X) = ",
+                side.as_bytes(),
+                b").\ncnf(d, plain, ~ a = a).\n",
+            ],
+        )?;
         let inner = wide(alloc, "k", "a", times)?;
-        let answer = joined(alloc, &[b"g(g(a))\n0 lr [1] g(", inner.as_bytes(), b")\n", last.as_bytes()])?;
-        let words = ["rewrite", "p", "g(g(a))", "--order=lpo", "--precedence=g", "--limit", limit];
-        assert!(rt; is_answered(&rt, alloc, &words, problem.as_bytes(), (wanted, answer.as_bytes()))?, "{last}");
+        let answer = joined(
+            alloc,
+            &[
+                b"g(g(a))\n0 lr [1] g(",
+                inner.as_bytes(),
+                b")\n",
+                last.as_bytes(),
+            ],
+        )?;
+        let words = [
+            "rewrite",
+            "p",
+            "g(g(a))",
+            "--order=lpo",
+            "--precedence=g",
+            "--limit",
+            limit,
+        ];
+        assert!(rt;
+            is_answered(
+                &rt,
+                alloc,
+                &words,
+                problem.as_bytes(),
+                (wanted, answer.as_bytes())
+            )?,
+            "{last}"
+        );
     }
     Ok(())
 }

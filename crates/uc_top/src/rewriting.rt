@@ -47,7 +47,14 @@ pub(crate) fn rewrite_answer<L: Library>(
     ensures later { L.faults library.old ≤ L.faults library.new }
 {
     let mut symbols = Symbols::new(alloc);
-    let answer = load_and_rewrite(alloc, command, name.as_bytes(), word.as_bytes(), &mut symbols, library);
+    let answer = load_and_rewrite(
+        alloc,
+        command,
+        name.as_bytes(),
+        word.as_bytes(),
+        &mut symbols,
+        library,
+    );
     // The entries of the table are all different, so what was read is the only reading.
     let _ = symbols.len();
     answer
@@ -69,7 +76,13 @@ fn load_and_rewrite<L: Library>(
     ensures same { L.holds library.new ≡ L.holds library.old }
     ensures later { L.faults library.old ≤ L.faults library.new }
 {
-    match load(alloc, library, bytes_of(command.root.as_ref()), name, symbols) {
+    match load(
+        alloc,
+        library,
+        bytes_of(command.root.as_ref()),
+        name,
+        symbols,
+    ) {
         Ok(problem) => rewritten_answer(alloc, &problem, command, word, symbols),
         Err(fault) => load_answer(alloc, &fault),
     }
@@ -171,7 +184,11 @@ fn normal_answer(
 fn scan_of(axioms: &[Equation]) -> Result<Scan<'_>, AllocError>
     ensures { IfOk result (λ scan. scan.facts.now ≡ axioms.now) }
 {
-    if axioms.len() < MOST_AXIOMS { Ok(Scan::new(axioms)) } else { Err(AllocError) }
+    if axioms.len() < MOST_AXIOMS {
+        Ok(Scan::new(axioms))
+    } else {
+        Err(AllocError)
+    }
 }
 
 const MOST_AXIOMS: usize = 2_147_483_648;
