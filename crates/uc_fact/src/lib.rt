@@ -14,3 +14,6 @@ pub use fact::{Fact, Origin, Overlap, Stop, System};
 pub use index::{Found, Index, Test, first_of};
 pub use laws::{first_of_the_list, one_list};
 pub use uc_term::{Equation, Side};
+
+#[cfg(test)]
+mod tests;
