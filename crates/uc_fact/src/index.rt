@@ -49,7 +49,7 @@ pub trait Index {
     ghost live: { Self → List Live };
 
     /// Each side of a live fact of which the term is an instance, once, by the fact's number, left before right, with the
-    /// substitution. An empty list takes no memory.
+    /// substitution. A side whose symbols don't stand in the term takes no memory.
     fn generalisations(&self, alloc: Global, term: &[Node]) -> Result<Seq<Found>, AllocError>
         requires whole { IsWhole term.now }
         requires small { length term.now ≤ MAX_NODES }
