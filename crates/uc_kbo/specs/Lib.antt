@@ -9,6 +9,7 @@ pub mod Rises
 pub mod Ground
 pub mod Laws
 pub mod Runs
+pub mod Balances
 pub mod Faults
 pub mod Valid
 pub mod Known
