@@ -6,3 +6,4 @@ pub mod Covering
 pub mod Stack
 pub mod Tables
 pub mod Known
+pub mod Balancing

@@ -11,6 +11,7 @@ ghost use Rattle.uc_kbo.specs.Runs.{IsRun, Beats, IsVerdict, IsOver, IsStack, pa
 use crate::Weights;
 use crate::covers::has_all;
 use crate::run::{Run, read};
+use crate::wide::climb_wide;
 use uc_order::{Cmp, class_number};
 use uc_term::{Node, Seq, end_of};
 
@@ -54,7 +55,7 @@ fn decide(
 }
 
 #[inline]
-fn heavier(a: u64, b: u64, equal: Cmp) -> Cmp
+pub fn heavier(a: u64, b: u64, equal: Cmp) -> Cmp
     ensures greater { (result ≡ Cmp.Greater) ↔ ((b < a) ⊎ ((a ≡ b) × (equal ≡ Cmp.Greater))) }
     ensures less { (result ≡ Cmp.Less) ↔ ((a < b) ⊎ ((b ≡ a) × (equal ≡ Cmp.Less))) }
 {
@@ -94,7 +95,7 @@ fn first_difference(under: bool, classes: &[Seq<u32>], s: &[Node], t: &[Node]) -
 
 // Where `count` terms from a place on end.
 #[inline]
-fn end_of_terms(list: &[Node], from: usize, count: usize) -> usize
+pub fn end_of_terms(list: &[Node], from: usize, count: usize) -> usize
     requires whole { AreWhole list.now }
     requires enough { count ≤ length (spelled (drop from list.now)) }
     requires within { from ≤ length list.now }
@@ -156,7 +157,7 @@ fn is_stack(
 
 // What the heads at a place say, where they differ.
 #[inline]
-fn heads(w: &Weights, under: bool, classes: &[Seq<u32>], s: &[Node], t: &[Node], at: usize) -> Cmp
+pub fn heads(w: &Weights, under: bool, classes: &[Seq<u32>], s: &[Node], t: &[Node], at: usize) -> Cmp
     requires in_s { at < length s.now }
     requires in_t { at < length t.now }
     ensures greater { (result ≡ Cmp.Greater) ↔ IsOver (table_weighing w.now.w0 w.now.table.items) (test_by under classes.now) (above_by under classes.now) (drop at (read_by under classes.now s.now)) (drop at (read_by under classes.now t.now)) }
@@ -281,6 +282,9 @@ pub fn compare_by(w: &Weights, under: bool, classes: &[Seq<u32>], s: &[Node], t:
     a.extend(w, under, classes, s, s.len());
     let mut b = Run::new(at);
     b.extend(w, under, classes, t, t.len());
+    if !under && (a.has_large || b.has_large) {
+        return climb_wide(w, s, t, at);
+    }
     if a.weight != b.weight {
         decide(w, under, classes, s, t, &a, &b, Cmp::Unknown)
     } else {

@@ -1,6 +1,7 @@
 //! The Knuth-Bendix order, with a unary symbol of weight 0 where it is last in the precedence.
 #![tactic(auto)]
 
+mod balance;
 mod climb;
 mod covers;
 mod kbo;
@@ -9,6 +10,7 @@ mod table;
 #[cfg(test)]
 mod tests;
 mod weights;
+mod wide;
 
 pub use kbo::Kbo;
 pub use run::Run;
