@@ -157,7 +157,14 @@ fn is_stack(
 
 // What the heads at a place say, where they differ.
 #[inline]
-pub fn heads(w: &Weights, under: bool, classes: &[Seq<u32>], s: &[Node], t: &[Node], at: usize) -> Cmp
+pub fn heads(
+    w: &Weights,
+    under: bool,
+    classes: &[Seq<u32>],
+    s: &[Node],
+    t: &[Node],
+    at: usize,
+) -> Cmp
     requires in_s { at < length s.now }
     requires in_t { at < length t.now }
     ensures greater { (result ≡ Cmp.Greater) ↔ IsOver (table_weighing w.now.w0 w.now.table.items) (test_by under classes.now) (above_by under classes.now) (drop at (read_by under classes.now s.now)) (drop at (read_by under classes.now t.now)) }

@@ -1,4 +1,4 @@
-ghost use Rattle.std.specs.Prelude.{IsTrue, ◌≡◌, ◌≤◌, ◌↔◌};
+ghost use Rattle.std.specs.Prelude.{IsTrue, ◌≡◌, ◌<◌, ◌≤◌, ◌↔◌};
 ghost use Rattle.uc_term.specs.Table.{Has};
 ghost use Rattle.uc_order.specs.Members.{Each};
 ghost use Rattle.uc_order.specs.VarOrders.{HasOnly};
@@ -9,7 +9,7 @@ use crate::Kbo;
 use std::alloc::{AllocError, Global};
 use std::test::Fail;
 use uc_order::{Cmp, Order, OrderFault, VarOrder, class_of};
-use uc_term::{Node, Seq, Sym, Symbols, Term, TermFault};
+use uc_term::{Node, Pos, Seq, Sym, Symbols, Term, TermFault};
 
 const E: Sym = Sym(0);
 
@@ -323,5 +323,129 @@ fn compares_many_variables(rt: HostRuntime) -> Result<(), Fail> {
     assert!(rt; compared_under(&order, &cases, &s, &less) == Some(Cmp::Greater));
     assert!(rt; compared_under(&order, &cases, &s, &inverse(alloc, 68)?) == Some(Cmp::Greater));
     assert!(rt; compared_under(&order, &cases, &less, &inverse(alloc, 69)?) == Some(Cmp::Unknown));
+    Ok(())
+}
+
+// A comb around the variable 0, that goes on by its first or by its last argument: beside what it goes on by, each level
+// has the next of the variables.
+fn comb(alloc: Global, variables: &[u32], last: bool) -> Result<Term, TermFault> {
+    let mut term = Term::var(alloc, 0)?;
+    for x in variables {
+        let beside = Term::var(alloc, *x)?;
+        let args = if last { [beside, term] } else { [term, beside] };
+        term = Term::app(alloc, M, &args)?;
+    }
+    Ok(term)
+}
+
+// Whether two terms compare so in place of a term's subterm, time and again.
+fn compare_at(
+    alloc: Global,
+    order: &Kbo,
+    around: &Term,
+    at: Pos,
+    sides: (&Term, &Term),
+    want: Cmp,
+) -> Result<bool, TermFault> {
+    let s = around.put(alloc, at, sides.0)?;
+    let t = around.put(alloc, at, sides.1)?;
+    for _ in 0..5 {
+        if order.compare(s.as_nodes(), t.as_nodes()) != want {
+            return Ok(false);
+        }
+    }
+    Ok(true)
+}
+
+// The same of the two terms before each verdict.
+fn holds_at(
+    alloc: Global,
+    order: &Kbo,
+    around: &Term,
+    at: Pos,
+    rows: &[u8],
+) -> Result<bool, TermFault> {
+    let mut stack: Vec<Term> = Vec::new(alloc);
+    for letter in rows {
+        if let Some(want) = verdict(*letter) {
+            let t = pop(alloc, &mut stack)?;
+            let s = pop(alloc, &mut stack)?;
+            if !compare_at(alloc, order, around, at, (&s, &t), want)? {
+                return Ok(false);
+            }
+        } else {
+            let t = one(alloc, *letter, &mut stack)?;
+            stack.push(t)?;
+        }
+    }
+    Ok(true)
+}
+
+// The same in the deep ends of both combs.
+fn holds_within(
+    alloc: Global,
+    order: &Kbo,
+    variables: &[u32],
+    rows: &[u8],
+) -> Result<bool, TermFault> {
+    let levels = u32::try_from(variables.len()).unwrap_or(0);
+    let left = comb(alloc, variables, false)?;
+    let right = comb(alloc, variables, true)?;
+    Ok(
+        holds_at(alloc, order, &left, Pos(levels), rows)?
+            && holds_at(alloc, order, &right, Pos(levels.saturating_mul(2)), rows)?,
+    )
+}
+
+// So many numbers, from 0 on and after each `period` of them from 0 again.
+fn numbers(alloc: Global, count: u32, period: u32) -> Result<Vec<u32>, AllocError>
+    requires { 0 < period }
+{
+    let mut numbers = Vec::new(alloc);
+    for k in 0..count {
+        numbers.push(k % period)?;
+    }
+    Ok(numbers)
+}
+
+// The heads decide, then the weights; variables that differ, or that one side lacks, below or in the whole; and the last
+// rows weigh the same in the whole, where a lighter part has a variable that the heavier one lacks, or has too.
+const WITHIN: &[u8] = b"aiei>eiai<aa=aamei>eiaam<XY?aamYi?YXmYYm?aamYmYieim?aYmemYieim>YieimaYmem<";
+
+// Each level has a variable of its own, or one of 700; counting them anew at each level would take minutes.
+#[test]
+fn compares_combs_of_many_variables(rt: HostRuntime) -> Result<(), Fail> {
+    let alloc = rt.alloc();
+    let order = order(alloc, 1, &[1; 5], &BY_ARITY)?;
+    let single = numbers(alloc, 2000, 2000)?;
+    assert!(rt; holds_within(alloc, &order, &single, WITHIN)?);
+    let repeated = numbers(alloc, 1500, 700)?;
+    assert!(rt; holds_within(alloc, &order, &repeated, WITHIN)?);
+    Ok(())
+}
+
+// Variables on both sides of where the counters end.
+const FAR: [u32; 8] = [63, 64, 4095, 4096, 8191, 8192, 16384, u32::MAX];
+
+const ABSENT: [u32; 8] = [62, 65, 4094, 4097, 8190, 8193, 16383, u32::MAX - 1];
+
+// A term with each of the variables once has them all, but none twice, and no others.
+#[test]
+fn compares_far_variables(rt: HostRuntime) -> Result<(), Fail> {
+    let alloc = rt.alloc();
+    let order = order(alloc, 1, &[1; 5], &BY_ARITY)?;
+    assert!(rt; holds_within(alloc, &order, &FAR, WITHIN)?);
+    let all = comb(alloc, &FAR, false)?;
+    for x in FAR {
+        let less = inverse(alloc, x)?;
+        assert!(rt; order.compare(all.as_nodes(), less.as_nodes()) == Cmp::Greater);
+        assert!(rt; order.compare(less.as_nodes(), all.as_nodes()) == Cmp::Less);
+        assert!(rt;
+            order.compare(all.as_nodes(), product(alloc, x, x)?.as_nodes()) == Cmp::Unknown
+        );
+    }
+    for x in ABSENT {
+        assert!(rt; order.compare(all.as_nodes(), inverse(alloc, x)?.as_nodes()) == Cmp::Unknown);
+    }
     Ok(())
 }
