@@ -1,10 +1,11 @@
 -- Balances of runs that grow.
-use Rattle.std.proofs.Common.{◌≡◌, ◌≢◌, ◌↔◌, ℕ, zero, suc, ◌+◌, ◌-◌, ◌<◌, ◌≤◌, ◌==◌, List, [], ◌∷◌, length, take, drop, get_or, slice_index, refl, sym, ap, ◌∙◌, subst, arith, sum_by, count_by, cond, ◌⊎◌, inl, inr, Bool, true, false, nat_lt, replicate, set}
+use Rattle.std.proofs.Common.{◌≡◌, ◌≢◌, ◌↔◌, ℕ, zero, suc, ◌+◌, ◌-◌, ◌<◌, ◌≤◌, ◌==◌, List, [], ◌∷◌, length, take, drop, get_or, slice_index, refl, sym, ap, ◌∙◌, subst, arith, sum_by, count_by, cond, ◌⊎◌, inl, inr, Bool, true, false, nat_lt, replicate, if◌then◌else◌}
 use Rattle.std.proofs.lemmas.List.{length-replicate, get_or-replicate, length-take-le}
-use Rattle.std.proofs.lemmas.List.Sums.{sum_by-cons}
+use Rattle.std.proofs.lemmas.List.Sums.{sum_by-cons, sum_by-take-le}
 use Rattle.std.proofs.lemmas.List.Folds.{sum_by-replicate}
 use Rattle.std.proofs.lemmas.Bool.Decides.{nat_tests}
 use Rattle.uc_term.specs.declared.node.Node.{Node}
+use Rattle.uc_term.specs.declared.node.Node.TheVariants.{Var, App}
 use Rattle.uc_term.specs.Flat.{tree_of}
 use Rattle.uc_term.proofs.Terms.{take_of_length-le}
 use Rattle.uc_order.specs.declared.order.Cmp.{Cmp}
@@ -13,9 +14,16 @@ use Rattle.uc_kbo.specs.declared.run.Run.{Run}
 use Rattle.uc_kbo.specs.declared.balance.Balance.{Balance}
 use Rattle.uc_kbo.specs.Kbo.{Weighing, is_it, None}
 use Rattle.uc_kbo.specs.Runs.{IsRun, IsVerdict, HasAll, part, is_counted, test_by, above_by, slot_by, read_by}
-use Rattle.uc_kbo.specs.Balances.{has_fewer, has_more, IsTallied, IsBalance}
-use Rattle.uc_kbo.proofs.Parts.{sum_join, length-part, count_small, none_step}
+use Rattle.uc_kbo.specs.Balances.{has_fewer, has_more, has_counter, is_asked, AsksFor, IsTallied, IsBalance}
+use Rattle.uc_kbo.proofs.Parts.{sum_join, length-part, count_small}
 use Rattle.uc_kbo.proofs.Covering.{read_plain, count_step}
+
+-- how often a variable is among nodes
+abbrev times : ℕ → List Node → ℕ
+times k ns = count_by (is_counted (is_it k)) ns
+
+same_times : (j k : ℕ) (ns : List Node) → j ≡ k → times j ns ≡ times k ns
+same_times j k ns e = ap (λ m. count_by (is_counted (is_it m)) ns) e
 
 -- a count of numbers is 0 exactly where none passes
 one_counted : (p : ℕ → Bool) (x : ℕ) → p x ≡ true → cond {A = ℕ} (p x) 1 0 ≡ 1
@@ -48,38 +56,85 @@ not_more c h = grind (arith, nat_tests)
 either : (a b : ℕ) → (a < b) ⊎ (b ≤ a)
 either a b = grind arith
 
--- what the two counts say, where each variable has a counter
-module _ (ns ms : List Node) (r : Balance) (b : IsBalance ns ms r) where
-  count_of : (Node → Bool) → List Node → ℕ
-  count_of p l = count_by p l
+both_cases : (b : Bool) → (b ≡ true) ⊎ (b ≡ false)
+both_cases true = inl refl
+both_cases false = inr refl
 
-  first_at : (k : ℕ) → r.fewer ≡ 0 → (k < 8192) → (slice_index r.counts k < 2147483648) ⊎ (2147483648 ≤ slice_index r.counts k) → count_by (is_counted (is_it k)) ms ≤ count_by (is_counted (is_it k)) ns
-  first_at k z h (inl l) = absurd (none_passes has_fewer r.counts k (sym b.tallied.fewer ∙ z) (omega (arith, h, b.tallied.size)) (fewer_of (slice_index r.counts k) l))
-  first_at k z h (inr g) = omega (arith, g, b.counts k h)
+-- which variables are counted
+counter_from : (base k : ℕ) → has_counter base k ≡ true → base ≤ k
+counter_from base k h = grind (arith, nat_tests)
 
-  second_at : (k : ℕ) → r.more ≡ 0 → (k < 8192) → (2147483648 < slice_index r.counts k) ⊎ (slice_index r.counts k ≤ 2147483648) → count_by (is_counted (is_it k)) ns ≤ count_by (is_counted (is_it k)) ms
-  second_at k z h (inl l) = absurd (none_passes has_more r.counts k (sym b.tallied.more ∙ z) (omega (arith, h, b.tallied.size)) (more_of (slice_index r.counts k) l))
-  second_at k z h (inr g) = omega (arith, g, b.counts k h)
+counter_to : (base k : ℕ) → has_counter base k ≡ true → k < base + 8192
+counter_to base k h = grind (arith, nat_tests)
 
-  first_one : (k : ℕ) → r.has_large ≡ false → r.fewer ≡ 0 → (k < 8192) ⊎ (8192 ≤ k) → count_by (is_counted (is_it k)) ms ≤ count_by (is_counted (is_it k)) ns
-  first_one k l z (inl h) = first_at k z h (either (slice_index r.counts k) 2147483648)
-  first_one k l z (inr g) = omega (arith, b.second_small l k g)
+counter_of : (base i : ℕ) → i < 8192 → has_counter base (base + i) ≡ true
+counter_of base i h = grind (arith, nat_tests)
 
-  second_one : (k : ℕ) → r.has_large ≡ false → r.more ≡ 0 → (k < 8192) ⊎ (8192 ≤ k) → count_by (is_counted (is_it k)) ns ≤ count_by (is_counted (is_it k)) ms
-  second_one k l z (inl h) = second_at k z h (either 2147483648 (slice_index r.counts k))
-  second_one k l z (inr g) = omega (arith, b.first_small l k g)
+no_variable : (ns : List Node) → count_by (is_counted (λ x. false)) ns ≡ 0
+no_variable [] = refl
+no_variable (Var x ∷ ns) = omega (arith, no_variable ns, sum_by-cons (λ m. cond {A = ℕ} (is_counted (λ x. false) m) 1 0) (Var x) ns)
+no_variable (App f n ∷ ns) = omega (arith, no_variable ns, sum_by-cons (λ m. cond {A = ℕ} (is_counted (λ x. false) m) 1 0) (App f n) ns)
 
-  first_none : HasAll is_it ns ms → r.fewer ≡ 0
-  first_none h = b.tallied.fewer ∙ none_counted has_fewer r.counts (λ i l. not_fewer (slice_index r.counts i) (let k : i < 8192 = omega (arith, l, b.tallied.size) in omega (arith, b.counts i k, h i)))
+asked_yes : (asked : ℕ → Bool) (k : ℕ) (ns : List Node) → asked k ≡ true → count_by (is_counted (is_asked asked k)) ns ≡ times k ns
+asked_yes asked k ns e = ap (λ b. count_by (is_counted (λ x. if b then x == k else false)) ns) e
 
-  second_none : HasAll is_it ms ns → r.more ≡ 0
-  second_none h = b.tallied.more ∙ none_counted has_more r.counts (λ i l. not_more (slice_index r.counts i) (let k : i < 8192 = omega (arith, l, b.tallied.size) in omega (arith, b.counts i k, h i)))
+asked_no : (asked : ℕ → Bool) (k : ℕ) (ns : List Node) → asked k ≡ false → count_by (is_counted (is_asked asked k)) ns ≡ 0
+asked_no asked k ns e = ap (λ b. count_by (is_counted (λ x. if b then x == k else false)) ns) e ∙ no_variable ns
 
-  pub first_covers : r.has_large ≡ false → (r.fewer ≡ 0) ↔ HasAll is_it ns ms
-  first_covers l = (λ z k. first_one k l z (either k 8192), first_none)
+-- what the two counts say of the variables that are asked for
+module _ (ns ms : List Node) (r : Balance) (b : IsBalance ns ms r) (asked : ℕ → Bool) (fits : AsksFor (has_counter r.base) asked ns ms) where
+  counter_at : (k : ℕ) → r.base ≤ k → k < r.base + 8192 → slice_index r.counts (k - r.base) + times k ms ≡ 2147483648 + times k ns
+  counter_at k h l =
+      let e : r.base + (k - r.base) ≡ k = omega arith in
+      omega (arith, b.counts (k - r.base) (omega arith), same_times (r.base + (k - r.base)) k ns e, same_times (r.base + (k - r.base)) k ms e)
 
-  pub second_covers : r.has_large ≡ false → (r.more ≡ 0) ↔ HasAll is_it ms ns
-  second_covers l = (λ z k. second_one k l z (either k 8192), second_none)
+  first_at : (k : ℕ) → r.base ≤ k → k < r.base + 8192 → r.fewer ≡ 0 → (slice_index r.counts (k - r.base) < 2147483648) ⊎ (2147483648 ≤ slice_index r.counts (k - r.base)) → times k ms ≤ times k ns
+  first_at k h m z (inl l) = absurd (none_passes has_fewer r.counts (k - r.base) (sym b.tallied.fewer ∙ z) (omega (arith, b.tallied.size)) (fewer_of (slice_index r.counts (k - r.base)) l))
+  first_at k h m z (inr g) = omega (arith, g, counter_at k h m)
+
+  second_at : (k : ℕ) → r.base ≤ k → k < r.base + 8192 → r.more ≡ 0 → (2147483648 < slice_index r.counts (k - r.base)) ⊎ (slice_index r.counts (k - r.base) ≤ 2147483648) → times k ns ≤ times k ms
+  second_at k h m z (inl l) = absurd (none_passes has_more r.counts (k - r.base) (sym b.tallied.more ∙ z) (omega (arith, b.tallied.size)) (more_of (slice_index r.counts (k - r.base)) l))
+  second_at k h m z (inr g) = omega (arith, g, counter_at k h m)
+
+  first_met : (k : ℕ) → asked k ≡ true → r.fewer ≡ 0 → (0 < times k ns + times k ms) ⊎ (times k ns + times k ms ≤ 0) → times k ms ≤ times k ns
+  first_met k e z (inl h) = let c = sym (fits k h) ∙ e in first_at k (counter_from r.base k c) (counter_to r.base k c) z (either (slice_index r.counts (k - r.base)) 2147483648)
+  first_met k e z (inr h) = omega (arith, h)
+
+  second_met : (k : ℕ) → asked k ≡ true → r.more ≡ 0 → (0 < times k ns + times k ms) ⊎ (times k ns + times k ms ≤ 0) → times k ns ≤ times k ms
+  second_met k e z (inl h) = let c = sym (fits k h) ∙ e in second_at k (counter_from r.base k c) (counter_to r.base k c) z (either 2147483648 (slice_index r.counts (k - r.base)))
+  second_met k e z (inr h) = omega (arith, h)
+
+  first_all : r.fewer ≡ 0 → HasAll (is_asked asked) ns ms
+  first_all z k = elim (both_cases (asked k)) [
+    | inl e ↦ omega (arith, first_met k e z (either 0 (times k ns + times k ms)), asked_yes asked k ns e, asked_yes asked k ms e)
+    | inr e ↦ omega (arith, asked_no asked k ms e)
+  ]
+
+  second_all : r.more ≡ 0 → HasAll (is_asked asked) ms ns
+  second_all z k = elim (both_cases (asked k)) [
+    | inl e ↦ omega (arith, second_met k e z (either 0 (times k ns + times k ms)), asked_yes asked k ns e, asked_yes asked k ms e)
+    | inr e ↦ omega (arith, asked_no asked k ns e)
+  ]
+
+  first_has : (i : ℕ) → i < 8192 → HasAll (is_asked asked) ns ms → (0 < times (r.base + i) ns + times (r.base + i) ms) ⊎ (times (r.base + i) ns + times (r.base + i) ms ≤ 0) → times (r.base + i) ms ≤ times (r.base + i) ns
+  first_has i l h (inl m) = let e = fits (r.base + i) m ∙ counter_of r.base i l in omega (arith, h (r.base + i), asked_yes asked (r.base + i) ns e, asked_yes asked (r.base + i) ms e)
+  first_has i l h (inr m) = omega (arith, m)
+
+  second_has : (i : ℕ) → i < 8192 → HasAll (is_asked asked) ms ns → (0 < times (r.base + i) ns + times (r.base + i) ms) ⊎ (times (r.base + i) ns + times (r.base + i) ms ≤ 0) → times (r.base + i) ns ≤ times (r.base + i) ms
+  second_has i l h (inl m) = let e = fits (r.base + i) m ∙ counter_of r.base i l in omega (arith, h (r.base + i), asked_yes asked (r.base + i) ns e, asked_yes asked (r.base + i) ms e)
+  second_has i l h (inr m) = omega (arith, m)
+
+  first_none : HasAll (is_asked asked) ns ms → r.fewer ≡ 0
+  first_none h = b.tallied.fewer ∙ none_counted has_fewer r.counts (λ i l. not_fewer (slice_index r.counts i) (let k : i < 8192 = omega (arith, l, b.tallied.size) in omega (arith, b.counts i k, first_has i k h (either 0 (times (r.base + i) ns + times (r.base + i) ms)))))
+
+  second_none : HasAll (is_asked asked) ms ns → r.more ≡ 0
+  second_none h = b.tallied.more ∙ none_counted has_more r.counts (λ i l. not_more (slice_index r.counts i) (let k : i < 8192 = omega (arith, l, b.tallied.size) in omega (arith, b.counts i k, second_has i k h (either 0 (times (r.base + i) ns + times (r.base + i) ms)))))
+
+  pub first_covers : (r.fewer ≡ 0) ↔ HasAll (is_asked asked) ns ms
+  first_covers = (first_all, first_none)
+
+  pub second_covers : (r.more ≡ 0) ↔ HasAll (is_asked asked) ms ns
+  second_covers = (second_all, second_none)
 
 -- all counters are even at first
 even_fewer : count_by has_fewer (replicate 8192 2147483648) ≡ 0
@@ -96,97 +151,107 @@ balance_new r c f m = record {
     more = m ∙ sym (ap (count_by has_more) c ∙ even_more);
   };
   counts = λ i h. (let e : slice_index r.counts i ≡ 2147483648 = ap (λ l. slice_index l i) c ∙ get_or-replicate {A = ℕ} 8192 i 2147483648 0 h in omega (arith, e));
-  first_small = λ l i h. refl;
-  second_small = λ l i h. refl;
 }
 
 -- i nodes are counted
 pub record Gained (old : Balance) (ns : List Node) (i : ℕ) (r : Balance) : Type 0 where
   pub tallied : IsTallied r
-  pub counts : (x : ℕ) → x < 8192 → slice_index r.counts x ≡ slice_index old.counts x + count_by (is_counted (is_it x)) (take i ns)
-  pub large : r.has_large ≡ false → (old.has_large ≡ false) × ((x : ℕ) → 8192 ≤ x → count_by (is_counted (is_it x)) (take i ns) ≡ 0)
+  pub base : r.base ≡ old.base
+  pub counts : (x : ℕ) → x < 8192 → slice_index r.counts x ≡ slice_index old.counts x + count_by (is_counted (is_it (old.base + x))) (take i ns)
 
 pub record Lost (old : Balance) (ns : List Node) (i : ℕ) (r : Balance) : Type 0 where
   pub tallied : IsTallied r
-  pub counts : (x : ℕ) → x < 8192 → slice_index old.counts x ≡ slice_index r.counts x + count_by (is_counted (is_it x)) (take i ns)
-  pub large : r.has_large ≡ false → (old.has_large ≡ false) × ((x : ℕ) → 8192 ≤ x → count_by (is_counted (is_it x)) (take i ns) ≡ 0)
+  pub base : r.base ≡ old.base
+  pub counts : (x : ℕ) → x < 8192 → slice_index old.counts x ≡ slice_index r.counts x + count_by (is_counted (is_it (old.base + x))) (take i ns)
 
-taken_small : (x i : ℕ) (ns : List Node) → i ≤ length ns → count_by (is_counted (is_it x)) (take i ns) ≤ i
+taken_small : (x i : ℕ) (ns : List Node) → i ≤ length ns → times x (take i ns) ≤ i
 taken_small x i ns h = omega (arith, count_small (is_counted (is_it x)) (take i ns), length-take-le i ns h)
 
-taken_one : (p : Node → Bool) (ns : List Node) (i : ℕ) (d n : Node) → i < length ns → n ≡ get_or ns i d → count_by p (take (i + 1) ns) ≡ count_by p (take i ns) + cond {A = ℕ} (p n) 1 0
-taken_one p ns i d n h e = count_step p ns i d h ∙ ap (λ m. count_by p (take i ns) + cond {A = ℕ} (p m) 1 0) (sym e)
-
-large_more : (old r r' : Balance) (ns : List Node) (i : ℕ) (d n : Node) → i < length ns → n ≡ get_or ns i d → (r.has_large ≡ false → (old.has_large ≡ false) × ((x : ℕ) → 8192 ≤ x → count_by (is_counted (is_it x)) (take i ns) ≡ 0)) → (r'.has_large ≡ false → (r.has_large ≡ false) × ((x : ℕ) → 8192 ≤ x → is_counted (is_it x) n ≡ false)) → r'.has_large ≡ false → (old.has_large ≡ false) × ((x : ℕ) → 8192 ≤ x → count_by (is_counted (is_it x)) (take (i + 1) ns) ≡ 0)
-large_more old r r' ns i d n h e f g l =
-    let a = g l in
-    let b = f a.0 in
-    (b.0, λ x k. none_step (is_counted (is_it x)) ns i d h (ap (is_counted (is_it x)) (sym e) ∙ a.1 x k) (b.1 x k))
+taken_one : (j k : ℕ) (ns : List Node) (i : ℕ) (d n : Node) → i < length ns → n ≡ get_or ns i d → j ≡ k → times k (take (i + 1) ns) ≡ times k (take i ns) + cond {A = ℕ} (is_counted (is_it j) n) 1 0
+taken_one j k ns i d n h e q =
+    count_step (is_counted (is_it k)) ns i d h
+    ∙ ap (λ m. times k (take i ns) + cond {A = ℕ} (is_counted (is_it k) m) 1 0) (sym e)
+    ∙ ap (λ m. times k (take i ns) + cond {A = ℕ} (is_counted (is_it m) n) 1 0) (sym q)
 
 module _ (old : Balance) (ns : List Node) where
   pub gained_init : IsTallied old → Gained old ns 0 old
-  gained_init t = record { tallied = t; counts = λ x h. omega arith; large = λ l. (l, λ x h. refl) }
+  gained_init t = record { tallied = t; base = refl; counts = λ x h. omega arith }
 
   pub lost_init : IsTallied old → Lost old ns 0 old
-  lost_init t = record { tallied = t; counts = λ x h. omega arith; large = λ l. (l, λ x h. refl) }
+  lost_init t = record { tallied = t; base = refl; counts = λ x h. omega arith }
 
   module _ (i : ℕ) (r : Balance) (more : i < length ns) where
     pub gained_room : Gained old ns i r → ((x : ℕ) → x < 8192 → slice_index old.counts x + length ns < 4294967296) → (x : ℕ) → x < 8192 → slice_index r.counts x + 1 < 4294967296
-    gained_room g room x h = omega (arith, g.counts x h, room x h, taken_small x i ns (omega arith))
+    gained_room g room x h = omega (arith, g.counts x h, room x h, taken_small (old.base + x) i ns (omega arith))
 
     pub lost_room : Lost old ns i r → ((x : ℕ) → x < 8192 → length ns ≤ slice_index old.counts x) → (x : ℕ) → x < 8192 → 0 < slice_index r.counts x
-    lost_room g room x h = omega (arith, g.counts x h, room x h, taken_small x i ns (omega arith))
+    lost_room g room x h = omega (arith, g.counts x h, room x h, taken_small (old.base + x) i ns (omega arith))
 
-    pub gained_more : (r' : Balance) (d n : Node) → n ≡ get_or ns i d → IsTallied r' → ((x : ℕ) → x < 8192 → slice_index r'.counts x ≡ slice_index r.counts x + cond (is_counted (is_it x) n) 1 0) → (r'.has_large ≡ false → (r.has_large ≡ false) × ((x : ℕ) → 8192 ≤ x → is_counted (is_it x) n ≡ false)) → Gained old ns i r → Gained old ns (i + 1) r'
-    gained_more r' d n e t c l g = record {
+    base_at : (x : ℕ) → r.base ≡ old.base → r.base + x ≡ old.base + x
+    base_at x e = ap (λ m. m + x) e
+
+    pub gained_more : (r' : Balance) (d n : Node) → n ≡ get_or ns i d → IsTallied r' → r'.base ≡ r.base → ((x : ℕ) → x < 8192 → slice_index r'.counts x ≡ slice_index r.counts x + cond (is_counted (is_it (r.base + x)) n) 1 0) → Gained old ns i r → Gained old ns (i + 1) r'
+    gained_more r' d n e t b c g = record {
       tallied = t;
-      counts = λ x h. omega (arith, c x h, g.counts x h, taken_one (is_counted (is_it x)) ns i d n more e);
-      large = large_more old r r' ns i d n more e g.large l;
+      base = b ∙ g.base;
+      counts = λ x h. omega (arith, c x h, g.counts x h, taken_one (r.base + x) (old.base + x) ns i d n more e (base_at x g.base));
     }
 
-    pub lost_more : (r' : Balance) (d n : Node) → n ≡ get_or ns i d → IsTallied r' → ((x : ℕ) → x < 8192 → slice_index r.counts x ≡ slice_index r'.counts x + cond (is_counted (is_it x) n) 1 0) → (r'.has_large ≡ false → (r.has_large ≡ false) × ((x : ℕ) → 8192 ≤ x → is_counted (is_it x) n ≡ false)) → Lost old ns i r → Lost old ns (i + 1) r'
-    lost_more r' d n e t c l g = record {
+    pub lost_more : (r' : Balance) (d n : Node) → n ≡ get_or ns i d → IsTallied r' → r'.base ≡ r.base → ((x : ℕ) → x < 8192 → slice_index r.counts x ≡ slice_index r'.counts x + cond (is_counted (is_it (r.base + x)) n) 1 0) → Lost old ns i r → Lost old ns (i + 1) r'
+    lost_more r' d n e t b c g = record {
       tallied = t;
-      counts = λ x h. omega (arith, c x h, g.counts x h, taken_one (is_counted (is_it x)) ns i d n more e);
-      large = large_more old r r' ns i d n more e g.large l;
+      base = b ∙ g.base;
+      counts = λ x h. omega (arith, c x h, g.counts x h, taken_one (r.base + x) (old.base + x) ns i d n more e (base_at x g.base));
     }
 
   module _ (i : ℕ) (r : Balance) (most : length ns ≤ i) where
     all_taken : take i ns ≡ ns
     all_taken = take_of_length-le ns i most
 
-    pub gained_counts : Gained old ns i r → (x : ℕ) → x < 8192 → slice_index r.counts x ≡ slice_index old.counts x + count_by (is_counted (is_it x)) ns
-    gained_counts g x h = g.counts x h ∙ ap (λ l. slice_index old.counts x + count_by (is_counted (is_it x)) l) all_taken
+    pub gained_counts : Gained old ns i r → (x : ℕ) → x < 8192 → slice_index r.counts x ≡ slice_index old.counts x + count_by (is_counted (is_it (old.base + x))) ns
+    gained_counts g x h = g.counts x h ∙ ap (λ l. slice_index old.counts x + times (old.base + x) l) all_taken
 
-    pub lost_counts : Lost old ns i r → (x : ℕ) → x < 8192 → slice_index old.counts x ≡ slice_index r.counts x + count_by (is_counted (is_it x)) ns
-    lost_counts g x h = g.counts x h ∙ ap (λ l. slice_index r.counts x + count_by (is_counted (is_it x)) l) all_taken
-
-    pub all_small : (r.has_large ≡ false → (old.has_large ≡ false) × ((x : ℕ) → 8192 ≤ x → count_by (is_counted (is_it x)) (take i ns) ≡ 0)) → r.has_large ≡ false → (old.has_large ≡ false) × ((x : ℕ) → 8192 ≤ x → count_by (is_counted (is_it x)) ns ≡ 0)
-    all_small f l = ((f l).0, λ x h. ap (count_by (is_counted (is_it x))) (sym all_taken) ∙ (f l).1 x h)
+    pub lost_counts : Lost old ns i r → (x : ℕ) → x < 8192 → slice_index old.counts x ≡ slice_index r.counts x + count_by (is_counted (is_it (old.base + x))) ns
+    lost_counts g x h = g.counts x h ∙ ap (λ l. slice_index r.counts x + times (old.base + x) l) all_taken
 
 -- both runs grow
-room_first : (ns ms xs : List Node) (b : Balance) → IsBalance ns ms b → length ns + length xs ≤ 16777216 → (i : ℕ) → i < 8192 → slice_index b.counts i + length xs < 4294967296
-room_first ns ms xs b h l i k = omega (arith, h.counts i k, count_small (is_counted (is_it i)) ns)
+module _ (s t : List Node) (p q q' u v v' : ℕ) (b b' b'' : Balance) (h : p ≤ q) (k : q ≤ q') (l : u ≤ v) (m : v ≤ v') (old : IsBalance (part s p q) (part t u v) b) (gb : b'.base ≡ b.base) (gc : (i : ℕ) → i < 8192 → slice_index b'.counts i ≡ slice_index b.counts i + count_by (is_counted (is_it (b.base + i))) (part s q q')) where
+  all_s : (x : ℕ) → times x (part s p q') ≡ times x (part s p q) + times x (part s q q')
+  all_s x = sum_join (λ n. cond (is_counted (is_it x) n) 1 0) s p q q' h k
 
-pub room_gain : (w : Weighing) (s ms : List Node) (a : Run) (b : Balance) (end : ℕ) → IsRun w (λ x. x) s a → IsBalance (part s a.from a.to) ms b → a.to ≤ end → end ≤ length s → length s ≤ 16777216 → (i : ℕ) → i < 8192 → slice_index b.counts i + length (part s a.to end) < 4294967296
-room_gain w s ms a b end r h l k m = room_first (part s a.from a.to) ms (part s a.to end) b h (omega (arith, length-part s a.from a.to r.ordered r.within, length-part s a.to end l k, r.ordered))
+  all_t : (x : ℕ) → times x (part t u v') ≡ times x (part t u v) + times x (part t v v')
+  all_t x = sum_join (λ n. cond (is_counted (is_it x) n) 1 0) t u v v' l m
 
-pub room_lose : (w : Weighing) (ns xs t : List Node) (a : Run) (b b' : Balance) (end : ℕ) → IsRun w (λ x. x) t a → IsBalance ns (part t a.from a.to) b → ((i : ℕ) → i < 8192 → slice_index b'.counts i ≡ slice_index b.counts i + count_by (is_counted (is_it i)) xs) → a.to ≤ end → end ≤ length t → length t ≤ 16777216 → (i : ℕ) → i < 8192 → length (part t a.to end) ≤ slice_index b'.counts i
-room_lose w ns xs t a b b' end r h g l k m i j = omega (arith, h.counts i j, g i j, count_small (is_counted (is_it i)) (part t a.from a.to), length-part t a.from a.to r.ordered r.within, length-part t a.to end l k, r.ordered)
+  pub balance_more : IsTallied b'' → b''.base ≡ b'.base → ((i : ℕ) → i < 8192 → slice_index b'.counts i ≡ slice_index b''.counts i + count_by (is_counted (is_it (b'.base + i))) (part t v v')) → IsBalance (part s p q') (part t u v') b''
+  balance_more tallied lb lc = record {
+    tallied = tallied;
+    counts = λ i j.
+        let e : b'.base + i ≡ b.base + i = ap (λ n. n + i) gb in
+        let f : b''.base + i ≡ b.base + i = ap (λ n. n + i) (lb ∙ gb) in
+        omega (arith, old.counts i j, gc i j, lc i j, all_s (b.base + i), all_t (b.base + i), same_times (b'.base + i) (b.base + i) (part t v v') e, same_times (b''.base + i) (b.base + i) (part s p q') f, same_times (b''.base + i) (b.base + i) (part t u v') f);
+  }
 
-pub balance_more : (s t : List Node) (p q q' u v v' : ℕ) (b b' b'' : Balance) → p ≤ q → q ≤ q' → u ≤ v → v ≤ v' → IsBalance (part s p q) (part t u v) b → ((i : ℕ) → i < 8192 → slice_index b'.counts i ≡ slice_index b.counts i + count_by (is_counted (is_it i)) (part s q q')) → (b'.has_large ≡ false → (b.has_large ≡ false) × ((i : ℕ) → 8192 ≤ i → count_by (is_counted (is_it i)) (part s q q') ≡ 0)) → IsTallied b'' → ((i : ℕ) → i < 8192 → slice_index b'.counts i ≡ slice_index b''.counts i + count_by (is_counted (is_it i)) (part t v v')) → (b''.has_large ≡ false → (b'.has_large ≡ false) × ((i : ℕ) → 8192 ≤ i → count_by (is_counted (is_it i)) (part t v v') ≡ 0)) → IsBalance (part s p q') (part t u v') b''
-balance_more s t p q q' u v v' b b' b'' h k l m old gc gl tallied lc ll = record {
-  tallied = tallied;
-  counts = λ i j. omega (arith, old.counts i j, gc i j, lc i j, all_s i, all_t i);
-  first_small = λ e i j. (let x = ll e in let y = gl x.0 in omega (arith, old.first_small y.0 i j, y.1 i j, all_s i));
-  second_small = λ e i j. (let x = ll e in let y = gl x.0 in omega (arith, old.second_small y.0 i j, x.1 i j, all_t i));
-}
-  where
-    all_s : (i : ℕ) → count_by (is_counted (is_it i)) (part s p q') ≡ count_by (is_counted (is_it i)) (part s p q) + count_by (is_counted (is_it i)) (part s q q')
-    all_s i = sum_join (λ n. cond (is_counted (is_it i) n) 1 0) s p q q' h k
+no_part : (p : ℕ) (ns : List Node) → part ns p p ≡ []
+no_part p ns = let e : p - p ≡ 0 = omega arith in ap (λ n. take n (drop p ns)) e
 
-    all_t : (i : ℕ) → count_by (is_counted (is_it i)) (part t u v') ≡ count_by (is_counted (is_it i)) (part t u v) + count_by (is_counted (is_it i)) (part t v v')
-    all_t i = sum_join (λ n. cond (is_counted (is_it i) n) 1 0) t u v v' l m
+pub balance_at : (s t : List Node) (a b : Run) (r : Balance) (p : ℕ) → a.from ≡ p → a.to ≡ p → b.from ≡ p → b.to ≡ p → IsBalance [] [] r → IsBalance (part s a.from a.to) (part t b.from b.to) r
+balance_at s t a b r p fa ta fb tb h =
+    let es : part s a.from a.to ≡ [] = rw (fa, ta) (no_part p s) in
+    let et : part t b.from b.to ≡ [] = rw (fb, tb) (no_part p t) in
+    rw (es, et) h
+
+pub balance_ends : (s t : List Node) (a a' b b' : Run) (r : Balance) (i j : ℕ) → a'.from ≡ a.from → a'.to ≡ i → b'.from ≡ b.from → b'.to ≡ j → IsBalance (part s a.from i) (part t b.from j) r → IsBalance (part s a'.from a'.to) (part t b'.from b'.to) r
+balance_ends s t a a' b b' r i j fa ta fb tb h = rw (fa, ta, fb, tb) h
+
+-- the runs are parts of what comes from the first difference on
+part_small : (x : ℕ) (ns : List Node) (at to : ℕ) → times x (part ns at to) ≤ times x (drop at ns)
+part_small x ns at to = sum_by-take-le (λ m. cond {A = ℕ} (is_counted (is_it x) m) 1 0) (drop at ns) (to - at)
+
+pub asks_parts : (s t : List Node) (at : ℕ) (a b : Run) (base base' : ℕ) (asked : ℕ → Bool) → base' ≡ base → a.from ≡ at → b.from ≡ at → AsksFor (has_counter base) asked (drop at s) (drop at t) → AsksFor (has_counter base') asked (part s a.from a.to) (part t b.from b.to)
+asks_parts s t at a b base base' asked e fa fb f =
+    let P : ℕ → Type 0 = λ n. AsksFor (has_counter n) asked (part s at a.to) (part t at b.to) in
+    let g : AsksFor (has_counter base') asked (part s at a.to) (part t at b.to) = subst P (sym e) (λ k h. f k (omega (arith, h, part_small k s at a.to, part_small k t at b.to))) in
+    rw (fa, fb) g
 
 -- read as they are
 pub to_read : (w : Weighing) (ns : List Node) (r : Run) → IsRun w (λ x. x) ns r → IsRun w (slot_by false []) (read_by false [] ns) r
@@ -202,15 +267,3 @@ pub verdict_read : (w : Weighing) (v : Cmp) (under : Bool) (cs : Classes) (s t :
 verdict_read w v under cs s t e h =
     let P : Bool → Type 0 = λ u. IsVerdict w (test_by u cs) (above_by u cs) v (tree_of (read_by u cs s)) (tree_of (read_by u cs t)) in
     subst P (sym e) (rw (read_plain cs s, read_plain cs t) h)
-
-no_part : (p : ℕ) (ns : List Node) → part ns p p ≡ []
-no_part p ns = let e : p - p ≡ 0 = omega arith in ap (λ n. take n (drop p ns)) e
-
-pub balance_at : (s t : List Node) (a b : Run) (r : Balance) (p : ℕ) → a.from ≡ p → a.to ≡ p → b.from ≡ p → b.to ≡ p → IsBalance [] [] r → IsBalance (part s a.from a.to) (part t b.from b.to) r
-balance_at s t a b r p fa ta fb tb h =
-    let es : part s a.from a.to ≡ [] = rw (fa, ta) (no_part p s) in
-    let et : part t b.from b.to ≡ [] = rw (fb, tb) (no_part p t) in
-    rw (es, et) h
-
-pub balance_ends : (s t : List Node) (a a' b b' : Run) (r : Balance) (i j : ℕ) → a'.from ≡ a.from → a'.to ≡ i → b'.from ≡ b.from → b'.to ≡ j → IsBalance (part s a.from i) (part t b.from j) r → IsBalance (part s a'.from a'.to) (part t b'.from b'.to) r
-balance_ends s t a a' b b' r i j fa ta fb tb h = rw (fa, ta, fb, tb) h

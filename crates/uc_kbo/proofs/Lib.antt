@@ -7,3 +7,4 @@ pub mod Stack
 pub mod Tables
 pub mod Known
 pub mod Balancing
+pub mod Asking

@@ -1,25 +1,24 @@
 //! The balance of two runs: how much more often each variable is in the first than in the second (Löchner, Things to Know
 //! when Implementing KBO, 2006). What it says of them takes no time, however many variables they have.
 
-ghost use Rattle.std.specs.Prelude.{◌≡◌, ◌≢◌, ◌↔◌, ℕ, ◌+◌, ◌<◌, ◌≤◌, ◌^◌, IsTrue, length, slice_index, false, cond, count_by, []};
+ghost use Rattle.std.specs.Prelude.{◌≡◌, ◌≢◌, ℕ, ◌+◌, ◌<◌, ◌≤◌, ◌^◌, length, slice_index, cond, count_by, [], MatchOption, false};
 ghost use Rattle.uc_kbo.specs.Kbo.{is_it};
-ghost use Rattle.uc_kbo.specs.Runs.{HasAll, is_counted};
-ghost use Rattle.uc_kbo.specs.Balances.{has_fewer, has_more, IsTallied, IsBalance};
+ghost use Rattle.uc_kbo.specs.Runs.{is_counted};
+ghost use Rattle.uc_kbo.specs.Balances.{has_fewer, has_more, has_counter, IsTallied, IsBalance};
 
-use crate::covers::has_all_variables;
 use uc_term::Node;
 
 // Where a counter stands whose variable is as often in both runs.
 const EVEN: u32 = 2_147_483_648;
 
-/// A counter for each variable below 8,192, which rises with the first run and falls with the second; how many counters
-/// stand below `EVEN`, and how many above; and whether a greater variable was met, which has no counter.
+/// Counters for 8,192 variables from a base on, which rise with the first run and fall with the second; and how many
+/// counters stand below `EVEN`, and how many above. Other variables aren't counted.
 #[derive(Drop)]
 pub struct Balance {
+    pub base: u32,
     pub counts: [u32; 8192],
     pub fewer: usize,
     pub more: usize,
-    pub has_large: bool,
 }
 
 fn fewer(count: u32) -> usize
@@ -34,16 +33,28 @@ fn more(count: u32) -> usize
     if EVEN < count { 1 } else { 0 }
 }
 
+// The place of a variable's counter, if it has one.
+fn place(base: u32, x: u32) -> Option<usize>
+    ensures { MatchOption result (has_counter base x ≡ false) (λ i. (i < 8192) × (base + i ≡ x)) }
+{
+    if x < base {
+        return None;
+    }
+    let at = (x - base) as usize;
+    if at < 8192 { Some(at) } else { None }
+}
+
 impl Balance {
     // The balance of two empty runs.
-    pub fn new() -> Balance
-        ensures { IsBalance [] [] result }
+    pub fn new(base: u32) -> Balance
+        ensures balance { IsBalance [] [] result }
+        ensures base { result.base ≡ base }
     {
         Balance {
+            base,
             counts: [EVEN; 8192],
             fewer: 0,
             more: 0,
-            has_large: false,
         }
     }
 
@@ -54,7 +65,7 @@ impl Balance {
         ensures tallied { IsTallied self.new }
         ensures here { slice_index self.new.counts at ≡ count }
         ensures others { (i : ℕ) → i ≢ at → slice_index self.new.counts i ≡ slice_index self.old.counts i }
-        ensures large { self.new.has_large ≡ self.old.has_large }
+        ensures base { self.new.base ≡ self.old.base }
     {
         let old: u32 = self.counts[at];
         self.fewer = self.fewer + fewer(count) - fewer(old);
@@ -67,16 +78,13 @@ impl Balance {
         requires tallied { IsTallied self.old }
         requires room { (i : ℕ) → i < 8192 → slice_index self.old.counts i + 1 < 2 ^ 32 }
         ensures tallied { IsTallied self.new }
-        ensures counts { (i : ℕ) → i < 8192 → slice_index self.new.counts i ≡ slice_index self.old.counts i + cond (is_counted (is_it i) node) 1 0 }
-        ensures large { self.new.has_large ≡ false → (self.old.has_large ≡ false) × ((i : ℕ) → 8192 ≤ i → is_counted (is_it i) node ≡ false) }
+        ensures counts { (i : ℕ) → i < 8192 → slice_index self.new.counts i ≡ slice_index self.old.counts i + cond (is_counted (is_it (self.old.base + i)) node) 1 0 }
+        ensures base { self.new.base ≡ self.old.base }
     {
         match node {
             Node::Var(x) => {
-                let at = x as usize;
-                if at < 8192 {
+                if let Some(at) = place(self.base, x) {
                     self.set(at, self.counts[at] + 1);
-                } else {
-                    self.has_large = true;
                 }
             }
             Node::App(_, _) => {}
@@ -88,16 +96,13 @@ impl Balance {
         requires tallied { IsTallied self.old }
         requires room { (i : ℕ) → i < 8192 → 0 < slice_index self.old.counts i }
         ensures tallied { IsTallied self.new }
-        ensures counts { (i : ℕ) → i < 8192 → slice_index self.old.counts i ≡ slice_index self.new.counts i + cond (is_counted (is_it i) node) 1 0 }
-        ensures large { self.new.has_large ≡ false → (self.old.has_large ≡ false) × ((i : ℕ) → 8192 ≤ i → is_counted (is_it i) node ≡ false) }
+        ensures counts { (i : ℕ) → i < 8192 → slice_index self.old.counts i ≡ slice_index self.new.counts i + cond (is_counted (is_it (self.old.base + i)) node) 1 0 }
+        ensures base { self.new.base ≡ self.old.base }
     {
         match node {
             Node::Var(x) => {
-                let at = x as usize;
-                if at < 8192 {
+                if let Some(at) = place(self.base, x) {
                     self.set(at, self.counts[at] - 1);
-                } else {
-                    self.has_large = true;
                 }
             }
             Node::App(_, _) => {}
@@ -109,8 +114,8 @@ impl Balance {
         requires tallied { IsTallied self.old }
         requires room { (i : ℕ) → i < 8192 → slice_index self.old.counts i + length nodes.now < 2 ^ 32 }
         ensures tallied { IsTallied self.new }
-        ensures counts { (i : ℕ) → i < 8192 → slice_index self.new.counts i ≡ slice_index self.old.counts i + count_by (is_counted (is_it i)) nodes.now }
-        ensures large { self.new.has_large ≡ false → (self.old.has_large ≡ false) × ((i : ℕ) → 8192 ≤ i → count_by (is_counted (is_it i)) nodes.now ≡ 0) }
+        ensures counts { (i : ℕ) → i < 8192 → slice_index self.new.counts i ≡ slice_index self.old.counts i + count_by (is_counted (is_it (self.old.base + i))) nodes.now }
+        ensures base { self.new.base ≡ self.old.base }
     {
         for n in nodes {
             self.gain(*n);
@@ -122,35 +127,11 @@ impl Balance {
         requires tallied { IsTallied self.old }
         requires room { (i : ℕ) → i < 8192 → length nodes.now ≤ slice_index self.old.counts i }
         ensures tallied { IsTallied self.new }
-        ensures counts { (i : ℕ) → i < 8192 → slice_index self.old.counts i ≡ slice_index self.new.counts i + count_by (is_counted (is_it i)) nodes.now }
-        ensures large { self.new.has_large ≡ false → (self.old.has_large ≡ false) × ((i : ℕ) → 8192 ≤ i → count_by (is_counted (is_it i)) nodes.now ≡ 0) }
+        ensures counts { (i : ℕ) → i < 8192 → slice_index self.old.counts i ≡ slice_index self.new.counts i + count_by (is_counted (is_it (self.old.base + i))) nodes.now }
+        ensures base { self.new.base ≡ self.old.base }
     {
         for n in nodes {
             self.lose(*n);
-        }
-    }
-
-    // Whether the first run, which has the nodes s, has all variables of the second, which has the nodes t.
-    pub fn first_has_all(&self, s: &[Node], t: &[Node]) -> bool
-        requires { IsBalance s.now t.now self.now }
-        ensures { IsTrue result ↔ HasAll is_it s.now t.now }
-    {
-        if self.has_large {
-            has_all_variables(s, t)
-        } else {
-            self.fewer == 0
-        }
-    }
-
-    // Whether the second run has all variables of the first.
-    pub fn second_has_all(&self, s: &[Node], t: &[Node]) -> bool
-        requires { IsBalance s.now t.now self.now }
-        ensures { IsTrue result ↔ HasAll is_it t.now s.now }
-    {
-        if self.has_large {
-            has_all_variables(t, s)
-        } else {
-            self.more == 0
         }
     }
 }

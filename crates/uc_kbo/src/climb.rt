@@ -11,7 +11,7 @@ ghost use Rattle.uc_kbo.specs.Runs.{IsRun, Beats, IsVerdict, IsOver, IsStack, pa
 use crate::Weights;
 use crate::covers::has_all;
 use crate::run::{Run, read};
-use crate::wide::climb_wide;
+use crate::wide::compare_wide;
 use uc_order::{Cmp, class_number};
 use uc_term::{Node, Seq, end_of};
 
@@ -290,7 +290,7 @@ pub fn compare_by(w: &Weights, under: bool, classes: &[Seq<u32>], s: &[Node], t:
     let mut b = Run::new(at);
     b.extend(w, under, classes, t, t.len());
     if !under && (a.has_large || b.has_large) {
-        return climb_wide(w, s, t, at);
+        return compare_wide(w, s, t, at);
     }
     if a.weight != b.weight {
         decide(w, under, classes, s, t, &a, &b, Cmp::Unknown)

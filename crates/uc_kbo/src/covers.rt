@@ -86,7 +86,7 @@ fn has_all_nodes(under: bool, classes: &[Seq<u32>], s: &[Node], t: &[Node]) -> b
     }
 }
 
-pub fn has_all_variables(s: &[Node], t: &[Node]) -> bool
+fn has_all_variables(s: &[Node], t: &[Node]) -> bool
     ensures { IsTrue result ↔ HasAll is_it s.now t.now }
 {
     for n in t {

@@ -49,20 +49,20 @@ extend-requires-clause-run c = let e = c.new-a.ensures in run_new (table_weighin
 pub extend-requires-2-clause-run : goal.extend-requires-2-clause-run
 extend-requires-2-clause-run c = let e = c.new-b.ensures in run_new (table_weighing c.args.w.now.w0 c.args.w.now.table.items) (slot_by c.args.under c.args.classes.now) (read_by c.args.under c.args.classes.now c.args.t.now) c.first_difference-at.result c.new-b.result (omega (arith, c.first_difference-at.ensures.in_t, (read_long c.args.under c.args.classes.now c.args.t.now))) e.from e.to e.weight e.counts e.large
 
-pub climb_wide-requires-clause-common : goal.climb_wide-requires-clause-common
-climb_wide-requires-clause-common c = rw (read_as_is c.args.under c.args.classes.now c.args.s.now c.if-not-under.true, read_as_is c.args.under c.args.classes.now c.args.t.now c.if-not-under.true) at c.first_difference-at.ensures.common
+pub compare_wide-requires-clause-common : goal.compare_wide-requires-clause-common
+compare_wide-requires-clause-common c = rw (read_as_is c.args.under c.args.classes.now c.args.s.now c.if-not-under.true, read_as_is c.args.under c.args.classes.now c.args.t.now c.if-not-under.true) at c.first_difference-at.ensures.common
 
-pub climb_wide-requires-clause-differ : goal.climb_wide-requires-clause-differ
-climb_wide-requires-clause-differ c d = rw (read_as_is c.args.under c.args.classes.now c.args.s.now c.if-not-under.true, read_as_is c.args.under c.args.classes.now c.args.t.now c.if-not-under.true) at (c.first_difference-at.ensures.differ (omega arith) (omega arith) d)
+pub compare_wide-requires-clause-differ : goal.compare_wide-requires-clause-differ
+compare_wide-requires-clause-differ c d = rw (read_as_is c.args.under c.args.classes.now c.args.s.now c.if-not-under.true, read_as_is c.args.under c.args.classes.now c.args.t.now c.if-not-under.true) at (c.first_difference-at.ensures.differ (omega arith) (omega arith) d)
 
 pub returns-then-b-clause-greater : goal.returns-then-b-clause-greater
-returns-then-b-clause-greater c = (verdict_read (table_weighing c.args.w.now.w0 c.args.w.now.table.items) c.climb_wide.result c.args.under c.args.classes.now c.args.s.now c.args.t.now c.if-not-under.true c.climb_wide.ensures).greater
+returns-then-b-clause-greater c = (verdict_read (table_weighing c.args.w.now.w0 c.args.w.now.table.items) c.compare_wide.result c.args.under c.args.classes.now c.args.s.now c.args.t.now c.if-not-under.true c.compare_wide.ensures).greater
 
 pub returns-then-b-clause-less : goal.returns-then-b-clause-less
-returns-then-b-clause-less c = (verdict_read (table_weighing c.args.w.now.w0 c.args.w.now.table.items) c.climb_wide.result c.args.under c.args.classes.now c.args.s.now c.args.t.now c.if-not-under.true c.climb_wide.ensures).less
+returns-then-b-clause-less c = (verdict_read (table_weighing c.args.w.now.w0 c.args.w.now.table.items) c.compare_wide.result c.args.under c.args.classes.now c.args.s.now c.args.t.now c.if-not-under.true c.compare_wide.ensures).less
 
 pub returns-then-b-clause-equal : goal.returns-then-b-clause-equal
-returns-then-b-clause-equal c = (λ e. absurd (c.climb_wide.ensures.not_equal e), λ e. absurd (trees_differ (read_by c.args.under c.args.classes.now c.args.s.now) (read_by c.args.under c.args.classes.now c.args.t.now) c.first_difference-at.result (Var 0) (read_whole c.args.under c.args.classes.now c.args.s.now c.requires.s_whole) (read_whole c.args.under c.args.classes.now c.args.t.now c.requires.t_whole) (c.first_difference-at.ensures.differ (omega arith) (omega arith) (Var 0)) e))
+returns-then-b-clause-equal c = (λ e. absurd (c.compare_wide.ensures.not_equal e), λ e. absurd (trees_differ (read_by c.args.under c.args.classes.now c.args.s.now) (read_by c.args.under c.args.classes.now c.args.t.now) c.first_difference-at.result (Var 0) (read_whole c.args.under c.args.classes.now c.args.s.now c.requires.s_whole) (read_whole c.args.under c.args.classes.now c.args.t.now c.requires.t_whole) (c.first_difference-at.ensures.differ (omega arith) (omega arith) (Var 0)) e))
 
 pub returns-then-a-b-clause-greater : goal.returns-then-a-b-clause-greater
 returns-then-a-b-clause-greater c = heavy (table_weighing c.args.w.now.w0 c.args.w.now.table.items) (test_by c.args.under c.args.classes.now) (above_by c.args.under c.args.classes.now) (agree_by c.args.under c.args.classes.now) (slot_by c.args.under c.args.classes.now) (read_by c.args.under c.args.classes.now c.args.s.now) (read_by c.args.under c.args.classes.now c.args.t.now) c.first_difference-at.result c.extend.new.self c.extend-2.new.self _ _ (read_whole c.args.under c.args.classes.now c.args.s.now c.requires.s_whole) (read_whole c.args.under c.args.classes.now c.args.t.now c.requires.t_whole) (in_read c.args.under c.args.classes.now c.args.s.now c.first_difference-at.result (omega arith)) (in_read c.args.under c.args.classes.now c.args.t.now c.first_difference-at.result (omega arith)) c.first_difference-at.ensures.common (c.extend.ensures.from ∙ c.new-a.ensures.from) (c.extend-2.ensures.from ∙ c.new-b.ensures.from) (c.extend.ensures.to ∙ sym (read_long c.args.under c.args.classes.now c.args.s.now)) (c.extend-2.ensures.to ∙ sym (read_long c.args.under c.args.classes.now c.args.t.now)) c.extend.ensures.run c.extend-2.ensures.run c.if-a-b.true c.decide.ensures.greater

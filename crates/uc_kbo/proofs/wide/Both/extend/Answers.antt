@@ -20,5 +20,5 @@ returns-clause-both c =
     record {
       first = from_read (table_weighing c.args.w.now.w0 c.args.w.now.table.items) c.args.s.now c.extend.new.self e.run;
       second = from_read (table_weighing c.args.w.now.w0 c.args.w.now.table.items) c.args.t.now c.extend-2.new.self f.run;
-      balance = balance_ends c.args.s.now c.args.t.now a c.extend.new.self b c.extend-2.new.self c.lose_all.new.self c.args.s_end c.args.t_end e.from e.to f.from f.to (balance_more c.args.s.now c.args.t.now a.from a.to c.args.s_end b.from b.to c.args.t_end c.args.self.now.balance c.gain_all.new.self c.lose_all.new.self o.first.ordered c.requires.s_ahead o.second.ordered c.requires.t_ahead o.balance g.counts g.large l.tallied l.counts l.large);
+      balance = balance_ends c.args.s.now c.args.t.now a c.extend.new.self b c.extend-2.new.self c.lose_all.new.self c.args.s_end c.args.t_end e.from e.to f.from f.to (balance_more c.args.s.now c.args.t.now a.from a.to c.args.s_end b.from b.to c.args.t_end c.args.self.now.balance c.gain_all.new.self c.lose_all.new.self o.first.ordered c.requires.s_ahead o.second.ordered c.requires.t_ahead o.balance g.base g.counts l.tallied l.base l.counts);
     }
