@@ -7,6 +7,7 @@ pub mod Lifting
 pub mod Advancing
 pub mod Telling
 pub mod Testing
+pub mod Agreeing
 pub mod Fitting
 pub mod Stepping
 pub mod Chaining
