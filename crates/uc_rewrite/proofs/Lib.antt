@@ -5,7 +5,9 @@ pub mod Choosing
 pub mod Frames
 pub mod Lifting
 pub mod Advancing
+pub mod Telling
 pub mod Testing
+pub mod Agreeing
 pub mod Fitting
 pub mod Stepping
 pub mod Chaining

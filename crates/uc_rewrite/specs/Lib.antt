@@ -1,6 +1,8 @@
 pub mod Normalising
+pub mod Comparing
 pub mod Completed
 pub mod Walking
 pub mod Ends
+pub mod Against
 pub mod Scanning
 pub mod Replay

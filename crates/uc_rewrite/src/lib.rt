@@ -3,6 +3,7 @@
 //! failure).
 #![tactic(auto)]
 
+mod comparison;
 mod completed;
 mod falls;
 mod laws;
@@ -12,8 +13,8 @@ mod replaying;
 mod scan;
 mod walk;
 
-pub use laws::one_normal_form;
-pub use normal::{Normal, normalise};
+pub use laws::{one_normal_form, one_normal_form_under};
+pub use normal::{Normal, normalise, normalise_under};
 pub use replaying::replay;
 pub use scan::Scan;
 
@@ -21,3 +22,5 @@ pub use scan::Scan;
 mod replaying_tests;
 #[cfg(test)]
 mod tests;
+#[cfg(test)]
+mod under_tests;
