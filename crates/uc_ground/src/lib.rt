@@ -4,4 +4,4 @@
 
 mod laws;
 
-pub use laws::one_answer;
+pub use laws::{joined_is_joinable, one_answer};
