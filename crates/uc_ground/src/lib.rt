@@ -2,6 +2,10 @@
 //! variables (Martin and Nipkow, Ordered rewriting and confluence).
 #![tactic(auto)]
 
+mod instance;
+mod join;
 mod laws;
+mod variables;
 
+pub use join::ground_join;
 pub use laws::{joined_is_joinable, one_answer};
