@@ -76,11 +76,11 @@ module _ (Above : Tree → Tree → Type 0) (least : Sym) (es : List Equation) w
     no_new_in (more t us) (more _ vs) (at_later w) y (in_first o) = in_first o
     no_new_in (more t us) (more _ vs) (at_later w) y (in_later o) = in_later (no_new_in us vs w y o)
 
-module _ (has : Sym → Type 0) (arity : Sym → ℕ) where
-  pub count-apply_all : (σ : ℕ → Tree) (ts : Trees) → count (apply_all σ ts) ≡ count ts
-  count-apply_all σ none = refl
-  count-apply_all σ (more t ts) = ap (λ n. n + 1) (count-apply_all σ ts)
+pub count-apply_all : (σ : ℕ → Tree) (ts : Trees) → count (apply_all σ ts) ≡ count ts
+count-apply_all σ none = refl
+count-apply_all σ (more t ts) = ap (λ n. n + 1) (count-apply_all σ ts)
 
+module _ (has : Sym → Type 0) (arity : Sym → ℕ) where
   ground_var : (σ : ℕ → Tree) (x z : ℕ) → Occurs x (var z) → IsGround has arity (σ z) → IsGround has arity (σ x)
   ground_var σ x _ is_itself g = g
 

@@ -1,6 +1,6 @@
 //! Whether two terms are the two sides of one instance of a fact.
 
-ghost use Rattle.std.specs.Prelude.{◌≡◌, IsTrue, IfOk, MatchOption};
+ghost use Rattle.std.specs.Prelude.{◌≡◌, ◌↔◌, IsTrue, IfOk, MatchOption};
 ghost use Rattle.uc_term.specs.Flat.{tree_of, IsWhole};
 ghost use Rattle.uc_term.specs.Equations.{side_of, other_side_of};
 ghost use Rattle.uc_unify.specs.Matching.{HasNoMatch};
@@ -10,7 +10,7 @@ ghost use Rattle.uc_ground.specs.Sides.{AreSides};
 
 use std::alloc::{AllocError, Global};
 use uc_fact::{Found, Index, Side, Test};
-use uc_term::{Node, Term};
+use uc_term::{Node, Sym, Term};
 use uc_unify::matches_both;
 
 /// The least fact of which two terms are, either way round, the two sides of one instance. None exactly where there is none.
@@ -91,6 +91,17 @@ fn differs(pattern: &[Node], term: &[Node]) -> bool
 {
     match pattern[0] {
         Node::Var(_) => false,
-        Node::App(_, _) => pattern[0] != term[0],
+        Node::App(f, n) => !is_head(term[0], f, n),
+    }
+}
+
+/// Whether the node is this symbol with this number of arguments.
+#[inline]
+fn is_head(node: Node, f: Sym, n: u32) -> bool
+    ensures { IsTrue result ↔ (node ≡ Node.App f n) }
+{
+    match node {
+        Node::App(g, m) => g == f && m == n,
+        Node::Var(_) => false,
     }
 }
