@@ -1,0 +1,107 @@
+//! Whether two terms are the two sides of one instance of a fact.
+
+ghost use Rattle.std.specs.Prelude.{◌≡◌, ◌↔◌, IsTrue, IfOk, MatchOption};
+ghost use Rattle.uc_term.specs.Flat.{tree_of, IsWhole};
+ghost use Rattle.uc_term.specs.Equations.{side_of, other_side_of};
+ghost use Rattle.uc_unify.specs.Matching.{HasNoMatch};
+ghost use Rattle.uc_fact.specs.Live.{fact_at};
+ghost use Rattle.uc_ground.specs.Joining.{IsLeastInstance, IsNoInstance};
+ghost use Rattle.uc_ground.specs.Sides.{AreSides};
+
+use std::alloc::{AllocError, Global};
+use uc_fact::{Found, Index, Side, Test};
+use uc_term::{Node, Sym, Term};
+use uc_unify::matches_both;
+
+/// The least fact of which two terms are, either way round, the two sides of one instance. None exactly where there is none.
+pub fn least_instance<I: Index>(
+    alloc: Global,
+    s: &Term,
+    t: &Term,
+    index: &I,
+) -> Result<Option<u32>, AllocError>
+    ensures { IfOk result (λ fact. MatchOption fact (IsNoInstance (I.live index.now) s.now t.now) (IsLeastInstance (I.live index.now) s.now t.now)) }
+{
+    let test = OneInstance {
+        index,
+        left: s,
+        right: t,
+    };
+    match index.first_that(alloc, s.as_nodes(), &test)? {
+        Some(found) => Ok(Some(found.fact)),
+        None => Ok(None),
+    }
+}
+
+/// The test whether two terms are the two sides of one instance of the fact that was found, the first one of the side that
+/// was found.
+#[derive(Drop)]
+pub struct OneInstance<'a, I> {
+    pub index: &'a I,
+    pub left: &'a Term,
+    pub right: &'a Term,
+}
+
+impl<'a, I: Index> Test for OneInstance<'a, I> {
+    ghost use Rattle.uc_ground.specs.Joining.{IsInstanceFrom};
+
+    ghost can_test = { λ s found. Unit {0} };
+
+    ghost accepts = { λ s found. IsInstanceFrom (I.live s.index.now) s.left.now s.right.now found.fact found.side };
+
+    fn rules_out(&self, fact: u32, side: Side) -> bool {
+        match sides(self.index, fact, side) {
+            Some((_, to)) => differs(to.as_nodes(), self.right.as_nodes()),
+            None => false,
+        }
+    }
+
+    fn passes(&self, alloc: Global, found: &Found) -> Result<bool, AllocError> {
+        let Some((from, to)) = sides(self.index, found.fact, found.side) else {
+            return Ok(false);
+        };
+        let both = matches_both(
+            alloc,
+            from.as_nodes(),
+            self.left.as_nodes(),
+            to.as_nodes(),
+            self.right.as_nodes(),
+        )?;
+        Ok(both.is_some())
+    }
+}
+
+/// A side of a live fact, and the other one. None exactly where no live fact has this number. It takes no memory.
+fn sides<I: Index>(index: &I, fact: u32, side: Side) -> Option<(&Term, &Term)>
+    ensures { MatchOption result (fact_at (I.live index.now) fact ≡ None) (λ sides. AreSides (I.live index.now) fact side sides.0.now sides.1.now) }
+{
+    let (left, right) = index.pair(fact)?;
+    match side {
+        Side::Left => Some((left, right)),
+        Side::Right => Some((right, left)),
+    }
+}
+
+/// Whether the heads of a pattern and a term are two different symbols, or the term alone is a variable; then no
+/// substitution makes the pattern the term. It takes no memory.
+fn differs(pattern: &[Node], term: &[Node]) -> bool
+    requires whole_pattern { IsWhole pattern.now }
+    requires whole_term { IsWhole term.now }
+    ensures { IsTrue result → HasNoMatch (tree_of pattern.now) (tree_of term.now) }
+{
+    match pattern[0] {
+        Node::Var(_) => false,
+        Node::App(f, n) => !is_head(term[0], f, n),
+    }
+}
+
+/// Whether the node is this symbol with this number of arguments.
+#[inline]
+fn is_head(node: Node, f: Sym, n: u32) -> bool
+    ensures { IsTrue result ↔ (node ≡ Node.App f n) }
+{
+    match node {
+        Node::App(g, m) => g == f && m == n,
+        Node::Var(_) => false,
+    }
+}
