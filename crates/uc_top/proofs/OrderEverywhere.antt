@@ -88,25 +88,25 @@ module _ (t u : Table) (ρ : Sym → Sym) (moves : (f : Sym) (e : Entry) → sli
 
 -- Two tables without an entry twice lie in a third.
 module _ (first second : Table) (distinct : IsDistinct first) (apart : IsDistinct second) (files : Files) (root : Option (List ℕ)) (name : List ℕ) (words : OrderWords) (a b : Problem) (held : Holds first files root name a) (given : Holds second files root name b) where
-  abbrev both : Merged first second
+  abbrev pub both : Merged first second
   both = merged first second distinct
 
-  from_first : (f : Sym) (e : Entry) → slice_get first f.0 ≡ Some e → slice_get both.table (unchanged f).0 ≡ Some e
+  pub from_first : (f : Sym) (e : Entry) → slice_get first f.0 ≡ Some e → slice_get both.table (unchanged f).0 ≡ Some e
   from_first f e at = grown_at first both.table both.grows f.0 e at
 
-  from_second : (f : Sym) (e : Entry) → slice_get second f.0 ≡ Some e → slice_get both.table (moved second both.table f).0 ≡ Some e
+  pub from_second : (f : Sym) (e : Entry) → slice_get second f.0 ≡ Some e → slice_get both.table (moved second both.table f).0 ≡ Some e
   from_second f e at = is_moved first second both f e at
 
-  abbrev into : Sym → Sym
+  abbrev pub into : Sym → Sym
   into = moved second both.table
 
-  same : problem_moved unchanged a ≡ problem_moved into b
+  pub same : problem_moved unchanged a ≡ problem_moved into b
   same = sym (problem_is_once both.table both.distinct files root name (problem_moved into b) (problem_moved unchanged a) (held_there second both.table into from_second files root name b given) (held_there first both.table unchanged from_first files root name a held))
 
-  has_first : Each (Has first) a.signature.symbols
+  pub has_first : Each (Has first) a.signature.symbols
   has_first = each_has first a.signature.symbols (signature_has first a held.agrees)
 
-  has_second : Each (Has second) b.signature.symbols
+  pub has_second : Each (Has second) b.signature.symbols
   has_second = each_has second b.signature.symbols (signature_has second b given.agrees)
 
   module _ (spec : OrderSpec) (chosen : IsChosen second b.signature words None spec) where
