@@ -9,14 +9,14 @@ use Rattle.uc_check.specs.Clauses.{axioms_of}
 use Rattle.uc_problem.specs.declared.problem.Problem.{Problem}
 use Rattle.uc_problem.specs.Holds.{Agrees}
 use Rattle.uc_order.specs.declared.spec.OrderSpec.{OrderSpec}
-use Rattle.uc_order.specs.Laws.{Meaning, Laws}
+use Rattle.uc_order.specs.Laws.{Meaning}
 use Rattle.uc_fact.specs.Live.{numbered}
 use Rattle.uc_words.specs.declared.command.OrderWords.{OrderWords}
 use Rattle.uc_ordering.specs.declared.chosen.Chosen.{Chosen}
 use Rattle.uc_ordering.specs.declared.fault.ChoiceFault.{ChoiceFault}
 use Rattle.uc_ordering.specs.declared.fault.ChoiceFault.TheVariants as choice
 use Rattle.uc_ordering.specs.Choice.{IsChosen, IsChoiceFault}
-use Rattle.uc_ordering.specs.Chosen.{chosen_meaning, chosen_laws, IsOrderOf, meaning_is}
+use Rattle.uc_ordering.specs.Chosen.{chosen_meaning, IsOrderOf, meaning_is}
 use Rattle.uc_ordering.specs.Fits.{Fits}
 use Rattle.uc_ordering.specs.Meaning.{meaning_of}
 use Rattle.uc_rewrite.specs.declared.normal.Normal.{Normal}
@@ -30,20 +30,18 @@ use Rattle.uc_top.specs.TermWords.{IsTermWord, IsWordFault}
 use Rattle.uc_top.specs.RewriteAnswers.{word_line, stop_status, ArePrintable, AreNormalLines, IsNormalFor, IsRewritten, is_unordered, is_no_term, is_normalised}
 use Rattle.uc_top.proofs.Answering.{one_line}
 use Rattle.uc_top.proofs.OrderedAnswers.{axioms_over}
-use Rattle.uc_top.proofs.LeastOf.{least_of}
+use Rattle.uc_top.proofs.LeastConstants.{least_of}
 use Rattle.uc_top.proofs.PrintableSteps.{rules_over, printable}
 
 module _ (table : Table) (spec : OrderSpec) (order : Chosen) (h : IsOrderOf table spec order) where
-  pub laws : Laws (meaning_of table spec)
-  laws = subst (λ (m : Meaning). Laws m) (meaning_is table spec order h) (chosen_laws order)
-
   pub normal_for : (limit : ℕ) (problem : Problem) (t : Tree) (normal : Normal) → IsNormalOf (chosen_meaning order).greater (chosen_meaning order).least (numbered (axioms_of problem.clauses)) limit t normal → IsNormalFor table spec limit problem t normal
   normal_for limit problem t normal n = subst (λ (m : Meaning). IsNormalOf m.greater m.least (numbered (axioms_of problem.clauses)) limit t normal) (meaning_is table spec order h) n
 
+module _ (table : Table) (spec : OrderSpec) where
   pub printable_steps : (limit : ℕ) (problem : Problem) (t : Tree) (normal : Normal) → Agrees table problem → Fits table problem.signature.symbols spec → IsOf table t → IsNormalFor table spec limit problem t normal → IsOf table normal.chain.start × ArePrintable table normal.chain.start normal.chain.steps
   printable_steps limit problem t normal agrees fits is_of n =
       let m = meaning_of table spec in
-      let steps = printable table m.greater m.least (least_of table problem.signature.symbols spec fits laws) (numbered (axioms_of problem.clauses)) (rules_over table (axioms_of problem.clauses) (axioms_over table problem.clauses agrees.over)) limit t normal.chain.steps normal.term normal.stop is_of n.normalises in
+      let steps = printable table m.greater m.least (least_of table problem.signature.symbols spec fits) (numbered (axioms_of problem.clauses)) (rules_over table (axioms_of problem.clauses) (axioms_over table problem.clauses agrees.over)) limit t normal.chain.steps normal.term normal.stop is_of n.normalises in
       subst (λ (u : Tree). IsOf table u × ArePrintable table u normal.chain.steps) (sym n.start) (is_of, steps)
 
 module _ (table : Table) (words : OrderWords) (limit : ℕ) (word : List ℕ) (problem : Problem) where
