@@ -8,7 +8,7 @@ use Rattle.uc_words.specs.declared.command.Verb.TheVariants as verb
 use Rattle.uc_words.specs.Reads.{Reads}
 use Rattle.uc_words.proofs.Only.{only}
 use Rattle.uc_top.specs.Lines.{usage_line}
-use Rattle.uc_top.specs.Answers.{IsBuilt, CheckAnswers, ShowAnswers, OrderAnswers, Answers, has_no_reading, isnt_built, checks, shows, orders}
+use Rattle.uc_top.specs.Answers.{IsBuilt, CheckAnswers, ShowAnswers, OrderAnswers, RewriteAnswers, Answers, has_no_reading, isnt_built, checks, shows, orders, rewrites}
 
 module _ (table : Table) (holds : Option Files) (before now : ℕ) where
   abbrev pub IsUsage : ℕ → List ℕ → Type 0
@@ -21,7 +21,7 @@ module _ (table : Table) (holds : Option Files) (before now : ℕ) where
   Of verb.Order k status text = (name : List ℕ) × (k.positionals ≡ name ∷ []) × OrderAnswers table holds before now k.order k.root name status text
   Of verb.Prove k status text = IsUsage status text
   Of verb.Decide k status text = IsUsage status text
-  Of verb.Rewrite k status text = IsUsage status text
+  Of verb.Rewrite k status text = (name : List ℕ) × (word : List ℕ) × (k.positionals ≡ name ∷ word ∷ []) × RewriteAnswers table holds before now k.order k.limit word k.root name status text
   Of verb.Pairs k status text = IsUsage status text
   Of verb.Gen k status text = IsUsage status text
 
@@ -31,7 +31,7 @@ module _ (table : Table) (holds : Option Files) (before now : ℕ) where
   not_of verb.Order k n = absurd (n tt)
   not_of verb.Prove k n = (refl, refl)
   not_of verb.Decide k n = (refl, refl)
-  not_of verb.Rewrite k n = (refl, refl)
+  not_of verb.Rewrite k n = absurd (n tt)
   not_of verb.Pairs k n = (refl, refl)
   not_of verb.Gen k n = (refl, refl)
 
@@ -46,6 +46,7 @@ module _ (table : Table) (holds : Option Files) (before now : ℕ) where
     of_command {status = status} {text = text} x (checks {name = name} {proof = proof} y v p a) = of_other verb.Check status text x y v (name, proof, p, a)
     of_command {status = status} {text = text} x (shows {name = name} y v p a) = of_other verb.Show status text x y v (name, p, a)
     of_command {status = status} {text = text} x (orders {name = name} y v p a) = of_other verb.Order status text x y v (name, p, a)
+    of_command {status = status} {text = text} x (rewrites {name = name} {word = word} y v p a) = of_other verb.Rewrite status text x y v (name, word, p, a)
 
     -- the same by the command's verb
     pub of_verb : {command : Command} {status : ℕ} {text : List ℕ} (v : Verb) → command.verb ≡ v → Reads words command → Answers table holds before now words status text → Of v command status text
@@ -58,3 +59,4 @@ module _ (table : Table) (holds : Option Files) (before now : ℕ) where
     read_or_not status text (checks {command = other} y v p a) = inl (other, y)
     read_or_not status text (shows {command = other} y v p a) = inl (other, y)
     read_or_not status text (orders {command = other} y v p a) = inl (other, y)
+    read_or_not status text (rewrites {command = other} y v p a) = inl (other, y)

@@ -40,7 +40,7 @@ nothing_before f (Some a) e = absurd cc
 -- as many nodes, and the same goals with variables
 module _ (ρ : Sym → Sym) where
   mutual
-    nodes_renamed : (x : Tree) → nodes (renamed ρ x) ≡ nodes x
+    pub nodes_renamed : (x : Tree) → nodes (renamed ρ x) ≡ nodes x
     nodes_renamed (var n) = refl
     nodes_renamed (app f ts) = ap (λ n. n + 1) (all_nodes_renamed ts)
 

@@ -122,7 +122,7 @@ module _ (t u : Table) (ρ : Sym → Sym) (moves : (f : Sym) (e : Entry) → sli
   lines_moved (c ∷ cs) h = ap₂ (λ a b. a ++ b) (line_moved c.clause h.0.left h.0.right) (lines_moved cs h.1)
 
   -- what is gathered
-  abbrev node_renamed : Node → Node
+  abbrev pub node_renamed : Node → Node
   node_renamed (Var x) = Var x
   node_renamed (App f n) = App (ρ f) n
 
@@ -130,7 +130,7 @@ module _ (t u : Table) (ρ : Sym → Sym) (moves : (f : Sym) (e : Entry) → sli
   occurrence_renamed o = record { term = o.term; place = o.place; symbol = ρ o.symbol }
 
   mutual
-    flat_renamed : (x : Tree) → flat (renamed ρ x) ≡ map node_renamed (flat x)
+    pub flat_renamed : (x : Tree) → flat (renamed ρ x) ≡ map node_renamed (flat x)
     flat_renamed (var n) = refl
     flat_renamed (app f ts) = ap₂ (λ n ns. App (ρ f) n ∷ ns) (count_renamed ρ ts) (flat_all_renamed ts)
 

@@ -45,7 +45,7 @@ module _ (t u : Table) (ρ : Sym → Sym) (moves : (f : Sym) (e : Entry) → sli
   path_rank_moved (g ∷ fs) f h k = ap₂ (λ b r. if b then 1 else one_more r) (same g f h.0 k) (path_rank_moved fs f h.1 k)
 
   -- the way back
-  abbrev back : Sym → Sym
+  abbrev pub back : Sym → Sym
   back g = record { 0 = place_of (entry_of u g) t }
 
   entry_at : (f : Sym) → Has t f → slice_get t f.0 ≡ Some (entry_of t f)
@@ -57,11 +57,11 @@ module _ (t u : Table) (ρ : Sym → Sym) (moves : (f : Sym) (e : Entry) → sli
       let at = entry_at f h in
       ap (λ e. place_of e t) entry ∙ distinct (place_of (entry_of t f) t) f.0 (entry_of t f) (placed t (entry_of t f) f.0 at) at
 
-  back_is : (f : Sym) → Has t f → back (ρ f) ≡ f
+  pub back_is : (f : Sym) → Has t f → back (ρ f) ≡ f
   back_is f h = ap (λ (n : ℕ). let g : Sym = record { 0 = n } in g) (back_number f h)
 
   mutual
-    term_back : (s : Tree) → Only ρ (Has t) s → renamed back (renamed ρ s) ≡ s
+    pub term_back : (s : Tree) → Only ρ (Has t) s → renamed back (renamed ρ s) ≡ s
     term_back (var x) h = refl
     term_back (app f ts) h = ap₂ app (back_is f h.0) (terms_back ts h.1)
 
@@ -70,11 +70,11 @@ module _ (t u : Table) (ρ : Sym → Sym) (moves : (f : Sym) (e : Entry) → sli
     terms_back (more s ss) h = ap₂ more (term_back s h.0) (terms_back ss h.1)
 
   -- symbols that are renamed ones
-  abbrev Was : Sym → Type 0
+  abbrev pub Was : Sym → Type 0
   Was g = (f : Sym) × Has t f × (g ≡ ρ f)
 
   mutual
-    was : (s : Tree) → Only ρ (Has t) s → Only back Was (renamed ρ s)
+    pub was : (s : Tree) → Only ρ (Has t) s → Only back Was (renamed ρ s)
     was (var x) h = tt
     was (app f ts) h = ((f, h.0, refl), all_were ts h.1)
 
@@ -99,19 +99,21 @@ module _ (t u : Table) (ρ : Sym → Sym) (moves : (f : Sym) (e : Entry) → sli
   PrecedenceHas (Kbo w0 weights precedence) = Each (Has t) precedence
   PrecedenceHas (Lpo precedence) = Each (Has t) precedence
 
-  there : (spec : OrderSpec) (s r : Tree) → PrecedenceHas spec → IsOf t s → IsOf t r → (meaning_of t spec).greater s r → (meaning_of u (spec_moved ρ spec)).greater (renamed ρ s) (renamed ρ r)
-  there (Kbo w0 ws fs) s r p h k d = kbo_moved ρ (Has t) (weighing w0 (weighed t fs ws)) (weighing w0 (weighed u (map ρ fs) ws)) refl (λ f n i. weight_moved w0 fs ws f n p i) (λ f n i. rank_moved 1 fs ws f n p i) s r (only_has s h) (only_has r k) d
-  there (Lpo fs) s r p h k d = path_moved ρ (Has t) (path_rank fs) (path_rank (map ρ fs)) (λ f i. path_rank_moved fs f p i) s r (only_has s h) (only_has r k) d
+  -- what the order says of terms of such symbols it says of the renamed ones
+  pub only_there : (spec : OrderSpec) (s r : Tree) → PrecedenceHas spec → Only ρ (Has t) s → Only ρ (Has t) r → (meaning_of t spec).greater s r → (meaning_of u (spec_moved ρ spec)).greater (renamed ρ s) (renamed ρ r)
+  only_there (Kbo w0 ws fs) s r p h k d = kbo_moved ρ (Has t) (weighing w0 (weighed t fs ws)) (weighing w0 (weighed u (map ρ fs) ws)) refl (λ f n i. weight_moved w0 fs ws f n p i) (λ f n i. rank_moved 1 fs ws f n p i) s r h k d
+  only_there (Lpo fs) s r p h k d = path_moved ρ (Has t) (path_rank fs) (path_rank (map ρ fs)) (λ f i. path_rank_moved fs f p i) s r h k d
+
+  -- and back
+  pub only_back : (spec : OrderSpec) (s r : Tree) → PrecedenceHas spec → Only back Was s → Only back Was r → (meaning_of u (spec_moved ρ spec)).greater s r → (meaning_of t spec).greater (renamed back s) (renamed back r)
+  only_back (Kbo w0 ws fs) s r p h k d =
+      let v = weighing w0 (weighed u (map ρ fs) ws) in
+      let w = weighing w0 (weighed t fs ws) in
+      kbo_moved back Was v w refl (λ g n i. ap (λ x. w.weight_of x n) (ap back i.2 ∙ back_is i.0 i.1) ∙ sym (weight_moved w0 fs ws i.0 n p i.1) ∙ ap (λ x. v.weight_of x n) (sym i.2)) (λ g n i. ap (λ x. w.rank x n) (ap back i.2 ∙ back_is i.0 i.1) ∙ sym (rank_moved 1 fs ws i.0 n p i.1) ∙ ap (λ x. v.rank x n) (sym i.2)) s r h k d
+  only_back (Lpo fs) s r p h k d = path_moved back Was (path_rank (map ρ fs)) (path_rank fs) (λ g i. ap (path_rank fs) (ap back i.2 ∙ back_is i.0 i.1) ∙ sym (path_rank_moved fs i.0 p i.1) ∙ ap (path_rank (map ρ fs)) (sym i.2)) s r h k d
 
   from_back : (R : Tree → Tree → Type 0) (s r : Tree) → IsOf t s → IsOf t r → R (renamed back (renamed ρ s)) (renamed back (renamed ρ r)) → R s r
   from_back R s r h k d = subst (λ x. R x r) (term_back s (only_has s h)) (subst (λ y. R (renamed back (renamed ρ s)) y) (term_back r (only_has r k)) d)
 
-  here : (spec : OrderSpec) (s r : Tree) → PrecedenceHas spec → IsOf t s → IsOf t r → (meaning_of u (spec_moved ρ spec)).greater (renamed ρ s) (renamed ρ r) → (meaning_of t spec).greater s r
-  here (Kbo w0 ws fs) s r p h k d =
-      let v = weighing w0 (weighed u (map ρ fs) ws) in
-      let w = weighing w0 (weighed t fs ws) in
-      from_back (meaning_of t (Kbo w0 ws fs)).greater s r h k (kbo_moved back Was v w refl (λ g n i. ap (λ x. w.weight_of x n) (ap back i.2 ∙ back_is i.0 i.1) ∙ sym (weight_moved w0 fs ws i.0 n p i.1) ∙ ap (λ x. v.weight_of x n) (sym i.2)) (λ g n i. ap (λ x. w.rank x n) (ap back i.2 ∙ back_is i.0 i.1) ∙ sym (rank_moved 1 fs ws i.0 n p i.1) ∙ ap (λ x. v.rank x n) (sym i.2)) (renamed ρ s) (renamed ρ r) (was s (only_has s h)) (was r (only_has r k)) d)
-  here (Lpo fs) s r p h k d = from_back (meaning_of t (Lpo fs)).greater s r h k (path_moved back Was (path_rank (map ρ fs)) (path_rank fs) (λ g i. ap (path_rank fs) (ap back i.2 ∙ back_is i.0 i.1) ∙ sym (path_rank_moved fs i.0 p i.1) ∙ ap (path_rank (map ρ fs)) (sym i.2)) (renamed ρ s) (renamed ρ r) (was s (only_has s h)) (was r (only_has r k)) d)
-
   pub greater_moved : (spec : OrderSpec) (s r : Tree) → PrecedenceHas spec → IsOf t s → IsOf t r → (meaning_of t spec).greater s r ↔ (meaning_of u (spec_moved ρ spec)).greater (renamed ρ s) (renamed ρ r)
-  greater_moved spec s r p h k = (there spec s r p h k, here spec s r p h k)
+  greater_moved spec s r p h k = (only_there spec s r p (only_has s h) (only_has r k), λ d. from_back (meaning_of t spec).greater s r h k (only_back spec (renamed ρ s) (renamed ρ r) p (was s (only_has s h)) (was r (only_has r k)) d))

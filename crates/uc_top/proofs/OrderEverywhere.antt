@@ -28,16 +28,14 @@ use Rattle.uc_top.proofs.Everywhere.{unchanged, term_moved}
 use Rattle.uc_top.proofs.CheckHeld.{problem_moved, held_there}
 use Rattle.uc_top.proofs.OrderedAnswers.{axioms_over}
 use Rattle.uc_top.proofs.MovedOrders.{spec_moved, own_precedence_has, chosen_moved, fault_moved}
+use Rattle.uc_top.proofs.MovedSteps.{equation_moved}
 use Rattle.uc_top.proofs.MovedMeanings.{PrecedenceHas, greater_moved, terms_apart}
 
 each_has : (t : Table) (fs : List Sym) → HasAll t fs → Each (Has t) fs
 each_has t [] h = tt
 each_has t (f ∷ fs) h = (h zero f refl, each_has t fs (λ i g e. h (suc i) g e))
 
-abbrev equation_moved : (Sym → Sym) → Equation → Equation
-equation_moved ρ e = record { left = renamed ρ e.left; right = renamed ρ e.right }
-
-axioms_moved : (ρ : Sym → Sym) (ss : List Sourced) → axioms_of (map (sourced_renamed ρ) ss) ≡ map (equation_moved ρ) (axioms_of ss)
+pub axioms_moved : (ρ : Sym → Sym) (ss : List Sourced) → axioms_of (map (sourced_renamed ρ) ss) ≡ map (equation_moved ρ) (axioms_of ss)
 axioms_moved ρ [] = refl
 axioms_moved ρ (s ∷ ss) = go s.clause.positive (axioms_moved ρ ss)
   where
@@ -79,7 +77,7 @@ module _ (t u : Table) (ρ : Sym → Sym) (moves : (f : Sym) (e : Entry) → sli
     directed_here [] number h none_left = none_left
     directed_here (e ∷ es) number h (one_line cmp {lines = rest} c d) = subst (λ l. AreDirected t (meaning_of t spec) number (e ∷ es) (l ++ rest)) (sym (line_moved number cmp e h.0 h.1)) (one_line cmp (compares_here e.left e.right cmp h.0 h.1 c) (directed_here es (number + 1) h.2 d))
 
-  precedence_has : (problem : Problem) (words : OrderWords) (spec : OrderSpec) → Each (Has t) problem.signature.symbols → IsChosen t problem.signature words None spec → PrecedenceHas t u ρ moves distinct spec
+  pub precedence_has : (problem : Problem) (words : OrderWords) (spec : OrderSpec) → Each (Has t) problem.signature.symbols → IsChosen t problem.signature words None spec → PrecedenceHas t u ρ moves distinct spec
   precedence_has problem words spec has c = subst (PrecedenceHas t u ρ moves distinct) (sym c.is) (go words.lpo)
     where
       go : (lpo : Bool) → PrecedenceHas t u ρ moves distinct (spec_of lpo words.w0 (own_weights t problem.signature words) (own_precedence t problem.signature words))
@@ -88,29 +86,29 @@ module _ (t u : Table) (ρ : Sym → Sym) (moves : (f : Sym) (e : Entry) → sli
 
 -- Two tables without an entry twice lie in a third.
 module _ (first second : Table) (distinct : IsDistinct first) (apart : IsDistinct second) (files : Files) (root : Option (List ℕ)) (name : List ℕ) (words : OrderWords) (a b : Problem) (held : Holds first files root name a) (given : Holds second files root name b) where
-  abbrev both : Merged first second
+  abbrev pub both : Merged first second
   both = merged first second distinct
 
-  from_first : (f : Sym) (e : Entry) → slice_get first f.0 ≡ Some e → slice_get both.table (unchanged f).0 ≡ Some e
+  pub from_first : (f : Sym) (e : Entry) → slice_get first f.0 ≡ Some e → slice_get both.table (unchanged f).0 ≡ Some e
   from_first f e at = grown_at first both.table both.grows f.0 e at
 
-  from_second : (f : Sym) (e : Entry) → slice_get second f.0 ≡ Some e → slice_get both.table (moved second both.table f).0 ≡ Some e
+  pub from_second : (f : Sym) (e : Entry) → slice_get second f.0 ≡ Some e → slice_get both.table (moved second both.table f).0 ≡ Some e
   from_second f e at = is_moved first second both f e at
 
-  abbrev into : Sym → Sym
+  abbrev pub into : Sym → Sym
   into = moved second both.table
 
-  same : problem_moved unchanged a ≡ problem_moved into b
+  pub same : problem_moved unchanged a ≡ problem_moved into b
   same = sym (problem_is_once both.table both.distinct files root name (problem_moved into b) (problem_moved unchanged a) (held_there second both.table into from_second files root name b given) (held_there first both.table unchanged from_first files root name a held))
 
-  has_first : Each (Has first) a.signature.symbols
+  pub has_first : Each (Has first) a.signature.symbols
   has_first = each_has first a.signature.symbols (signature_has first a held.agrees)
 
-  has_second : Each (Has second) b.signature.symbols
+  pub has_second : Each (Has second) b.signature.symbols
   has_second = each_has second b.signature.symbols (signature_has second b given.agrees)
 
   module _ (spec : OrderSpec) (chosen : IsChosen second b.signature words None spec) where
-    chosen_there : IsChosen both.table (problem_moved into b).signature words None (spec_moved into spec)
+    pub chosen_there : IsChosen both.table (problem_moved into b).signature words None (spec_moved into spec)
     chosen_there = chosen_moved second both.table into from_second apart b.signature words has_second spec chosen
 
     pub ordered_alike : {status : ℕ} {text : List ℕ} → IsOrdered first words a status text → (status ≡ 0) × AreDirected second (meaning_of second spec) 0 (axioms_of b.clauses) text

@@ -72,7 +72,7 @@ has_both table (x ∷ xs) ys zero f n h k e = h zero e
 has_both table (x ∷ xs) ys (suc i) f n h k e = has_both table xs ys i f n (λ j q. h (suc j) q) k e
 
 mutual
-  symbol_of : (table : Table) (t : Tree) (i : ℕ) (f : Sym) (n : ℕ) → IsOf table t → slice_get (flat t) i ≡ Some (App f n) → Has table f
+  pub symbol_of : (table : Table) (t : Tree) (i : ℕ) (f : Sym) (n : ℕ) → IsOf table t → slice_get (flat t) i ≡ Some (App f n) → Has table f
   symbol_of table (var x) zero f n h e = absurd cc
   symbol_of table (var x) (suc i) f n h e = absurd cc
   symbol_of table (app g ts) zero f n h e = let same : g ≡ f = cc in subst (Has table) same h.0

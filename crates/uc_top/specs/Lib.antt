@@ -3,7 +3,9 @@ pub mod Axioms
 pub mod Directions
 pub mod OrderAnswers
 pub mod TermWords
+pub mod RewriteAnswers
 pub mod Told
 pub mod Answers
 pub mod Runs
 pub mod OrderRuns
+pub mod RewriteRuns

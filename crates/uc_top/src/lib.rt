@@ -2,6 +2,7 @@
 #![tactic(auto)]
 
 mod axioms;
+mod chaining;
 mod checking;
 mod choosing;
 #[cfg(test)]
@@ -19,6 +20,9 @@ mod output;
 mod program;
 #[cfg(test)]
 mod proof_tests;
+#[cfg(test)]
+mod rewrite_tests;
+mod rewriting;
 #[cfg(test)]
 mod show_tests;
 mod showing;

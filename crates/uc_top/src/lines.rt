@@ -100,7 +100,7 @@ pub(crate) fn limit_line(
 }
 
 // The line of a word that isn't allowed at a place.
-fn word_line(
+pub(crate) fn word_line(
     alloc: Global,
     file: &[u8],
     place: Place,
@@ -114,7 +114,11 @@ fn word_line(
 }
 
 // The line of a refusal of the reader; for want of memory, no bytes.
-fn clause_line(alloc: Global, file: &[u8], fault: &ClauseFault) -> Result<Text, AllocError>
+pub(crate) fn clause_line(
+    alloc: Global,
+    file: &[u8],
+    fault: &ClauseFault,
+) -> Result<Text, AllocError>
     ensures { IfOk result (λ text. text ≡ clause_line file.now fault.now) }
 {
     match fault {

@@ -23,6 +23,9 @@ pub(crate) const DONE: u8 = 0;
 /// It is done, and the answer is no.
 pub(crate) const NO: u8 = 1;
 
+/// A limit ended it.
+pub(crate) const STOPPED: u8 = 2;
+
 /// A file is refused, or isn't there.
 pub(crate) const REFUSED: u8 = 3;
 

@@ -10,10 +10,12 @@ ghost use Rattle.uc_words.specs.Table.{fits};
 ghost use Rattle.uc_top.specs.Lines.{joined, usage_line};
 ghost use Rattle.uc_top.specs.Runs.{MayAnswer, IsRun, IsCertified, Completes, CompletesCheck};
 ghost use Rattle.uc_top.specs.OrderRuns.{CompletesOrder};
+ghost use Rattle.uc_top.specs.RewriteRuns.{CompletesRewrite};
 
 use crate::checking::check_answer;
 use crate::ordering::order_answer;
 use crate::output::{Answer, USAGE, of_line, tell, tell_memory_out};
+use crate::rewriting::rewrite_answer;
 use crate::showing::show_answer;
 use std::alloc::{AllocError, Global};
 use std::sync::Wait;
@@ -30,7 +32,9 @@ const USAGE_LINE: &[u8] = b"usage: uc COMMAND [--option VALUE].. [WORD]..\n";
 /// refutation of a goal, so that one of the problem's goals follows from its axioms; 1 where the proof reads and isn't such;
 /// 3 where the problem or the proof isn't there or is refused. For `show` it is 0 where the problem is there, and all its
 /// clauses are told, each on a line; else 3. For `order` it is 0 where the problem is there and the words name an order for it,
-/// and how it directs each axiom is told on a line of its own; 4 where the order is refused; else 3. 4 stands for words that
+/// and how it directs each axiom is told on a line of its own; 4 where the order is refused; else 3. For `rewrite` it is 0 where
+/// the word is a term over the problem's signature that the axioms normalise by that order, and 2 where the limit or the largest
+/// size ends it, with the term and each step told; 4 where the order is refused; else 3. 4 stands for words that
 /// have no reading, 5 for a failure of the library and 6 for one of the sink, each only where its count of faults rose in this
 /// call, and 7 for want of memory.
 pub fn run<R: Threads + Wait + Sync, L: Library, S: Sink, G: Gate + Sync>(
@@ -46,6 +50,7 @@ pub fn run<R: Threads + Wait + Sync, L: Library, S: Sink, G: Gate + Sync>(
     ensures complete { (files : Files) → L.holds library.old ≡ Some files → (Rose (L.faults library.old) (L.faults library.new) → ⊥) → (Rose (S.faults sink.old) (S.faults sink.new) → ⊥) → Completes files (map string_bytes words.now) (S.written sink.old) (S.written sink.new) result }
     ensures complete_check { (files : Files) → L.holds library.old ≡ Some files → (Rose (L.faults library.old) (L.faults library.new) → ⊥) → (Rose (S.faults sink.old) (S.faults sink.new) → ⊥) → CompletesCheck files (map string_bytes words.now) (S.written sink.old) (S.written sink.new) result }
     ensures complete_order { (files : Files) → L.holds library.old ≡ Some files → (Rose (L.faults library.old) (L.faults library.new) → ⊥) → (Rose (S.faults sink.old) (S.faults sink.new) → ⊥) → CompletesOrder files (map string_bytes words.now) (S.written sink.old) (S.written sink.new) result }
+    ensures complete_rewrite { (files : Files) → L.holds library.old ≡ Some files → (Rose (L.faults library.old) (L.faults library.new) → ⊥) → (Rose (S.faults sink.old) (S.faults sink.new) → ⊥) → CompletesRewrite files (map string_bytes words.now) (S.written sink.old) (S.written sink.new) result }
     ensures same { L.holds library.new ≡ L.holds library.old }
     ensures later { L.faults library.old ≤ L.faults library.new }
     ensures sink_later { S.faults sink.old ≤ S.faults sink.new }
@@ -104,6 +109,10 @@ fn command_answer<L: Library>(
         },
         Verb::Order => match command.positionals.as_slice() {
             [name] => order_answer(alloc, command.root.as_ref(), name, &command.order, library),
+            _ => unreachable!(),
+        },
+        Verb::Rewrite => match command.positionals.as_slice() {
+            [name, word] => rewrite_answer(alloc, command, name, word, library),
             _ => unreachable!(),
         },
         _ => usage_answer(alloc),

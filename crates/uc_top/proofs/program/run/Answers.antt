@@ -2,6 +2,7 @@ use Rattle.uc_top.specs.Runs.{wants_memory}
 use Rattle.uc_top.proofs.Completing.{own_status, completes}
 use Rattle.uc_top.proofs.OrderCompleting.{order_completes}
 use Rattle.uc_top.proofs.CheckEnding.{completes_check}
+use Rattle.uc_top.proofs.RewriteCompleting.{rewrite_completes}
 use Rattle.uc_top.proofs.program.run.Goals as goal
 
 pub returns-in-Err-clause-answers : goal.returns-in-Err-clause-answers
@@ -27,3 +28,9 @@ returns-in-Ok-clause-complete_order g c = order_completes _ _ _ _ _ _ _ _ _ (rec
 
 pub returns-in-Ok-clause-complete_check : goal.returns-in-Ok-clause-complete_check
 returns-in-Ok-clause-complete_check g c = completes_check _ _ _ _ _ _ _ _ _ (record { status = _; text = _; answer = c.in-Ok.ensures.answers; told = c.tell.ensures.told })
+
+pub returns-in-Err-clause-complete_rewrite : goal.returns-in-Err-clause-complete_rewrite
+returns-in-Err-clause-complete_rewrite g c = rewrite_completes _ _ _ _ _ _ _ _ _ (record { status = 7; text = _; answer = wants_memory; told = c.tell_memory_out.ensures.told })
+
+pub returns-in-Ok-clause-complete_rewrite : goal.returns-in-Ok-clause-complete_rewrite
+returns-in-Ok-clause-complete_rewrite g c = rewrite_completes _ _ _ _ _ _ _ _ _ (record { status = _; text = _; answer = c.in-Ok.ensures.answers; told = c.tell.ensures.told })

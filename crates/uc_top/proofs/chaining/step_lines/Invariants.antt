@@ -1,0 +1,10 @@
+use Rattle.std.proofs.Common.{◌≤◌, ℕ, List, ◌++◌, drop, length}
+use Rattle.uc_top.specs.RewriteAnswers.{ArePrintable}
+use Rattle.uc_top.proofs.ChainLines.{Begun}
+use Rattle.uc_top.proofs.chaining.step_lines.Given as goal
+
+abbrev pub invariant-loop-step : goal.invariant-loop-step
+invariant-loop-step l = record {
+  begun : Begun l.symbols l.start l.steps l.step-index l.from l.lines;
+  printable : ArePrintable l.symbols l.from (drop l.step-index l.steps);
+}

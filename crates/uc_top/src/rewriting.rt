@@ -1,0 +1,204 @@
+//! The command `rewrite`.
+
+ghost use Rattle.std.specs.Prelude.{◌≡◌, ◌≤◌, ◌<◌, ◌^◌, None, length, IfOk};
+ghost use Rattle.std.specs.Option.{option_copied};
+ghost use Rattle.uc_term.specs.Table.{Table, Grows, IsDistinct, IsOf};
+ghost use Rattle.uc_problem.specs.Holds.{Agrees};
+ghost use Rattle.uc_ordering.specs.Choice.{IsChosen};
+ghost use Rattle.uc_ordering.specs.Fits.{Fits};
+ghost use Rattle.uc_top.specs.Lines.{joined};
+ghost use Rattle.uc_top.specs.TermWords.{IsTermWord, IsWordFault};
+ghost use Rattle.uc_rewrite.specs.declared.normal.Normal.{Normal as AnyNormal};
+ghost use Rattle.uc_top.specs.RewriteAnswers.{stop_status, word_name, word_line, IsNormalFor, AreNormalLines, IsRewritten};
+ghost use Rattle.uc_top.specs.Answers.{RewriteAnswers};
+
+use crate::axioms::axioms_of;
+use crate::chaining::chain_lines;
+use crate::choosing::choice_answer;
+use crate::lines::{clause_line, word_line as line_at};
+use crate::loading::{bytes_of, load_answer};
+use crate::output::{Answer, DONE, REFUSED, STOPPED, of_line};
+use crate::term_word::{WordFault, read_word};
+use itoa::Buffer;
+use std::alloc::{AllocError, Global};
+use uc_clause::print_word;
+use uc_edge::Library;
+use uc_fact::Stop;
+use uc_order::OrderSpec;
+use uc_ordering::{Chosen, choose};
+use uc_problem::{Problem, load};
+use uc_rewrite::{Scan, normalise};
+use uc_term::{Equation, Symbols, Term, Text};
+use uc_words::Command;
+
+/// The answer to `rewrite` for the problem file of this name and the term that is this word, by the command's order and limit.
+pub(crate) fn rewrite_answer<L: Library>(
+    alloc: Global,
+    command: &Command,
+    name: &Text,
+    word: &Text,
+    library: &mut L,
+) -> Result<Answer, AllocError>
+    requires w0_some { 1 ≤ command.now.order.w0 }
+    requires w0_most { command.now.order.w0 ≤ 1000000 }
+    requires short { length word.now < 2 ^ 31 }
+    ensures answers { IfOk result (λ answer. (table : Table) × IsDistinct table × RewriteAnswers table (L.holds library.old) (L.faults library.old) (L.faults library.new) command.now.order command.now.limit word.now command.now.root name.now answer.status (joined answer.lines)) }
+    ensures same { L.holds library.new ≡ L.holds library.old }
+    ensures later { L.faults library.old ≤ L.faults library.new }
+{
+    let mut symbols = Symbols::new(alloc);
+    let answer = load_and_rewrite(
+        alloc,
+        command,
+        name.as_bytes(),
+        word.as_bytes(),
+        &mut symbols,
+        library,
+    );
+    // The entries of the table are all different, so what was read is the only reading.
+    let _ = symbols.len();
+    answer
+}
+
+// The answer, with a table for the symbols.
+fn load_and_rewrite<L: Library>(
+    alloc: Global,
+    command: &Command,
+    name: &[u8],
+    word: &[u8],
+    symbols: &mut Symbols,
+    library: &mut L,
+) -> Result<Answer, AllocError>
+    requires w0_some { 1 ≤ command.now.order.w0 }
+    requires w0_most { command.now.order.w0 ≤ 1000000 }
+    requires short { length word.now < 2 ^ 31 }
+    ensures answers { IfOk result (λ answer. RewriteAnswers symbols.new (L.holds library.old) (L.faults library.old) (L.faults library.new) command.now.order command.now.limit word.now command.now.root name.now answer.status (joined answer.lines)) }
+    ensures same { L.holds library.new ≡ L.holds library.old }
+    ensures later { L.faults library.old ≤ L.faults library.new }
+{
+    match load(
+        alloc,
+        library,
+        bytes_of(command.root.as_ref()),
+        name,
+        symbols,
+    ) {
+        Ok(problem) => rewritten_answer(alloc, &problem, command, word, symbols),
+        Err(fault) => load_answer(alloc, &fault),
+    }
+}
+
+// The answer for a problem that is loaded. The word is read before the order is chosen, so that the table has all symbols; but
+// what is wrong with the order is told first.
+fn rewritten_answer(
+    alloc: Global,
+    problem: &Problem,
+    command: &Command,
+    word: &[u8],
+    symbols: &mut Symbols,
+) -> Result<Answer, AllocError>
+    requires agrees { Agrees symbols.old problem.now }
+    requires w0_some { 1 ≤ command.now.order.w0 }
+    requires w0_most { command.now.order.w0 ≤ 1000000 }
+    requires short { length word.now < 2 ^ 31 }
+    ensures answers { IfOk result (λ answer. IsRewritten symbols.new command.now.order command.now.limit word.now problem.now answer.status (joined answer.lines)) }
+    ensures grows { Grows symbols.old symbols.new }
+{
+    let read = read_word(alloc, word, problem.signature.symbols.as_slice(), symbols);
+    match choose(alloc, &command.order, symbols, &problem.signature, None) {
+        Ok(spec) => match read {
+            Ok(term) => normal_answer(alloc, &spec, problem, &term, command.limit, symbols),
+            Err(fault) => word_answer(alloc, &fault),
+        },
+        Err(fault) => choice_answer(alloc, &fault),
+    }
+}
+
+// What stands for a file's name where the word of a number is refused.
+fn word_name(alloc: Global, number: u32) -> Result<Text, AllocError>
+    ensures { IfOk result (λ text. text ≡ word_name number) }
+{
+    let mut buffer = Buffer::new();
+    let mut name = Text::from_bytes(alloc, b"word ")?;
+    name.extend(buffer.format(number).as_bytes())?;
+    Ok(name)
+}
+
+// The line of the word of a number that is no term; for want of memory, no bytes.
+fn word_line(alloc: Global, number: u32, fault: &WordFault) -> Result<Text, AllocError>
+    ensures { IfOk result (λ text. text ≡ word_line number fault.now) }
+{
+    let word = word_name(alloc, number)?;
+    match fault {
+        WordFault::Unread(why) => clause_line(alloc, word.as_bytes(), why),
+        WordFault::UnknownSymbol(place, name) => {
+            let name = print_word(alloc, name.as_bytes())?;
+            line_at(
+                alloc,
+                word.as_bytes(),
+                *place,
+                b"UnknownSymbol",
+                name.as_bytes(),
+            )
+        }
+        WordFault::NoMemory => Ok(Text::new(alloc)),
+    }
+}
+
+// The answer for a word that is no term.
+fn word_answer(alloc: Global, fault: &WordFault) -> Result<Answer, AllocError>
+    ensures answer { IfOk result (λ answer. (answer.status ≡ 3) × (joined answer.lines ≡ word_line 0 fault.now)) }
+    ensures not_memory { IfOk result (λ _. fault.now ≡ WordFault.NoMemory → ⊥) }
+{
+    match fault {
+        WordFault::NoMemory => Err(AllocError),
+        _ => of_line(alloc, REFUSED, word_line(alloc, 0, fault)?),
+    }
+}
+
+// The answer for a term.
+fn normal_answer(
+    alloc: Global,
+    spec: &OrderSpec,
+    problem: &Problem,
+    term: &Term,
+    limit: u32,
+    symbols: &Symbols,
+) -> Result<Answer, AllocError>
+    requires agrees { Agrees symbols.now problem.now }
+    requires fits { Fits symbols.now problem.now.signature.symbols spec.now }
+    requires of_table { IsOf symbols.now term.now }
+    ensures { IfOk result (λ answer. (normal : AnyNormal) × IsNormalFor symbols.now spec.now limit problem.now term.now normal × (answer.status ≡ stop_status normal.stop) × AreNormalLines symbols.now normal (joined answer.lines)) }
+{
+    let order = Chosen::new(alloc, spec, symbols, problem.signature.symbols.as_slice())?;
+    let axioms = axioms_of(alloc, problem.clauses.as_slice())?;
+    let scan = scan_of(axioms.as_slice())?;
+    let normal = normalise(alloc, term, &scan, &order, limit)?;
+    Ok(Answer {
+        status: stop_status(normal.stop),
+        lines: chain_lines(alloc, &normal, symbols)?,
+    })
+}
+
+// The index of the axioms. A problem never has as many as it can't number; for so many memory is wanted.
+fn scan_of(axioms: &[Equation]) -> Result<Scan<'_>, AllocError>
+    ensures { IfOk result (λ scan. scan.facts.now ≡ axioms.now) }
+{
+    if axioms.len() < MOST_AXIOMS {
+        Ok(Scan::new(axioms))
+    } else {
+        Err(AllocError)
+    }
+}
+
+const MOST_AXIOMS: usize = 2_147_483_648;
+
+fn stop_status(stop: Stop) -> u8
+    ensures { result ≡ stop_status stop }
+{
+    match stop {
+        Stop::Full => DONE,
+        Stop::Steps => STOPPED,
+        Stop::Size => STOPPED,
+    }
+}
