@@ -1,0 +1,4 @@
+pub mod Numbering
+pub mod Overlapping
+pub mod Listing
+pub mod Pairs
