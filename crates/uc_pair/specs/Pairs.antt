@@ -1,0 +1,69 @@
+-- The pair of an overlap, with the chain by the term from which both sides come.
+use Rattle.std.specs.Prelude.{ℕ, ◌≡◌, ◌<◌, ◌++◌, Bool, true, false, List, [], ◌∷◌}
+use Rattle.uc_term.specs.declared.equation.Equation.{Equation}
+use Rattle.uc_term.specs.declared.equation.Side.{Side}
+use Rattle.uc_term.specs.declared.equation.Side.TheVariants.{Left, Right}
+use Rattle.uc_term.specs.Tree.{Tree, apply, nodes, subterm, put}
+use Rattle.uc_term.specs.Positions.{IsPlaceOf}
+use Rattle.uc_term.specs.Variables.{variables, firsts, renumbered_by}
+use Rattle.uc_fact.specs.declared.fact.Overlap.{Overlap}
+use Rattle.uc_fact.specs.declared.chain.Chain.{Chain}
+use Rattle.uc_fact.specs.declared.chain.By.TheVariants.{Fact}
+use Rattle.uc_fact.specs.Live.{Rule}
+use Rattle.uc_pair.specs.declared.formation.Formation.{Formation}
+use Rattle.uc_pair.specs.declared.formation.Formation.TheVariants.{Pair, TooLarge}
+use Rattle.uc_pair.specs.Overlapping.{Overlapping, Fits, IsTooLarge, peak, left_of, right_of, read_from}
+
+-- The variables of the pair's sides by first occurrence, left side first; behind them those that only the chain has, by first
+-- occurrence in the chain.
+abbrev pub names_of : {outer inner : Rule} {place : ℕ} → Overlapping outer inner place → List ℕ
+names_of o = firsts (variables (left_of o) ++ (variables (right_of o) ++ variables (peak o)))
+
+-- the term with its variables numbered so
+abbrev pub numbered_by : {outer inner : Rule} {place : ℕ} → Overlapping outer inner place → Tree → Tree
+numbered_by o t = renumbered_by (names_of o) t
+
+abbrev pub is_left : Side → Bool
+is_left Left = true
+is_left Right = false
+
+abbrev pub is_right : Side → Bool
+is_right Left = false
+is_right Right = true
+
+-- The chain goes from the left side to the peak, by the outer rule backwards at the root, and from there to the right side, by
+-- the inner rule at this place.
+abbrev pub chain_by : Rule → Rule → ℕ → Tree → Tree → Tree → Chain
+chain_by outer inner place left top right = record {
+  start = left;
+  steps = record { by = Fact outer.number; left_to_right = is_right outer.side; position = record { 0 = 0 }; to = top }
+        ∷ record { by = Fact inner.number; left_to_right = is_left inner.side; position = record { 0 = place }; to = right }
+        ∷ [];
+}
+
+-- these are the pair's two sides with their chain
+pub record IsPairBy {outer inner : Rule} {place : ℕ} (o : Overlapping outer inner place) (left right : Tree) (chain : Chain) : Type 0 where
+  pub left_is : left ≡ numbered_by o (left_of o)
+  pub right_is : right ≡ numbered_by o (right_of o)
+  -- the place in the peak is at the same position as the place in the outer side
+  pub path : List ℕ
+  pub there : ℕ
+  pub path_is : IsPlaceOf outer.from path place
+  pub there_is : IsPlaceOf (peak o) path there
+  pub chain_is : chain ≡ chain_by outer inner there left (numbered_by o (peak o)) right
+
+-- what the overlap's pair comes to
+pub data IsFormation (outer inner : Rule) (place : ℕ) : Formation → Type 0 where
+  forms_none : (o : Overlapping outer inner place) → IsTooLarge o → IsFormation outer inner place TooLarge
+  forms_pair : {left right : Tree} {chain : Chain} (o : Overlapping outer inner place) → Fits o → IsPairBy o left right chain → IsFormation outer inner place (Pair left right chain)
+
+abbrev pub IsPairOf : Equation → Equation → Overlap → Formation → Type 0
+IsPairOf a b overlap = IsFormation (read_from overlap.outer overlap.outer_side a) (read_from overlap.inner overlap.inner_side b) overlap.position.0
+
+-- The place is one of the term before; one substitution makes the side that is replaced the subterm there, and the term behind
+-- is the one before with the other side's instance in its place.
+pub record Replaces (from to before : Tree) (place : ℕ) (after : Tree) : Type 0 where
+  pub inside : place < nodes before
+  pub σ : ℕ → Tree
+  pub from_is : apply σ from ≡ subterm before place
+  pub to_is : put before place (apply σ to) ≡ after

@@ -1,0 +1,124 @@
+//! The overlaps of two facts.
+
+use crate::fitting::first_fit;
+use crate::instances::rename_apart;
+use crate::judging::size_at;
+use crate::reading::{Read, is_never_down};
+use crate::{Formed, Size};
+use std::alloc::{AllocError, Global};
+use uc_fact::{Overlap, Side};
+use uc_order::Order;
+use uc_term::{Equation, Pos, Seq};
+
+/// The overlaps of an outer and an inner fact with the sizes of their pairs, by outer side, inner side, and position in
+/// preorder. At each position of the outer side that is no variable there is one where the subterm unifies with the inner
+/// side, the variables of the two facts being renamed apart.
+///
+/// An overlap is left out where one of the two facts doesn't lead down from the term from which both sides of the pair come;
+/// where an instance of a side has more than 4,096 nodes, the fact's own two sides decide instead. At the root, where the inner
+/// side is no variable, it is also left out where the inner fact and side come after the outer ones, and where they are the same
+/// and the other side has no further variable. No term of more than 4,096 nodes is built.
+pub fn overlaps<O: Order>(
+    alloc: Global,
+    outer: u32,
+    a: &Equation,
+    inner: u32,
+    b: &Equation,
+    order: &O,
+) -> Result<Seq<Formed>, AllocError>
+{
+    let mut list = Vec::new(alloc);
+    add_outer(
+        alloc,
+        &mut list,
+        &Read::new(outer, Side::Left, a),
+        inner,
+        b,
+        order,
+    )?;
+    add_outer(
+        alloc,
+        &mut list,
+        &Read::new(outer, Side::Right, a),
+        inner,
+        b,
+        order,
+    )?;
+    Ok(Seq::from_vec(list))
+}
+
+/// Adds the overlaps of a rule with an inner fact.
+fn add_outer<O: Order>(
+    alloc: Global,
+    list: &mut Vec<Formed>,
+    outer: &Read,
+    inner: u32,
+    b: &Equation,
+    order: &O,
+) -> Result<(), AllocError>
+{
+    if is_never_down(outer, order) {
+        return Ok(());
+    }
+    add_inner(
+        alloc,
+        list,
+        outer,
+        &Read::new(inner, Side::Left, b),
+        order,
+    )?;
+    add_inner(
+        alloc,
+        list,
+        outer,
+        &Read::new(inner, Side::Right, b),
+        order,
+    )
+}
+
+/// Adds the overlaps of two rules, of which the outer one leads down somewhere.
+fn add_inner<O: Order>(
+    alloc: Global,
+    list: &mut Vec<Formed>,
+    outer: &Read,
+    inner: &Read,
+    order: &O,
+) -> Result<(), AllocError>
+{
+    if is_never_down(inner, order) {
+        return Ok(());
+    }
+    let Some(first) = first_fit(outer.from, inner.from) else {
+        return Ok(());
+    };
+    let terms = rename_apart(alloc, outer, inner)?;
+    for place in first..outer.from.nodes() {
+        let size = size_at(alloc, &terms, outer, inner, place, order)?;
+        add(list, outer, inner, place, size)?;
+    }
+    Ok(())
+}
+
+/// Adds the overlap at a place, where it has a size.
+fn add(
+    list: &mut Vec<Formed>,
+    outer: &Read,
+    inner: &Read,
+    place: u32,
+    size: Option<Size>,
+) -> Result<(), AllocError>
+{
+    if let Some(size) = size {
+        list.push(Formed {
+            overlap: Overlap {
+                outer: outer.number,
+                outer_side: outer.side,
+                inner: inner.number,
+                inner_side: inner.side,
+                position: Pos(place),
+            },
+            size,
+        })?;
+    }
+    Ok(())
+}
