@@ -27,10 +27,12 @@ use Rattle.uc_words.proofs.Only.{only}
 use Rattle.uc_top.specs.Lines.{load_line, proof_line}
 use Rattle.uc_top.specs.OrderAnswers.{IsOrdered}
 use Rattle.uc_top.specs.RewriteAnswers.{IsRewritten}
+use Rattle.uc_top.specs.PairsAnswers.{IsPaired}
 use Rattle.uc_top.proofs.OrderOnce.{ordered_once}
 use Rattle.uc_top.proofs.RewriteOnce.{rewritten_once}
+use Rattle.uc_top.proofs.PairsOnce.{paired_once}
 use Rattle.uc_top.proofs.ByVerb.{IsUsage, Of, of_command, read_or_not}
-use Rattle.uc_top.specs.Answers.{checked_status, large_line, IsBuilt, TextAnswers, is_not_read, is_checked, ProofAnswers, is_absent, isnt_fetched, is_found, ProblemAnswers, has_large_goal, is_marked, LoadAnswers, CheckAnswers, ShowAnswers, OrderAnswers, RewriteAnswers, IsShown, fetch_fails, is_refused, is_loaded, Answers}
+use Rattle.uc_top.specs.Answers.{checked_status, large_line, IsBuilt, TextAnswers, is_not_read, is_checked, ProofAnswers, is_absent, isnt_fetched, is_found, ProblemAnswers, has_large_goal, is_marked, LoadAnswers, CheckAnswers, ShowAnswers, OrderAnswers, RewriteAnswers, PairsAnswers, IsShown, fetch_fails, is_refused, is_loaded, Answers}
 
 -- what a text reads as where memory isn't wanted: it is too long, or it is read
 module _ (table : Table) (text : List ℕ) where
@@ -130,6 +132,9 @@ module _ (table : Table) (distinct : IsDistinct table) where
     rewrite_once : (words : OrderWords) (limit : ℕ) (word : List ℕ) (root : Option (List ℕ)) (name : List ℕ) {s t : ℕ} {a b : List ℕ} → RewriteAnswers table (Some files) before now words limit word root name s a → RewriteAnswers table (Some files) before now words limit word root name t b → (s ≡ t) × (a ≡ b)
     rewrite_once words limit word root name x y = load_once (IsRewritten table words limit word) (λ problem s t a b p q. rewritten_once table distinct words limit word problem p q) root name x y
 
+    pairs_once : (words : OrderWords) (root : Option (List ℕ)) (name : List ℕ) {s t : ℕ} {a b : List ℕ} → PairsAnswers table (Some files) before now words root name s a → PairsAnswers table (Some files) before now words root name t b → (s ≡ t) × (a ≡ b)
+    pairs_once words root name x y = load_once (IsPaired table words) (λ problem s t a b p q. paired_once table words problem p q) root name x y
+
     abbrev OfFiles : Verb → Command → ℕ → List ℕ → Type 0
     OfFiles = Of table (Some files) before now
 
@@ -147,7 +152,7 @@ module _ (table : Table) (distinct : IsDistinct table) where
     verb_once verb.Rewrite k {t = t} {b = b} (name, word, p, x) (named, other, q, y) =
         let names : named ∷ other ∷ [] ≡ name ∷ word ∷ [] = sym q ∙ p in
         rewrite_once k.order k.limit word k.root name x (subst (λ n. RewriteAnswers table (Some files) before now k.order k.limit word k.root n t b) (first_name names) (subst (λ w. RewriteAnswers table (Some files) before now k.order k.limit w k.root named t b) (second_name names) y))
-    verb_once verb.Pairs k x y = usage_once x y
+    verb_once verb.Pairs k {t = t} {b = b} (name, p, x) (named, q, y) = pairs_once k.order k.root name x (subst (λ n. PairsAnswers table (Some files) before now k.order k.root n t b) (only_name (sym q ∙ p)) y)
     verb_once verb.Gen k x y = usage_once x y
 
     module _ (words : List (List ℕ)) where

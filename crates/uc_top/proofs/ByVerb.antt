@@ -8,7 +8,7 @@ use Rattle.uc_words.specs.declared.command.Verb.TheVariants as verb
 use Rattle.uc_words.specs.Reads.{Reads}
 use Rattle.uc_words.proofs.Only.{only}
 use Rattle.uc_top.specs.Lines.{usage_line}
-use Rattle.uc_top.specs.Answers.{IsBuilt, CheckAnswers, ShowAnswers, OrderAnswers, RewriteAnswers, Answers, has_no_reading, isnt_built, checks, shows, orders, rewrites}
+use Rattle.uc_top.specs.Answers.{IsBuilt, CheckAnswers, ShowAnswers, OrderAnswers, RewriteAnswers, PairsAnswers, Answers, has_no_reading, isnt_built, checks, shows, orders, rewrites, pairs_up}
 
 module _ (table : Table) (holds : Option Files) (before now : ℕ) where
   abbrev pub IsUsage : ℕ → List ℕ → Type 0
@@ -22,7 +22,7 @@ module _ (table : Table) (holds : Option Files) (before now : ℕ) where
   Of verb.Prove k status text = IsUsage status text
   Of verb.Decide k status text = IsUsage status text
   Of verb.Rewrite k status text = (name : List ℕ) × (word : List ℕ) × (k.positionals ≡ name ∷ word ∷ []) × RewriteAnswers table holds before now k.order k.limit word k.root name status text
-  Of verb.Pairs k status text = IsUsage status text
+  Of verb.Pairs k status text = (name : List ℕ) × (k.positionals ≡ name ∷ []) × PairsAnswers table holds before now k.order k.root name status text
   Of verb.Gen k status text = IsUsage status text
 
   not_of : (v : Verb) (k : Command) → (IsBuilt v → ⊥) → Of v k 4 usage_line
@@ -32,7 +32,7 @@ module _ (table : Table) (holds : Option Files) (before now : ℕ) where
   not_of verb.Prove k n = (refl, refl)
   not_of verb.Decide k n = (refl, refl)
   not_of verb.Rewrite k n = absurd (n tt)
-  not_of verb.Pairs k n = (refl, refl)
+  not_of verb.Pairs k n = absurd (n tt)
   not_of verb.Gen k n = (refl, refl)
 
   module _ (words : List (List ℕ)) where
@@ -47,6 +47,7 @@ module _ (table : Table) (holds : Option Files) (before now : ℕ) where
     of_command {status = status} {text = text} x (shows {name = name} y v p a) = of_other verb.Show status text x y v (name, p, a)
     of_command {status = status} {text = text} x (orders {name = name} y v p a) = of_other verb.Order status text x y v (name, p, a)
     of_command {status = status} {text = text} x (rewrites {name = name} {word = word} y v p a) = of_other verb.Rewrite status text x y v (name, word, p, a)
+    of_command {status = status} {text = text} x (pairs_up {name = name} y v p a) = of_other verb.Pairs status text x y v (name, p, a)
 
     -- the same by the command's verb
     pub of_verb : {command : Command} {status : ℕ} {text : List ℕ} (v : Verb) → command.verb ≡ v → Reads words command → Answers table holds before now words status text → Of v command status text
@@ -60,3 +61,4 @@ module _ (table : Table) (holds : Option Files) (before now : ℕ) where
     read_or_not status text (shows {command = other} y v p a) = inl (other, y)
     read_or_not status text (orders {command = other} y v p a) = inl (other, y)
     read_or_not status text (rewrites {command = other} y v p a) = inl (other, y)
+    read_or_not status text (pairs_up {command = other} y v p a) = inl (other, y)

@@ -34,6 +34,7 @@ use Rattle.uc_words.specs.Reads.{Reads}
 use Rattle.uc_top.specs.Lines.{located, about_file, spaced, what_word, load_line, proof_line, checked_line, shown_lines, usage_line}
 use Rattle.uc_top.specs.OrderAnswers.{IsOrdered}
 use Rattle.uc_top.specs.RewriteAnswers.{IsRewritten}
+use Rattle.uc_top.specs.PairsAnswers.{IsPaired}
 
 -- this holds of the library's files, where it tells them
 abbrev pub WhereTold : Option Files → (Files → Type 0) → Type 0
@@ -72,6 +73,7 @@ IsBuilt verb.Check = Unit {0}
 IsBuilt verb.Show = Unit {0}
 IsBuilt verb.Order = Unit {0}
 IsBuilt verb.Rewrite = Unit {0}
+IsBuilt verb.Pairs = Unit {0}
 IsBuilt other = ⊥
 
 -- Symbols are those of this table.
@@ -125,6 +127,10 @@ module _ (table : Table) where
     abbrev pub RewriteAnswers : OrderWords → ℕ → List ℕ → Option (List ℕ) → List ℕ → ℕ → List ℕ → Type 0
     RewriteAnswers order limit word root name = LoadAnswers (IsRewritten table order limit word) root name
 
+    -- the answer to `pairs` for the problem file of this name, by the order that these words name, with this root
+    abbrev pub PairsAnswers : OrderWords → Option (List ℕ) → List ℕ → ℕ → List ℕ → Type 0
+    PairsAnswers order root name = LoadAnswers (IsPaired table order) root name
+
     -- the answer to the words of a command line; each command that is built has a case
     module _ (words : List (List ℕ)) where
       pub data Answers : ℕ → List ℕ → Type 0 where
@@ -134,3 +140,4 @@ module _ (table : Table) where
         shows : {command : Command} {name : List ℕ} {status : ℕ} {answer : List ℕ} → Reads words command → command.verb ≡ verb.Show → command.positionals ≡ name ∷ [] → ShowAnswers command.root name status answer → Answers status answer
         orders : {command : Command} {name : List ℕ} {status : ℕ} {answer : List ℕ} → Reads words command → command.verb ≡ verb.Order → command.positionals ≡ name ∷ [] → OrderAnswers command.order command.root name status answer → Answers status answer
         rewrites : {command : Command} {name word : List ℕ} {status : ℕ} {answer : List ℕ} → Reads words command → command.verb ≡ verb.Rewrite → command.positionals ≡ name ∷ word ∷ [] → RewriteAnswers command.order command.limit word command.root name status answer → Answers status answer
+        pairs_up : {command : Command} {name : List ℕ} {status : ℕ} {answer : List ℕ} → Reads words command → command.verb ≡ verb.Pairs → command.positionals ≡ name ∷ [] → PairsAnswers command.order command.root name status answer → Answers status answer

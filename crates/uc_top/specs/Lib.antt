@@ -4,8 +4,10 @@ pub mod Directions
 pub mod OrderAnswers
 pub mod TermWords
 pub mod RewriteAnswers
+pub mod PairsAnswers
 pub mod Told
 pub mod Answers
 pub mod Runs
 pub mod OrderRuns
 pub mod RewriteRuns
+pub mod PairsRuns

@@ -30,7 +30,7 @@ fn way_text(left_to_right: bool) -> &'static [u8]
 }
 
 // A path in square brackets, with commas between its numbers.
-fn write_path(out: &mut Text, path: &[u32]) -> Result<(), AllocError>
+pub(crate) fn write_path(out: &mut Text, path: &[u32]) -> Result<(), AllocError>
     ensures { OnOk result (out.new ≡ out.old ++ path_text path.now) }
 {
     out.extend(b"[")?;
@@ -51,7 +51,7 @@ fn write_more_numbers(out: &mut Text, numbers: &[u32]) -> Result<(), AllocError>
     Ok(())
 }
 
-fn write_number(out: &mut Text, number: u32) -> Result<(), AllocError>
+pub(crate) fn write_number(out: &mut Text, number: u32) -> Result<(), AllocError>
     ensures { OnOk result (out.new ≡ out.old ++ decimal number) }
 {
     let mut buffer = Buffer::new();

@@ -17,6 +17,10 @@ mod loading;
 mod order_tests;
 mod ordering;
 mod output;
+mod pair_lines;
+mod pairing;
+#[cfg(test)]
+mod pairs_tests;
 mod program;
 #[cfg(test)]
 mod proof_tests;

@@ -11,10 +11,12 @@ ghost use Rattle.uc_top.specs.Lines.{joined, usage_line};
 ghost use Rattle.uc_top.specs.Runs.{MayAnswer, IsRun, IsCertified, Completes, CompletesCheck};
 ghost use Rattle.uc_top.specs.OrderRuns.{CompletesOrder};
 ghost use Rattle.uc_top.specs.RewriteRuns.{CompletesRewrite};
+ghost use Rattle.uc_top.specs.PairsRuns.{CompletesPairs};
 
 use crate::checking::check_answer;
 use crate::ordering::order_answer;
 use crate::output::{Answer, USAGE, of_line, tell, tell_memory_out};
+use crate::pairing::pairs_answer;
 use crate::rewriting::rewrite_answer;
 use crate::showing::show_answer;
 use std::alloc::{AllocError, Global};
@@ -51,6 +53,7 @@ pub fn run<R: Threads + Wait + Sync, L: Library, S: Sink, G: Gate + Sync>(
     ensures complete_check { (files : Files) → L.holds library.old ≡ Some files → (Rose (L.faults library.old) (L.faults library.new) → ⊥) → (Rose (S.faults sink.old) (S.faults sink.new) → ⊥) → CompletesCheck files (map string_bytes words.now) (S.written sink.old) (S.written sink.new) result }
     ensures complete_order { (files : Files) → L.holds library.old ≡ Some files → (Rose (L.faults library.old) (L.faults library.new) → ⊥) → (Rose (S.faults sink.old) (S.faults sink.new) → ⊥) → CompletesOrder files (map string_bytes words.now) (S.written sink.old) (S.written sink.new) result }
     ensures complete_rewrite { (files : Files) → L.holds library.old ≡ Some files → (Rose (L.faults library.old) (L.faults library.new) → ⊥) → (Rose (S.faults sink.old) (S.faults sink.new) → ⊥) → CompletesRewrite files (map string_bytes words.now) (S.written sink.old) (S.written sink.new) result }
+    ensures complete_pairs { (files : Files) → L.holds library.old ≡ Some files → (Rose (L.faults library.old) (L.faults library.new) → ⊥) → (Rose (S.faults sink.old) (S.faults sink.new) → ⊥) → CompletesPairs files (map string_bytes words.now) (S.written sink.old) (S.written sink.new) result }
     ensures same { L.holds library.new ≡ L.holds library.old }
     ensures later { L.faults library.old ≤ L.faults library.new }
     ensures sink_later { S.faults sink.old ≤ S.faults sink.new }
@@ -113,6 +116,10 @@ fn command_answer<L: Library>(
         },
         Verb::Rewrite => match command.positionals.as_slice() {
             [name, word] => rewrite_answer(alloc, command, name, word, library),
+            _ => unreachable!(),
+        },
+        Verb::Pairs => match command.positionals.as_slice() {
+            [name] => pairs_answer(alloc, command.root.as_ref(), name, &command.order, library),
             _ => unreachable!(),
         },
         _ => usage_answer(alloc),

@@ -1,6 +1,6 @@
 use Rattle.std.proofs.Common.{◌≡◌, [], ◌∷◌, refl, sym, ◌∙◌, subst, arith}
 use Rattle.std.proofs.lemmas.Result.{IfOk-weaker}
-use Rattle.uc_top.specs.Answers.{checks, shows, orders, rewrites, isnt_built}
+use Rattle.uc_top.specs.Answers.{checks, shows, orders, rewrites, pairs_up, isnt_built}
 use Rattle.uc_top.specs.Runs.{MayAnswer, is_answer}
 use Rattle.uc_top.proofs.Answering.{one_line, one_name, two_names, not_built, none_distinct, usage_not_done}
 use Rattle.uc_top.proofs.ShortWords.{AreShort, positionals_short}
@@ -43,9 +43,14 @@ returns-in-len2-as_slice-clause-answers g c words r =
     let names : c.args.command.now.positionals ≡ c.name-item-then-this-lt3-2.result ∷ c.word-item.result ∷ [] = sym c.as_slice-in-Rewrite.ensures ∙ two_names c.as_slice-in-Rewrite.result.now c.name-item-then-this-lt3-2.result c.word-item.result c.in-len2-as_slice.len_at_least c.in-len2-as_slice.len_below c.name-item-then-this-lt3-2.is c.word-item.is in
     IfOk-weaker c.rewrite_answer.result _ _ (λ answer a. is_answer a.1 (rewrites r c.in-Rewrite.is names a.2)) c.rewrite_answer.ensures.answers
 
+pub returns-in-len1-as_slice-2-clause-answers : goal.returns-in-len1-as_slice-2-clause-answers
+returns-in-len1-as_slice-2-clause-answers g c words r =
+    let names : c.args.command.now.positionals ≡ c.name-item-then-this-lt2-3.result ∷ [] = sym c.as_slice-in-Pairs.ensures ∙ one_name c.as_slice-in-Pairs.result.now c.name-item-then-this-lt2-3.result c.in-len1-as_slice-2.len_at_least c.in-len1-as_slice-2.len_below c.name-item-then-this-lt2-3.is in
+    IfOk-weaker c.pairs_answer.result _ _ (λ answer a. is_answer a.1 (pairs_up r c.in-Pairs.is names a.2)) (rw c.as_ref-in-len1-as_slice-2.ensures.value at c.pairs_answer.ensures.answers)
+
 pub returns-in_default : goal.returns-in_default
 returns-in_default g c = record {
-  answers = λ words r. one_line c.usage_answer.result (MayAnswer _ _ _ words) _ _ c.usage_answer.ensures (is_answer {table = []} none_distinct (isnt_built r (not_built _ c.in_default.not-Check c.in_default.not-Show c.in_default.not-Order c.in_default.not-Rewrite)));
+  answers = λ words r. one_line c.usage_answer.result (MayAnswer _ _ _ words) _ _ c.usage_answer.ensures (is_answer {table = []} none_distinct (isnt_built r (not_built _ c.in_default.not-Check c.in_default.not-Show c.in_default.not-Order c.in_default.not-Rewrite c.in_default.not-Pairs)));
   certified = λ v. usage_not_done _ c.usage_answer.result _ c.usage_answer.ensures;
   same = refl;
   later = omega arith;

@@ -3,6 +3,7 @@ use Rattle.uc_top.proofs.Completing.{own_status, completes}
 use Rattle.uc_top.proofs.OrderCompleting.{order_completes}
 use Rattle.uc_top.proofs.CheckEnding.{completes_check}
 use Rattle.uc_top.proofs.RewriteCompleting.{rewrite_completes}
+use Rattle.uc_top.proofs.PairsCompleting.{pairs_complete}
 use Rattle.uc_top.proofs.program.run.Goals as goal
 
 pub returns-in-Err-clause-answers : goal.returns-in-Err-clause-answers
@@ -34,3 +35,9 @@ returns-in-Err-clause-complete_rewrite g c = rewrite_completes _ _ _ _ _ _ _ _ _
 
 pub returns-in-Ok-clause-complete_rewrite : goal.returns-in-Ok-clause-complete_rewrite
 returns-in-Ok-clause-complete_rewrite g c = rewrite_completes _ _ _ _ _ _ _ _ _ (record { status = _; text = _; answer = c.in-Ok.ensures.answers; told = c.tell.ensures.told })
+
+pub returns-in-Err-clause-complete_pairs : goal.returns-in-Err-clause-complete_pairs
+returns-in-Err-clause-complete_pairs g c = pairs_complete _ _ _ _ _ _ _ _ _ (record { status = 7; text = _; answer = wants_memory; told = c.tell_memory_out.ensures.told })
+
+pub returns-in-Ok-clause-complete_pairs : goal.returns-in-Ok-clause-complete_pairs
+returns-in-Ok-clause-complete_pairs g c = pairs_complete _ _ _ _ _ _ _ _ _ (record { status = _; text = _; answer = c.in-Ok.ensures.answers; told = c.tell.ensures.told })
