@@ -103,12 +103,14 @@ fn pairs_are_told(rt: HostRuntime) -> Result<(), Fail> {
     Ok(())
 }
 
-// By the default order g(g(X)) is greater than f(X), and there is no pair.
+// By the default order the first axiom leads from right to left, and by this one from left to right.
 #[test]
 fn the_order_is_asked(rt: HostRuntime) -> Result<(), Fail> {
     let alloc = rt.alloc();
-    let words = &["pairs", "--order", "lpo", "--precedence", "g<f", "p"];
     let problem = "cnf(c, axiom, f(X) = g(g(X))).\ncnf(d, axiom, f(a) = b).\n";
+    let own = "0 r 0 r [1] f(g(X1)) = g(f(X1))\n";
+    assert!(rt; is_answered(&rt, alloc, &["pairs", "p"], problem, 0, own)?);
+    let words = &["pairs", "--order", "lpo", "--precedence", "g<f", "p"];
     let lines = "1 l 0 l [] b = g(g(a))\n";
     assert!(rt; is_answered(&rt, alloc, words, problem, 0, lines)?);
     Ok(())
