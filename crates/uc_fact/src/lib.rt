@@ -16,3 +16,6 @@ pub use index::{Found, Index, Test, first_of};
 pub use joinable::{Joinable, Reason};
 pub use laws::{first_of_the_list, one_list};
 pub use uc_term::{Equation, Side};
+
+#[cfg(test)]
+mod tests;
