@@ -2,7 +2,8 @@
 # Ten million comparisons under either order of the pairs of terms that completing the axioms of groups meets
 # (crates/bench_orders/data/group_pairs, made by bench/pairs.py): crates/bench_orders beside the same algorithms in plain Rust
 # (bench/orders_plain). Prints the processor seconds of each, the least of nine runs, and their ratio. Then deep terms of both orders, of
-# so many levels and of twice as many. Run it at the top of the repository, after `rt ci bench_orders` or `rt check` there.
+# so many levels and of twice as many, and combs with a variable of its own in each level. Run it at the top of the repository, after
+# `rt ci bench_orders` or `rt check` there.
 set -euo pipefail
 cd "$(dirname "$0")/.."
 target=$(mktemp -d)
@@ -36,4 +37,5 @@ beside() {
 beside "uc_kbo" "$ours 31250 0" "plain Rust" "$plain 31250 0"
 beside "uc_lpo" "$ours 0 31250" "plain Rust" "$plain 0 31250"
 beside "uc_kbo, 400,000 levels" "$ours 0 0 400000 0" "half as many" "$ours 0 0 200000 0"
+beside "uc_kbo, 2,000 variables" "$ours 0 0 0 0 2000" "half as many" "$ours 0 0 0 0 1000"
 beside "uc_lpo, 8,000 levels" "$ours 0 0 0 8000" "half as many" "$ours 0 0 0 4000"

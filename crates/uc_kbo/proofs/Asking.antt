@@ -4,11 +4,11 @@ use Rattle.std.specs.Prelude.{Some}
 use Rattle.std.proofs.lemmas.List.Sums.{sum_by-cons}
 use Rattle.std.proofs.lemmas.Bool.Decides.{nat_tests}
 use Rattle.uc_term.specs.declared.node.Node.{Node}
-use Rattle.uc_term.specs.Tree.{Tree, var, app, Trees, none, more, count}
+use Rattle.uc_term.specs.Tree.{Tree, var, app, Trees, none, more}
 use Rattle.uc_term.specs.Variables.{variables}
 use Rattle.uc_order.specs.declared.order.Cmp.{Cmp}
 use Rattle.uc_order.specs.declared.order.Cmp.TheVariants.{Greater, Less, Equal}
-use Rattle.uc_kbo.specs.Kbo.{Covers, Weighing, weight, Kbo, by_variables, by_tower, by_weight, by_head, by_args, FirstGreater, first_here, first_same, is_it, None}
+use Rattle.uc_kbo.specs.Kbo.{Covers, Weighing, Kbo, by_variables, by_tower, by_weight, by_head, by_args, FirstGreater, first_here, first_same, is_it, None}
 use Rattle.uc_kbo.specs.Runs.{IsVerdict, is_counted}
 use Rattle.uc_kbo.specs.Balances.{has_counter, is_asked, AsksFor, is_below}
 use Rattle.uc_term.proofs.Terms.{take_of_length-le}

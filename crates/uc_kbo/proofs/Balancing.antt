@@ -1,5 +1,5 @@
 -- Balances of runs that grow.
-use Rattle.std.proofs.Common.{◌≡◌, ◌≢◌, ◌↔◌, ℕ, zero, suc, ◌+◌, ◌-◌, ◌<◌, ◌≤◌, ◌==◌, List, [], ◌∷◌, length, take, drop, get_or, slice_index, refl, sym, ap, ◌∙◌, subst, arith, sum_by, count_by, cond, ◌⊎◌, inl, inr, Bool, true, false, nat_lt, replicate, if◌then◌else◌}
+use Rattle.std.proofs.Common.{◌≡◌, ◌↔◌, ℕ, zero, suc, ◌+◌, ◌-◌, ◌<◌, ◌≤◌, ◌==◌, List, [], ◌∷◌, length, take, drop, get_or, slice_index, refl, sym, ap, ◌∙◌, subst, arith, count_by, cond, ◌⊎◌, inl, inr, Bool, true, false, replicate, if◌then◌else◌}
 use Rattle.std.proofs.lemmas.List.{length-replicate, get_or-replicate, length-take-le}
 use Rattle.std.proofs.lemmas.List.Sums.{sum_by-cons, sum_by-take-le}
 use Rattle.std.proofs.lemmas.List.Folds.{sum_by-replicate}
@@ -15,7 +15,7 @@ use Rattle.uc_kbo.specs.declared.balance.Balance.{Balance}
 use Rattle.uc_kbo.specs.Kbo.{Weighing, is_it, None}
 use Rattle.uc_kbo.specs.Runs.{IsRun, IsVerdict, HasAll, part, is_counted, test_by, above_by, slot_by, read_by}
 use Rattle.uc_kbo.specs.Balances.{has_fewer, has_more, has_counter, is_asked, AsksFor, IsTallied, IsBalance}
-use Rattle.uc_kbo.proofs.Parts.{sum_join, length-part, count_small}
+use Rattle.uc_kbo.proofs.Parts.{sum_join, count_small}
 use Rattle.uc_kbo.proofs.Covering.{read_plain, count_step}
 
 -- how often a variable is among nodes

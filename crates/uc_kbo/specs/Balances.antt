@@ -1,5 +1,5 @@
 -- The balance of the variables of two runs: how much more often each is in the first than in the second.
-use Rattle.std.specs.Prelude.{ℕ, ◌+◌, ◌≡◌, ◌==◌, ◌<◌, ◌&&◌, List, length, drop, slice_index, count_by, Bool, true, false, not, nat_lt, Option, Some, None, IsTrue, if◌then◌else◌}
+use Rattle.std.specs.Prelude.{ℕ, ◌+◌, ◌≡◌, ◌==◌, ◌<◌, ◌&&◌, List, length, slice_index, count_by, Bool, true, false, not, nat_lt, Option, Some, None, if◌then◌else◌}
 use Rattle.uc_term.specs.declared.node.Node.{Node}
 use Rattle.uc_kbo.specs.declared.balance.Balance.{Balance}
 use Rattle.uc_kbo.specs.declared.wide.Both.{Both}

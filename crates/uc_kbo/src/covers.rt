@@ -74,7 +74,8 @@ fn has_from(a: &Run, b: &Run) -> bool
     true
 }
 
-// The same by counting anew for each variable or class.
+// The same by counting anew for each variable or class. Only under an order of variables do terms come here, those with a
+// variable whose class has no counter; without one `compare_wide` has them.
 #[cold]
 fn has_all_nodes(under: bool, classes: &[Seq<u32>], s: &[Node], t: &[Node]) -> bool
     ensures { IsTrue result ↔ HasAll (test_by under classes.now) (read_by under classes.now s.now) (read_by under classes.now t.now) }

@@ -1,6 +1,7 @@
-//! The comparison of two terms that have variables without a counter in a run. It climbs like that of the others, but each
-//! level asks one balance of both terms, so a climb takes time that grows with the nodes alone. A climb counts 8,192
-//! variables; where others occur there is one more for each 8,192 numbers among which a variable is.
+//! The comparison of two terms that have variables without a counter in a run. It goes up level by level like `climb`, but
+//! asks one balance of both terms at each level, so a climb takes time that grows with the nodes alone, however many
+//! variables they have. A climb counts 8,192 variables; where others occur there is one climb more for each 8,192 numbers
+//! among which a variable is.
 
 ghost use Rattle.std.specs.Prelude.{◌≡◌, ◌≢◌, ◌↔◌, ◌+◌, ℕ, ◌<◌, ◌≤◌, ◌^◌, Bool, Option, IsTrue, length, slice_index_or, take, drop, count_by, false};
 ghost use Rattle.uc_term.specs.declared.node.Node.{Node as AnyNode};
@@ -197,8 +198,9 @@ fn agreed(a: Cmp, b: Cmp) -> Cmp
     if a == b { a } else { Cmp::Unknown }
 }
 
-// The order of two terms from the first place where they differ. Each climb asks for some of the variables, and one term is
-// greater where each climb says so.
+// The order of two terms from the first place where they differ. Each climb asks for some of the variables, and a term is
+// greater where each climb says so. Its stack holds the counters of a balance, and that of the other terms' comparison
+// doesn't: so it is kept apart.
 #[cold]
 #[inline(never)]
 pub fn compare_wide(w: &Weights, s: &[Node], t: &[Node], at: usize) -> Cmp

@@ -13,7 +13,7 @@ use Rattle.uc_fact.specs.declared.index.Found.{Found}
 use Rattle.uc_fact.specs.Live.{Rule, fact_at, numbered_from, numbered, rule_of, rules_of}
 use Rattle.uc_term.specs.declared.equation.Side.TheVariants.{Left, Right}
 use Rattle.uc_fact.specs.Retrieval.{Generalises, no_rules, is_instance, is_no_instance, IsFound, by_first, by_later, FirstThat, no_rule_left, accepted, not_accepted}
-use Rattle.uc_rewrite.specs.Against.{HasMatch}
+use Rattle.uc_fact.specs.Against.{HasMatch}
 use Rattle.uc_rewrite.specs.Scanning.{live_fact, Adds}
 
 pub err_of : {T E : Type 0} (r : Result T E) (P : Type 0) → P → OnErr r P

@@ -3,6 +3,5 @@ pub mod Comparing
 pub mod Completed
 pub mod Walking
 pub mod Ends
-pub mod Against
 pub mod Scanning
 pub mod Replay

@@ -8,13 +8,12 @@ ghost use Rattle.uc_fact.specs.Live.{rule_of, rules_of};
 ghost use Rattle.uc_fact.specs.Retrieval.{FindsNothing, IsFound, FirstThat};
 ghost use Rattle.uc_rewrite.specs.Scanning.{live_fact, Adds};
 
-use crate::matching::matching;
 use std::alloc::{AllocError, Global};
-use uc_fact::{Equation, Found, Index, Side, Test};
+use uc_fact::{Equation, Found, Index, Side, Test, matching};
 use uc_term::{MAX_NODES, Node, Seq, Term};
 
-/// An index of equations, numbered by their places, that looks through the list of them. It takes memory for what it gives
-/// alone: a side that the term is no instance of is told by a walk over both.
+/// An index of equations, numbered by their places, that looks through the list of them. It takes no
+/// memory for a side that the term is no instance of: that is told by a walk over both.
 #[derive(Drop)]
 pub struct Scan<'a> {
     facts: &'a [Equation],

@@ -3,7 +3,7 @@ use Rattle.uc_term.specs.Equations.{side_of}
 use Rattle.uc_term.specs.Flat.{tree_of}
 use Rattle.uc_fact.specs.Live.{rule_of}
 use Rattle.uc_fact.specs.Retrieval.{FindsNothing, no_rules, is_instance, is_no_instance}
-use Rattle.uc_rewrite.specs.Against.{HasMatch}
+use Rattle.uc_fact.specs.Against.{HasMatch}
 use Rattle.uc_rewrite.specs.Scanning.{live_fact}
 use Rattle.uc_rewrite.proofs.Scanned.{match_some, match_none, err_of, something, something_by}
 use Rattle.uc_rewrite.proofs.scan.add_match.Goals as goal

@@ -5,7 +5,7 @@ use Rattle.uc_term.specs.Subst.{image}
 use Rattle.uc_fact.specs.Live.{rule_of}
 use Rattle.uc_fact.specs.Retrieval.{FindsNothing, by_first, no_rule_left, accepted, not_accepted}
 use Rattle.uc_fact.proofs.Matched.{one_match}
-use Rattle.uc_rewrite.specs.Against.{HasMatch}
+use Rattle.uc_fact.specs.Against.{HasMatch}
 use Rattle.uc_rewrite.specs.Scanning.{live_fact}
 use Rattle.uc_rewrite.proofs.Scanned.{match_some, match_none, err_of, something, something_by}
 use Rattle.uc_rewrite.proofs.scan.first_of_side.Goals as goal

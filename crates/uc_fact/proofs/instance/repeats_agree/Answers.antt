@@ -1,8 +1,8 @@
 use Rattle.std.proofs.Common.{◌≡◌, Bool, true, false, IsTrue, refl}
 use Rattle.uc_term.proofs.Terms.{whole_one}
-use Rattle.uc_rewrite.proofs.Fitting.{one_at_start, one_at_head, one_at_var, one_at_refused, one_at_end, within_var, split_var}
-use Rattle.uc_rewrite.proofs.matching.repeats_agree.Goals as goal
-use Rattle.uc_rewrite.proofs.matching.repeats_agree.Goals.{in-Var+else-not-is_new_or_same, in-App}
+use Rattle.uc_fact.proofs.Fitting.{one_at_start, one_at_head, one_at_var, one_at_refused, one_at_end, within_var, split_var}
+use Rattle.uc_fact.proofs.instance.repeats_agree.Goals as goal
+use Rattle.uc_fact.proofs.instance.repeats_agree.Goals.{in-Var+else-not-is_new_or_same, in-App}
 
 passed : {A : Type 0} (b : Bool) → b ≡ true → (IsTrue b → A) → A
 passed true e h = h refl

@@ -5,7 +5,7 @@ ghost use Rattle.uc_term.specs.Tree.{Tree};
 ghost use Rattle.uc_term.specs.Flat.{IsWhole, tree_of};
 ghost use Rattle.uc_term.specs.Subst.{found};
 ghost use Rattle.uc_unify.specs.Matching.{IsMatch, HasNoMatch};
-ghost use Rattle.uc_rewrite.specs.Against.{Fits, against, HasMatch};
+ghost use Rattle.uc_fact.specs.Against.{Fits, against, HasMatch};
 
 use std::alloc::{AllocError, Global};
 use uc_term::{MAX_NODES, Node, Subst, Sym, end_of, same_nodes};

@@ -1,11 +1,7 @@
-use Rattle.std.proofs.Common.{◌≡◌, Some, ap, ◌∙◌, refl, subst}
-use Rattle.uc_term.specs.Subst.{found}
-use Rattle.uc_term.specs.Flat.{tree_of}
 use Rattle.uc_term.proofs.Terms.{whole_one}
-use Rattle.uc_rewrite.specs.Against.{against}
-use Rattle.uc_rewrite.proofs.Fitting.{none_at_start, none_at_head, none_at_var, none_at_here, none_at_end, within_var, split_var}
-use Rattle.uc_rewrite.proofs.matching.first_against.Goals as goal
-use Rattle.uc_rewrite.proofs.matching.first_against.Goals.{in-Var+else-x-y, in-App}
+use Rattle.uc_fact.proofs.Fitting.{none_at_start, none_at_head, none_at_var, none_at_here, none_at_end, within_var, split_var}
+use Rattle.uc_fact.proofs.instance.first_against.Goals as goal
+use Rattle.uc_fact.proofs.instance.first_against.Goals.{in-Var+else-x-y, in-App}
 
 pub loop-node-init : goal.loop-node-init
 loop-node-init c = none_at_start c.args.pattern.now c.args.term.now c.requires.whole_pattern c.requires.whole_term c.args.x

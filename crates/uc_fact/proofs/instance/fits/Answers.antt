@@ -1,8 +1,8 @@
 use Rattle.std.proofs.Common.{◌≡◌, Bool, true, false, IsTrue, refl}
 use Rattle.uc_term.proofs.Terms.{whole_one}
-use Rattle.uc_rewrite.proofs.Fitting.{at_start, at_head, at_clash, at_var, within_var, fit_at_end}
-use Rattle.uc_rewrite.proofs.matching.fits.Goals as goal
-use Rattle.uc_rewrite.proofs.matching.fits.Goals.{in-Var, in-App+else-not-is_head}
+use Rattle.uc_fact.proofs.Fitting.{at_start, at_head, at_clash, at_var, within_var, fit_at_end}
+use Rattle.uc_fact.proofs.instance.fits.Goals as goal
+use Rattle.uc_fact.proofs.instance.fits.Goals.{in-Var, in-App+else-not-is_head}
 
 clashed : (b : Bool) → b ≡ false → IsTrue b → ⊥
 clashed true e h = cc

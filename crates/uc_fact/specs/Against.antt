@@ -1,8 +1,6 @@
 -- What stands in a term against the variables of a pattern.
-use Rattle.std.specs.Prelude.{ℕ, ◌≡◌, ◌<◌, List, [], ◌∷◌, ◌++◌, Some}
+use Rattle.std.specs.Prelude.{ℕ, ◌≡◌, List, [], ◌∷◌, ◌++◌}
 use Rattle.uc_term.specs.Tree.{Tree, var, app, Trees, none, more, apply}
-use Rattle.uc_term.specs.Subst.{found}
-use Rattle.uc_order.specs.Members.{Each}
 
 -- the term has the pattern's symbols where the pattern has them
 abbrev mutual

@@ -1,13 +1,13 @@
 -- What stands against a pattern's variables decides whether a term is an instance of it.
 use Rattle.std.proofs.Common.{◌≡◌, ℕ, ◌==◌, ◌+◌, ◌<◌, ◌≤◌, Bool, true, false, List, [], ◌∷◌, ◌++◌, Option, Some, None, unwrap_or, if◌then◌else◌, refl, sym, ap, ap₂, ◌∙◌, ◌⊎◌, inl, inr, arith, append_assoc, subst}
-use Rattle.std.proofs.lemmas.Bool.{eqb-true, eq-eqb}
+use Rattle.std.proofs.lemmas.Bool.{eqb-true}
 use Rattle.uc_term.specs.Tree.{Tree, var, app, Trees, none, more, count, apply, apply_all}
 use Rattle.uc_term.specs.Subst.{found, image}
 use Rattle.uc_term.proofs.Ahead.{join}
 use Rattle.uc_term.proofs.Pairs.{known, found_past, found_here}
 use Rattle.uc_unify.specs.Matching.{HasNoMatch}
-use Rattle.uc_order.specs.Members.{Each}
-use Rattle.uc_rewrite.specs.Against.{Fits, AllFit, against, against_all, HasMatch}
+use Rattle.std.specs.List.{AllByRecursion}
+use Rattle.uc_fact.specs.Against.{Fits, AllFit, against, against_all, HasMatch}
 
 abbrev pub Pairs : Type 0
 Pairs = List (ℕ × Tree)
@@ -15,23 +15,23 @@ Pairs = List (ℕ × Tree)
 abbrev pick : Bool → Tree → Option Tree → Option Tree
 pick b t o = if b then Some t else o
 
-pub each_append : {A : Type 0} (P : A → Type 0) (xs ys : List A) → Each P xs → Each P ys → Each P (xs ++ ys)
+pub each_append : {A : Type 0} (P : A → Type 0) (xs ys : List A) → AllByRecursion P xs → AllByRecursion P ys → AllByRecursion P (xs ++ ys)
 each_append P [] ys h k = k
 each_append P (x ∷ xs) ys h k = (h.0, each_append P xs ys h.1 k)
 
-each_map : {A : Type 0} (P Q : A → Type 0) (xs : List A) → ((x : A) → P x → Q x) → Each P xs → Each Q xs
+each_map : {A : Type 0} (P Q : A → Type 0) (xs : List A) → ((x : A) → P x → Q x) → AllByRecursion P xs → AllByRecursion Q xs
 each_map P Q [] f h = tt
 each_map P Q (x ∷ xs) f h = (f x h.0, each_map P Q xs f h.1)
 
-each_left : {A : Type 0} (P : A → Type 0) (xs ys : List A) → Each P (xs ++ ys) → Each P xs
+each_left : {A : Type 0} (P : A → Type 0) (xs ys : List A) → AllByRecursion P (xs ++ ys) → AllByRecursion P xs
 each_left P [] ys h = tt
 each_left P (x ∷ xs) ys h = (h.0, each_left P xs ys h.1)
 
-each_right : {A : Type 0} (P : A → Type 0) (xs ys : List A) → Each P (xs ++ ys) → Each P ys
+each_right : {A : Type 0} (P : A → Type 0) (xs ys : List A) → AllByRecursion P (xs ++ ys) → AllByRecursion P ys
 each_right P [] ys h = h
 each_right P (x ∷ xs) ys h = each_right P xs ys h.1
 
-pub mapped : {A : Type 0} (P Q : A → Type 0) (xs : List A) → ((x : A) → P x → Q x) → Each P xs → Each Q xs
+pub mapped : {A : Type 0} (P Q : A → Type 0) (xs : List A) → ((x : A) → P x → Q x) → AllByRecursion P xs → AllByRecursion Q xs
 mapped = each_map
 
 pub none_left : (ts : Trees) → 0 ≡ count ts → ts ≡ none
@@ -80,11 +80,11 @@ module _ (σ : ℕ → Tree) where
     fit_self (more p ps) = (fits_self p, fit_self ps)
 
   mutual
-    gives_self : (p : Tree) → Each (Gives σ) (against p (apply σ p))
+    gives_self : (p : Tree) → AllByRecursion (Gives σ) (against p (apply σ p))
     gives_self (var x) = (refl, tt)
     gives_self (app f ps) = give_self ps
 
-    give_self : (ps : Trees) → Each (Gives σ) (against_all ps (apply_all σ ps))
+    give_self : (ps : Trees) → AllByRecursion (Gives σ) (against_all ps (apply_all σ ps))
     give_self none = tt
     give_self (more p ps) = each_append (Gives σ) (against p (apply σ p)) (against_all ps (apply_all σ ps)) (gives_self p) (give_self ps)
 
@@ -92,23 +92,23 @@ module _ (σ : ℕ → Tree) where
   pub fits_instance : (p t : Tree) → apply σ p ≡ t → Fits p t
   fits_instance p t e = subst (Fits p) e (fits_self p)
 
-  gives_instance : (p t : Tree) → apply σ p ≡ t → Each (Gives σ) (against p t)
-  gives_instance p t e = subst (λ z. Each (Gives σ) (against p z)) e (gives_self p)
+  gives_instance : (p t : Tree) → apply σ p ≡ t → AllByRecursion (Gives σ) (against p t)
+  gives_instance p t e = subst (λ z. AllByRecursion (Gives σ) (against p z)) e (gives_self p)
 
   -- and the other way round
   mutual
-    is_instance : (p t : Tree) → Fits p t → Each (Gives σ) (against p t) → apply σ p ≡ t
+    is_instance : (p t : Tree) → Fits p t → AllByRecursion (Gives σ) (against p t) → apply σ p ≡ t
     is_instance (var x) t f g = g.0
     is_instance (app f ps) (var y) h g = elim h [ ]
     is_instance (app f ps) (app k ts) h g = ap₂ app h.0 (are_instances ps ts h.1 g)
 
-    are_instances : (ps ts : Trees) → AllFit ps ts → Each (Gives σ) (against_all ps ts) → apply_all σ ps ≡ ts
+    are_instances : (ps ts : Trees) → AllFit ps ts → AllByRecursion (Gives σ) (against_all ps ts) → apply_all σ ps ≡ ts
     are_instances none none h g = refl
     are_instances none (more t ts) h g = elim h [ ]
     are_instances (more p ps) none h g = elim h [ ]
     are_instances (more p ps) (more t ts) h g = ap₂ more (is_instance p t h.0 (each_left (Gives σ) (against p t) (against_all ps ts) g)) (are_instances ps ts h.1 (each_right (Gives σ) (against p t) (against_all ps ts) g))
 
-  value_found : (ps : Pairs) (x : ℕ) (u : Tree) → Each (Gives σ) ps → found ps x ≡ Some u → σ x ≡ u
+  value_found : (ps : Pairs) (x : ℕ) (u : Tree) → AllByRecursion (Gives σ) ps → found ps x ≡ Some u → σ x ≡ u
   value_found [] x u g e = absurd cc
   value_found (p ∷ ps) x u g e = go (p.0 == x) refl (value_found ps x u g.1) e
     where
@@ -120,7 +120,7 @@ module _ (σ : ℕ → Tree) where
 abbrev pub IsFirst : Pairs → ℕ × Tree → Type 0
 IsFirst all pair = found all pair.0 ≡ Some pair.1
 
-pub match_of : (p t : Tree) → Fits p t → Each (IsFirst (against p t)) (against p t) → HasMatch p t
+pub match_of : (p t : Tree) → Fits p t → AllByRecursion (IsFirst (against p t)) (against p t) → HasMatch p t
 match_of p t f g = record { σ = image (against p t); gives = is_instance (image (against p t)) p t f (each_map (IsFirst (against p t)) (Gives (image (against p t))) (against p t) (λ pair e. ap (λ o. unwrap_or o (var pair.0)) e) g) }
 
 -- what is found for a variable of one of the pairs
@@ -136,18 +136,18 @@ found_in (p ∷ front) x u rest e = go (p.0 == x) (found_in front x u rest) e
 pub no_match : (p t : Tree) (front : Pairs) (x : ℕ) (u : Tree) (rest : Pairs) → against p t ≡ front ++ (x, u) ∷ rest → ((first : Tree) → found (against p t) x ≡ Some first → first ≡ u → ⊥) → HasNoMatch p t
 no_match p t front x u rest e n σ m = go (known (found (against p t) x))
   where
-    values : Each (Gives σ) (against p t)
+    values : AllByRecursion (Gives σ) (against p t)
     values = gives_instance σ p t m
 
     here : σ x ≡ u
-    here = (each_right (Gives σ) front ((x, u) ∷ rest) (subst (Each (Gives σ)) e values)).0
+    here = (each_right (Gives σ) front ((x, u) ∷ rest) (subst (AllByRecursion (Gives σ)) e values)).0
 
     go : ((s : Tree) × (found (against p t) x ≡ Some s)) ⊎ (found (against p t) x ≡ None) → ⊥
     go (inl s) = n s.0 s.1 (sym (value_found σ (against p t) x s.0 values s.1) ∙ here)
     go (inr f) = found_in front x u rest (ap (λ l. found l x) (sym e) ∙ f)
 
 -- numbers below a bound that x isn't below
-not_among : (front : Pairs) (bound x : ℕ) → Each (λ pair. pair.0 < bound) front → bound ≤ x → found front x ≡ None
+not_among : (front : Pairs) (bound x : ℕ) → AllByRecursion (λ pair. pair.0 < bound) front → bound ≤ x → found front x ≡ None
 not_among [] bound x h k = refl
 not_among (p ∷ front) bound x h k = go (p.0 == x) refl (not_among front bound x h.1 k)
   where
@@ -155,7 +155,7 @@ not_among (p ∷ front) bound x h k = go (p.0 == x) refl (not_among front bound 
     go true q e = absurd (let s : p.0 ≡ x = eqb-true p.0 x q in let l = h.0 in omega arith)
     go false q e = e
 
-pub first_new : (front : Pairs) (bound x : ℕ) (u : Tree) (rest : Pairs) → Each (λ pair. pair.0 < bound) front → bound ≤ x → found (front ++ (x, u) ∷ rest) x ≡ Some u
+pub first_new : (front : Pairs) (bound x : ℕ) (u : Tree) (rest : Pairs) → AllByRecursion (λ pair. pair.0 < bound) front → bound ≤ x → found (front ++ (x, u) ∷ rest) x ≡ Some u
 first_new front bound x u rest h k = found_past front ((x, u) ∷ rest) x (not_among front bound x h k) ∙ found_here x u rest
 
 pub first_here : (front : Pairs) (x : ℕ) (u : Tree) (rest : Pairs) → found front x ≡ None → found (front ++ (x, u) ∷ rest) x ≡ Some u
@@ -169,5 +169,5 @@ still_none front x y u n d = found_past front ((y, u) ∷ []) x n ∙ go (y == x
     go false q = ap (λ b. pick b u None) q
 
 -- a pair more
-pub low_more : (front : Pairs) (bound new x : ℕ) (u : Tree) → Each (λ pair. pair.0 < bound) front → bound ≤ new → x < new → Each (λ pair. pair.0 < new) (front ++ (x, u) ∷ [])
+pub low_more : (front : Pairs) (bound new x : ℕ) (u : Tree) → AllByRecursion (λ pair. pair.0 < bound) front → bound ≤ new → x < new → AllByRecursion (λ pair. pair.0 < new) (front ++ (x, u) ∷ [])
 low_more front bound new x u h k l = each_append (λ pair. pair.0 < new) front ((x, u) ∷ []) (each_map (λ pair. pair.0 < bound) (λ pair. pair.0 < new) front (λ pair e. omega (arith, e)) h) (l, tt)

@@ -3,7 +3,7 @@ use Rattle.std.proofs.Common.{◌≡◌, ℕ, ◌+◌, ◌<◌, ◌≤◌, ◌-�
 use Rattle.uc_term.specs.declared.node.Sym.{Sym}
 use Rattle.uc_term.specs.declared.node.Node.{Node}
 use Rattle.uc_term.specs.declared.node.Node.TheVariants.{Var, App}
-use Rattle.uc_term.specs.Tree.{Tree, var, app, Trees, none, more, count, nodes, apply}
+use Rattle.uc_term.specs.Tree.{Tree, var, app, Trees, none, more, count, nodes}
 use Rattle.uc_term.specs.Flat.{trees_of, tree_of, IsWhole}
 use Rattle.uc_term.specs.Subst.{found}
 use Rattle.uc_term.proofs.Terms.{whole_one}
@@ -11,9 +11,9 @@ use Rattle.uc_term.proofs.Ahead.{join, count-join}
 use Rattle.uc_term.proofs.Joins.{opened_at, var_at, place_within, trees_of-end, trees_of-whole}
 use Rattle.uc_term.proofs.Parts.{Split, split}
 use Rattle.uc_unify.specs.Matching.{HasNoMatch}
-use Rattle.uc_order.specs.Members.{Each}
-use Rattle.uc_rewrite.specs.Against.{Fits, AllFit, against, against_all, HasMatch}
-use Rattle.uc_rewrite.proofs.Agreeing.{Pairs, IsFirst, none_left, count_of_fit, fit_join, fit_parts, against_join, fits_instance, match_of, no_match, each_append, first_new, first_here, still_none, low_more}
+use Rattle.std.specs.List.{AllByRecursion}
+use Rattle.uc_fact.specs.Against.{Fits, AllFit, against, against_all, HasMatch}
+use Rattle.uc_fact.proofs.Agreeing.{Pairs, IsFirst, none_left, count_of_fit, fit_join, fit_parts, against_join, fits_instance, match_of, no_match, each_append, first_new, first_here, still_none, low_more}
 
 -- what is left of both fits exactly where the whole does, and what stands against variables there stands behind the rest
 pub record Standing (P T : Tree) (ps ts : Trees) : Type 0 where
@@ -55,8 +55,8 @@ module _ (P T : Tree) where
 -- the first subterms stand against all variables that were walked over, which are below a bound
 pub record OneSoFar (P T : Tree) (bound : ℕ) (ps ts : Trees) : Type 0 where
   pub standing : Standing P T ps ts
-  pub each : Each (IsFirst (against P T)) standing.front
-  pub low : Each (λ pair. pair.0 < bound) standing.front
+  pub each : AllByRecursion (IsFirst (against P T)) standing.front
+  pub low : AllByRecursion (λ pair. pair.0 < bound) standing.front
 
 -- x wasn't walked over
 pub record NoneSoFar (P T : Tree) (x : ℕ) (ps ts : Trees) : Type 0 where
@@ -84,7 +84,7 @@ module _ (P T : Tree) where
   one_end : (bound : ℕ) (ts : Trees) → OneSoFar P T bound none ts → HasMatch P T
   one_end bound ts o =
       let fit = (standing_end P T ts o.standing).0 in
-      match_of P T fit (subst (Each (IsFirst (against P T))) (sym (o.standing.against_is ∙ append-nil o.standing.front)) o.each)
+      match_of P T fit (subst (AllByRecursion (IsFirst (against P T))) (sym (o.standing.against_is ∙ append-nil o.standing.front)) o.each)
 
   none_head : (x : ℕ) (f : Sym) (us bs cs ds : Trees) → count us ≡ count cs → NoneSoFar P T x (more (app f us) bs) (more (app f cs) ds) → NoneSoFar P T x (join us bs) (join cs ds)
   none_head x f us bs cs ds c o = record { standing = standing_head P T f us bs cs ds c o.standing; none_yet = o.none_yet }
