@@ -1,5 +1,5 @@
 -- Ordered steps bring no new variables, and lead from terms whose instance is ground to such terms.
-use Rattle.std.proofs.Common.{◌≡◌, ℕ, ◌+◌, List, sym, ap, ◌∙◌, subst, refl, arith, ◌⊎◌, inl, inr, slice_get, Some}
+use Rattle.std.proofs.Common.{◌≡◌, ℕ, ◌+◌, List, sym, ap, ◌∙◌, subst, refl, ◌⊎◌, inl, inr}
 use Rattle.uc_term.specs.declared.node.Sym.{Sym}
 use Rattle.uc_term.specs.declared.equation.Equation.{Equation}
 use Rattle.uc_term.specs.declared.equation.Side.{Side}
@@ -8,7 +8,7 @@ use Rattle.uc_term.specs.Equations.{Sides}
 use Rattle.uc_term.specs.Tree.{Tree, var, app, Trees, none, more, count, apply, apply_all}
 use Rattle.uc_term.specs.Over.{IsTerm, IsGround, AreGround, AreOver}
 use Rattle.uc_term.specs.Variables.{Occurs, is_itself, in_args, OccursIn, in_first, in_later}
-use Rattle.uc_term.specs.Within.{Within, at_root, under, WithinOne, at_first, at_later}
+use Rattle.uc_term.specs.Within.{at_root, under, WithinOne, at_first, at_later}
 use Rattle.uc_term.proofs.Terms.{apply-apply}
 use Rattle.uc_fact.proofs.Occurring.{occurs_or_not}
 use Rattle.uc_fact.specs.Ordered.{Falls, OStep}

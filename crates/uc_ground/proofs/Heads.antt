@@ -1,9 +1,9 @@
 -- A pattern whose head isn't the term's has no instance that is the term.
-use Rattle.std.proofs.Common.{◌≡◌, ℕ, List, [], ◌∷◌, get_or, refl, sym, ap, ap₂, ◌∙◌, arith}
+use Rattle.std.proofs.Common.{◌≡◌, ℕ, List, get_or, sym, ap, ◌∙◌}
 use Rattle.uc_term.specs.declared.node.Sym.{Sym}
 use Rattle.uc_term.specs.declared.node.Node.{Node}
-use Rattle.uc_term.specs.declared.node.Node.TheVariants.{Var, App}
-use Rattle.uc_term.specs.Tree.{Tree, var, app, Trees, none, more, count, apply, apply_all}
+use Rattle.uc_term.specs.declared.node.Node.TheVariants.{App}
+use Rattle.uc_term.specs.Tree.{Tree, var, app, apply}
 use Rattle.uc_term.specs.Flat.{flat, tree_of, IsWhole}
 use Rattle.uc_ground.proofs.Grounded.{count-apply_all}
 

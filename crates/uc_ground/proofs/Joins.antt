@@ -1,14 +1,13 @@
 -- Two terms for which the answer is that they are joined are joinable.
-use Rattle.std.proofs.Common.{◌≡◌, ℕ, zero, suc, ◌+◌, ◌==◌, Bool, true, false, List, [], ◌∷◌, Some, None, slice_get, if◌then◌else◌, refl, sym, ap, ◌∙◌, subst, ◌⊎◌, inl, inr}
-use Rattle.uc_term.specs.declared.node.Sym.{Sym}
+use Rattle.std.proofs.Common.{◌≡◌, ℕ, suc, ◌+◌, ◌==◌, Bool, true, false, List, [], ◌∷◌, Some, slice_get, if◌then◌else◌, refl, sym, ap, ◌∙◌, subst, ◌⊎◌, inl, inr}
 use Rattle.uc_term.specs.declared.equation.Equation.{Equation}
 use Rattle.uc_term.specs.declared.equation.Side.{Side}
 use Rattle.uc_term.specs.declared.equation.Side.TheVariants.{Left, Right}
 use Rattle.uc_term.specs.Equations.{side_of, other_side_of, Sides}
-use Rattle.uc_term.specs.Tree.{Tree, var, app, Trees, none, more, count, apply, apply_all}
-use Rattle.uc_term.specs.Over.{IsGround, AreGround}
+use Rattle.uc_term.specs.Tree.{Tree, app, Trees, none, more, count, apply, apply_all}
+use Rattle.uc_term.specs.Over.{AreGround}
 use Rattle.uc_term.specs.Variables.{Occurs, in_args, OccursIn, in_first, in_later}
-use Rattle.uc_term.specs.Within.{Within, at_root, under, WithinOne, at_first, at_later, Steps, stay, go_by, Joined}
+use Rattle.uc_term.specs.Within.{at_root, under, WithinOne, at_first, at_later, Steps, stay, go_by, Joined}
 use Rattle.uc_term.specs.Conversion.{Turn}
 use Rattle.uc_term.proofs.Terms.{apply-apply}
 use Rattle.uc_order.specs.Members.{In, in_front, in_rest, OnlyOne, only_front, only_rest}
@@ -22,9 +21,8 @@ use Rattle.uc_fact.specs.Ordered.{Falls, OStep}
 use Rattle.uc_fact.specs.Chains.{Links}
 use Rattle.uc_fact.specs.Ground.{Down, GStep, IsJoinable, AreOfSignature}
 use Rattle.uc_fact.specs.declared.joinable.Joinable.{Joinable}
-use Rattle.uc_rewrite.specs.Normalising.{IsNormalOf}
 use Rattle.uc_rewrite.proofs.Chaining.{steps_linked}
-use Rattle.uc_ground.specs.Joining.{AreVariables, IsInstance, ComesTo, IsTriedUnder, agree_under_all, agree_under, differ_under, IsAnswer, are_equal, are_sides, have_many, are_tried, IsJoined}
+use Rattle.uc_ground.specs.Joining.{AreVariables, IsInstance, ComesTo, IsTriedUnder, agree_under, differ_under, IsAnswer, are_equal, are_sides, have_many, are_tried, IsJoined}
 use Rattle.uc_ground.proofs.Grounded.{no_new, image_ground, falls_ground}
 
 -- a fact that lives is one of the equations

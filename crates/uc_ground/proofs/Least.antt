@@ -10,9 +10,9 @@ use Rattle.uc_term.specs.Variables.{variables, firsts}
 use Rattle.uc_unify.specs.Matching.{IsMatch}
 use Rattle.uc_fact.specs.declared.index.Found.{Found}
 use Rattle.uc_fact.specs.Live.{Live, Rule, RiseFrom, AreRising, fact_at, rule_of, rules_of}
-use Rattle.uc_fact.specs.Retrieval.{found_by, FirstThat, no_rule_left, accepted, not_accepted}
+use Rattle.uc_fact.specs.Retrieval.{found_by, FirstThat, accepted, not_accepted}
 use Rattle.uc_rewrite.proofs.Completing.{pairs_for, match_from}
-use Rattle.uc_ground.specs.Joining.{IsInstanceFrom, IsInstance, IsLeastInstance, IsNoInstance}
+use Rattle.uc_ground.specs.Joining.{IsInstanceFrom, IsLeastInstance, IsNoInstance}
 
 abbrev pick : Bool → Equation → Option Equation → Option Equation
 pick b e o = if b then Some e else o

@@ -1,5 +1,5 @@
 -- The variables of two terms, sorted and without repetition.
-use Rattle.std.proofs.Common.{◌≡◌, ℕ, zero, suc, ◌+◌, ◌<◌, ◌≤◌, ◌==◌, take, get_or, append_assoc, length-append, Bool, true, false, List, [], ◌∷◌, ◌++◌, length, refl, sym, ap, ◌∙◌, subst, arith, ◌⊎◌, inl, inr}
+use Rattle.std.proofs.Common.{◌≡◌, ℕ, zero, suc, ◌+◌, ◌<◌, ◌≤◌, take, get_or, append_assoc, length-append, List, [], ◌∷◌, ◌++◌, length, refl, sym, ap, ◌∙◌, subst, arith, ◌⊎◌, inl, inr}
 use Rattle.std.specs.List.{Contains, dedup}
 use Rattle.std.specs.List.Sorted.{IsSorted, IsPermutation}
 use Rattle.std.proofs.lemmas.List.Sorted.{Contains-permutation, IsPermutation-sym}
@@ -15,7 +15,7 @@ use Rattle.uc_term.specs.Flat.{flat}
 use Rattle.uc_term.proofs.Terms.{take_of_length-le}
 use Rattle.uc_term.proofs.NodeVars.{node_vars, node_vars-append, node_vars-app, node_vars-flat}
 use Rattle.uc_term.specs.Tree.{Tree}
-use Rattle.uc_term.specs.Variables.{Occurs, is_among, variables}
+use Rattle.uc_term.specs.Variables.{Occurs, variables}
 use Rattle.uc_fact.proofs.Occurring.{occurs, among}
 use Rattle.uc_order.specs.Members.{In, in_front, in_rest}
 use Rattle.uc_order.proofs.Respected.{is_among-In, In-is_among}

@@ -1,5 +1,5 @@
 -- The orders of the variables of two terms, one after another.
-use Rattle.std.proofs.Common.{◌≡◌, ℕ, List, [], ◌∷◌, inl, inr}
+use Rattle.std.proofs.Common.{ℕ, List, [], ◌∷◌, inl, inr}
 use Rattle.uc_term.specs.Tree.{Tree}
 use Rattle.uc_order.specs.Members.{In, in_front, in_rest, Each}
 use Rattle.uc_order.specs.VarOrders.{Classes, HasOnly, orders_of}

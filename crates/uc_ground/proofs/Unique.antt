@@ -1,8 +1,7 @@
 -- The answer of the test is one.
-use Rattle.std.proofs.Common.{◌≡◌, ℕ, zero, suc, ◌+◌, ◌<◌, ◌≤◌, List, [], ◌∷◌, length, slice_index, refl, sym, ap, ap₂, ◌∙◌, arith, ◌⊎◌, inl, inr, subst}
+use Rattle.std.proofs.Common.{◌≡◌, ℕ, suc, ◌+◌, ◌<◌, ◌≤◌, List, [], ◌∷◌, length, slice_index, refl, sym, ap, ap₂, ◌∙◌, arith, subst}
 use Rattle.std.specs.List.Sorted.{IsStrictlyIncreasing}
 use Rattle.uc_term.specs.Tree.{Tree}
-use Rattle.uc_term.specs.Variables.{Occurs}
 use Rattle.uc_order.specs.Members.{In, in_front, in_rest}
 use Rattle.uc_order.specs.VarOrders.{Classes, orders_of, represented}
 use Rattle.uc_order.specs.Laws.{Meaning}
@@ -11,7 +10,7 @@ use Rattle.uc_fact.specs.declared.joinable.Joinable.{Joinable}
 use Rattle.uc_fact.specs.declared.joinable.Joinable.TheVariants.{Joined, Apart, TooManyVariables}
 use Rattle.uc_fact.specs.declared.joinable.Reason.TheVariants.{Instance}
 use Rattle.uc_rewrite.proofs.Unique.{one_normal}
-use Rattle.uc_ground.specs.Joining.{AreVariables, IsInstance, IsLeastInstance, IsNoInstance, ComesTo, IsTriedUnder, agree_under_all, agree_under, differ_under, IsAnswer, are_equal, are_sides, have_many, are_tried}
+use Rattle.uc_ground.specs.Joining.{AreVariables, IsLeastInstance, ComesTo, IsTriedUnder, agree_under_all, agree_under, differ_under, IsAnswer, are_equal, are_sides, have_many, are_tried}
 
 -- each number is less than those behind it
 tail_rises : (x : ℕ) (xs : List ℕ) → IsStrictlyIncreasing (x ∷ xs) → IsStrictlyIncreasing xs

@@ -9,3 +9,6 @@ mod variables;
 
 pub use join::ground_join;
 pub use laws::{joined_is_joinable, one_answer};
+
+#[cfg(test)]
+mod tests;

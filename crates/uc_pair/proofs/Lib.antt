@@ -1,3 +1,13 @@
 pub mod Walking
 pub mod Names
 pub mod Parts
+pub mod Replacing
+pub mod Occurring
+pub mod Renaming
+pub mod Apart
+pub mod Judged
+pub mod Listed
+pub mod Renumbering
+pub mod Forming
+pub mod Paired
+pub mod Uniqueness

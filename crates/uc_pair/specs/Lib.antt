@@ -5,3 +5,6 @@ pub mod Numbering
 pub mod Fitting
 pub mod Reading
 pub mod Judging
+pub mod Adding
+pub mod Forming
+pub mod Peaks

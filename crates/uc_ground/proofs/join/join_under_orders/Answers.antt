@@ -1,13 +1,9 @@
-use Rattle.std.proofs.Common.{◌≡◌, ◌∙◌, ◌∷◌, [], List, ℕ, length, refl, sym, subst, inl, inr}
-use Rattle.uc_term.specs.Tree.{Tree}
-use Rattle.uc_term.specs.Variables.{Occurs}
-use Rattle.uc_order.specs.Members.{In, in_front, in_rest, Each}
-use Rattle.uc_order.specs.VarOrders.{Classes, HasOnly, orders_of}
-use Rattle.uc_order.proofs.Exactly.{has_all}
-use Rattle.uc_fact.specs.declared.joinable.Joinable.{Joinable}
+use Rattle.std.proofs.Common.{◌≡◌, ◌∙◌, ◌∷◌, [], List, length, refl, sym, subst}
+use Rattle.uc_order.specs.Members.{In, Each}
+use Rattle.uc_order.specs.VarOrders.{Classes, orders_of}
 use Rattle.uc_fact.specs.declared.joinable.Joinable.TheVariants.{Joined, Apart}
 use Rattle.uc_fact.specs.declared.joinable.Reason.TheVariants.{Orders}
-use Rattle.uc_ground.specs.Joining.{AreVariables, IsTriedUnder, agree_under_all, agree_under, differ_under}
+use Rattle.uc_ground.specs.Joining.{IsTriedUnder, agree_under_all}
 use Rattle.uc_ground.proofs.Answered.{first_differs, first_agrees}
 use Rattle.uc_ground.proofs.Tried.{all_members, known_left, known_right}
 use Rattle.uc_ground.proofs.join.join_under_orders.Goals as goal

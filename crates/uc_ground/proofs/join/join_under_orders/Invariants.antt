@@ -1,4 +1,3 @@
-use Rattle.std.proofs.Common.{List}
 use Rattle.uc_order.specs.Members.{In, Each}
 use Rattle.uc_order.specs.VarOrders.{orders_of}
 use Rattle.uc_fact.specs.declared.joinable.Joinable.{Joinable}
