@@ -8,7 +8,9 @@ use Rattle.uc_order.specs.declared.spec.OrderSpec.{OrderSpec}
 use Rattle.uc_order.specs.Laws.{Meaning}
 use Rattle.uc_fact.specs.declared.fact.Overlap.{Overlap}
 use Rattle.uc_pair.specs.declared.formed.Formed.{Formed}
-use Rattle.uc_pair.proofs.Unique.{lists_once, formation_once}
+use Rattle.uc_pair.specs.Overlapping.{read_from}
+use Rattle.uc_pair.proofs.OnePair.{one_formation}
+use Rattle.uc_pair.proofs.Uniqueness.{same_each}
 use Rattle.uc_words.specs.declared.command.OrderWords.{OrderWords}
 use Rattle.uc_ordering.proofs.Once.{order_once, refusal_once, chosen_or_refused}
 use Rattle.uc_top.specs.OrderAnswers.{choice_line}
@@ -19,7 +21,7 @@ module _ (table : Table) where
   line_once : (a b : Equation) (o : Overlap) {x y : List ℕ} → IsPairLine table a b o x → IsPairLine table a b o y → x ≡ y
   line_once a b o p q =
       let paths : p.path ≡ q.path = one_path (side_of o.outer_side a) p.path q.path o.position.0 p.path_is q.path_is in
-      p.line_is ∙ ap₂ (pair_line table o) paths (formation_once p.formation_is q.formation_is) ∙ sym q.line_is
+      p.line_is ∙ ap₂ (pair_line table o) paths (one_formation (read_from o.outer o.outer_side a) (read_from o.inner o.inner_side b) o.position.0 p.formation q.formation p.formation_is q.formation_is) ∙ sym q.line_is
 
   lines_of_once : (a b : Equation) {list : List Formed} {x y : List ℕ} → ArePairLines table a b list x → ArePairLines table a b list y → x ≡ y
   lines_of_once a b no_overlap_left no_overlap_left = refl
@@ -27,7 +29,7 @@ module _ (table : Table) where
 
   module _ (m : Meaning) where
     pairs_of_once : (i : ℕ) (a : Equation) (j : ℕ) (b : Equation) {x y : List ℕ} → ArePairsOf table m i a j b x → ArePairsOf table m i a j b y → x ≡ y
-    pairs_of_once i a j b {y = y} p q = lines_of_once a b p.are_lines (subst (λ list. ArePairLines table a b list y) (lists_once q.overlaps p.overlaps) q.are_lines)
+    pairs_of_once i a j b {y = y} p q = lines_of_once a b p.are_lines (subst (λ list. ArePairLines table a b list y) (same_each m.greater _ q.list p.list q.overlaps p.overlaps) q.are_lines)
 
     inner_once : (i : ℕ) (a : Equation) {j : ℕ} {es : List Equation} {x y : List ℕ} → AreInnerLines table m i a j es x → AreInnerLines table m i a j es y → x ≡ y
     inner_once i a no_inner_left no_inner_left = refl
