@@ -36,8 +36,7 @@ use Rattle.uc_top.specs.TermWords.{is_foreign, first_foreign, IsTermWord, IsWord
 use Rattle.uc_top.specs.Axioms.{AreEquationsOf}
 use Rattle.uc_top.specs.RewriteAnswers.{word_line, stop_status, IsNormalFor, AreNormalLines, IsRewritten, is_unordered, is_no_term, is_normalised}
 use Rattle.uc_top.specs.Answers.{RewriteAnswers, fetch_fails, is_refused, is_loaded, Answers}
-use Rattle.uc_top.specs.Runs.{MayAnswer, is_answer, wants_memory, IsRun}
-use Rattle.uc_top.specs.Runs.{EndsWith, tells_all, tells_want}
+use Rattle.uc_top.specs.Runs.{MayAnswer, is_answer, wants_memory, IsRun, EndsWith, tells_all, tells_want}
 use Rattle.uc_top.specs.RewriteRuns.{NormalEnds, tells_chain, lacks_memory, RewriteEnds, CompletesRewrite}
 use Rattle.uc_top.proofs.AnswersOnce.{first_name, second_name}
 use Rattle.uc_top.proofs.ByVerb.{of_verb}
@@ -58,7 +57,7 @@ use Rattle.uc_top.proofs.VariableWeights.{w0_within}
 
 -- The other table has each entry of the one at the number that its symbol is renamed to, and the one has no entry twice.
 module _ (t u : Table) (ρ : Sym → Sym) (moves : (f : Sym) (e : Entry) → slice_get t f.0 ≡ Some e → slice_get u (ρ f).0 ≡ Some e) (distinct : IsDistinct t) where
-  reads_moved : (word : List ℕ) (x : Tree) → ReadsTerm word t x → ReadsTerm word u (renamed ρ x)
+  abbrev reads_moved : (word : List ℕ) (x : Tree) → ReadsTerm word t x → ReadsTerm word u (renamed ρ x)
   reads_moved word x r = record { tokens = r.tokens; are_tokens = r.are_tokens; parse = r.parse; end = r.end; reads = r.reads; means = means_renamed t u ρ moves word r.tokens r.means }
 
   any_moved : (f : Sym) (known : List Sym) → Has t f → Each (Has t) known → list_any (same_symbol (ρ f)) (map ρ known) ≡ list_any (same_symbol f) known
@@ -243,7 +242,7 @@ module _ (files : Files) (before now : ℕ) (well : Rose before now → ⊥) (co
 
 module _ (files : Files) (before now : ℕ) (well : Rose before now → ⊥) (words : List (List ℕ)) (old new : Option (List ℕ)) where
   whole : {status result : ℕ} {text : List ℕ} → MayAnswer (Some files) before now words status text → Appends old new text → result ≡ status → CompletesRewrite files words old new result
-  whole wants_memory written e command name word table problem spec reads is_rewrite names apart given chosen = rw e (record { term = λ t is_term. lacks_memory written; no_term = λ why is_fault some_why. tells_want written })
+  whole wants_memory written e command name word table problem spec reads is_rewrite names apart given chosen = subst (RewriteEnds table spec command.limit problem word old new) (sym e) (record { term = λ t is_term. lacks_memory written; no_term = λ why is_fault some_why. tells_want written })
   whole {status} {result} {text} (is_answer {table = own} distinct a) written e command name word table problem spec reads is_rewrite names apart given chosen =
       let p = of_verb own (Some files) before now words verb.Rewrite is_rewrite reads a in
       let names_are : p.0 ∷ p.1 ∷ [] ≡ name ∷ word ∷ [] = sym p.2 ∙ names in
