@@ -1,6 +1,6 @@
 -- The pairs of equations over a table are over the table.
-use Rattle.std.proofs.Common.{ℕ, zero, suc, ◌+◌, ◌≡◌, ◌<◌, ◌==◌, ◌&&◌, Bool, true, false, if◌then◌else◌, List, [], ◌∷◌, length, Option, Some, None, refl, sym, ap, ap₂, ◌∙◌, subst, arith}
-use Rattle.std.specs.Prelude.{option_and_then}
+use Rattle.std.proofs.Common.{ℕ, zero, suc, ◌+◌, ◌-◌, ◌≡◌, ◌<◌, ◌==◌, ◌&&◌, Bool, true, false, if◌then◌else◌, List, [], ◌∷◌, ◌++◌, length, get_or, refl, sym, ap, ap₂, ◌∙◌, subst, arith}
+use Rattle.std.specs.Prelude.{nat_lt}
 use Rattle.std.proofs.Math.Dec.{ltb}
 use Rattle.std.proofs.lemmas.Bool.{eqb-true, eq-eqb, ltb-true, lt-ltb, and_parts, and_from}
 use Rattle.uc_term.specs.declared.node.Sym.{Sym}
@@ -8,8 +8,7 @@ use Rattle.uc_term.specs.declared.equation.Equation.{Equation}
 use Rattle.uc_term.specs.declared.equation.Side.{Side}
 use Rattle.uc_term.specs.declared.equation.Side.TheVariants.{Left, Right}
 use Rattle.uc_term.specs.Equations.{side_of, other_side_of}
-use Rattle.uc_term.specs.Tree.{Tree, var, app, Trees, none, more, count, apply, apply_all, subterm}
-use Rattle.uc_term.specs.Path.{nth, change, at_position, put_position}
+use Rattle.uc_term.specs.Tree.{Tree, var, app, Trees, none, more, count, apply, apply_all, nodes, subterms, subterms_all, subterm, put, put_all}
 use Rattle.uc_term.specs.Over.{AreOver}
 use Rattle.uc_term.specs.Table.{Table, Has, arity_of, IsOf}
 use Rattle.uc_order.proofs.Renaming.{count-apply_all}
@@ -17,15 +16,9 @@ use Rattle.uc_unify.specs.Unifiers.{IsMostGeneral}
 use Rattle.uc_fact.specs.Live.{Rule}
 use Rattle.uc_fact.specs.declared.fact.Overlap.{Overlap}
 use Rattle.uc_pair.specs.declared.formation.Formation.{Formation}
-use Rattle.uc_pair.specs.Overlapping.{Overlapping, shifted, left_of, right_of, peak, inner_to, read_from}
+use Rattle.uc_pair.specs.Overlapping.{Overlapping, shifted, left_of, right_of, read_from}
 use Rattle.uc_pair.specs.Pairs.{IsPairOf, IsFormation, forms_none, forms_pair}
 use Rattle.uc_top.specs.PairsAnswers.{IsFormationOver}
-
-some_same : {A : Type 0} {o : Option A} {a b : A} → o ≡ Some a → o ≡ Some b → a ≡ b
-some_same {A} {o} {a} {b} p q = let r : Some a ≡ Some b = sym p ∙ q in cc
-
-none_some : {A : Type 0} {a : A} → Path (Option A) None (Some a) → ⊥
-none_some e = absurd cc
 
 module _ (table : Table) where
   abbrev AreOf : Trees → Type 0
@@ -103,35 +96,53 @@ module _ (table : Table) where
       under_instance (λ y. clean (σ y)) (σ x) (subst (IsOf table) (sym (m.general (λ y. clean (σ y)) cleaned x)) (clean_over (σ x)))
 
   -- the subterms of a term over the table are
+  abbrev EachOf : List Tree → Type 0
+  EachOf [] = Unit {0}
+  EachOf (t ∷ ts) = IsOf table t × EachOf ts
+
+  each_both : (ts us : List Tree) → EachOf ts → EachOf us → EachOf (ts ++ us)
+  each_both [] us h k = k
+  each_both (t ∷ ts) us h k = (h.0, each_both ts us h.1 k)
+
   mutual
-    at_over : (t : Tree) (path : List ℕ) (u : Tree) → IsOf table t → at_position t path ≡ Some u → IsOf table u
-    at_over t [] u h e = subst (IsOf table) (some_same refl e) h
-    at_over t (zero ∷ p) u h e = absurd (none_some e)
-    at_over (var x) (suc i ∷ p) u h e = absurd (none_some e)
-    at_over (app f ts) (suc i ∷ p) u h e = nth_over ts i p u h.2 e
+    each_over : (t : Tree) → IsOf table t → EachOf (subterms t)
+    each_over (var x) h = (tt, tt)
+    each_over (app f ts) h = (h, all_over ts h.2)
 
-    nth_over : (ts : Trees) (i : ℕ) (p : List ℕ) (u : Tree) → AreOf ts → option_and_then (λ v. at_position v p) (nth ts i) ≡ Some u → IsOf table u
-    nth_over none i p u h e = absurd (none_some e)
-    nth_over (more t ts) zero p u h e = at_over t p u h.0 e
-    nth_over (more t ts) (suc i) p u h e = nth_over ts i p u h.1 e
+    all_over : (ts : Trees) → AreOf ts → EachOf (subterms_all ts)
+    all_over none h = tt
+    all_over (more t ts) h = each_both (subterms t) (subterms_all ts) (each_over t h.0) (all_over ts h.1)
 
-  count-change : (g : Tree → Tree) (ts : Trees) (i : ℕ) → count (change g ts i) ≡ count ts
-  count-change g none i = refl
-  count-change g (more t ts) zero = refl
-  count-change g (more t ts) (suc i) = ap (λ n. n + 1) (count-change g ts i)
+  index_over : (ts : List Tree) (p : ℕ) (d : Tree) → EachOf ts → IsOf table d → IsOf table (get_or ts p d)
+  index_over [] p d h k = k
+  index_over (t ∷ ts) zero d h k = h.0
+  index_over (t ∷ ts) (suc p) d h k = index_over ts p d h.1 k
+
+  subterm_over : (t : Tree) (p : ℕ) → IsOf table t → IsOf table (subterm t p)
+  subterm_over t p h = index_over (subterms t) p t (each_over t h) h
 
   -- a term over the table with a subterm replaced by one over the table is
-  mutual
-    put_over : (t : Tree) (path : List ℕ) (w : Tree) → IsOf table t → IsOf table w → IsOf table (put_position t path w)
-    put_over t [] w h k = k
-    put_over t (zero ∷ p) w h k = h
-    put_over (var x) (suc i ∷ p) w h k = h
-    put_over (app f ts) (suc i ∷ p) w h k = (h.0, count-change (λ a. put_position a p w) ts i ∙ h.1, change_over ts i p w h.2 k)
+  count-put_all : (ts : Trees) (p : ℕ) (w : Tree) → count (put_all ts p w) ≡ count ts
+  count-put_all none p w = refl
+  count-put_all (more t ts) p w = go (nat_lt p (nodes t)) (count-put_all ts (p - nodes t) w)
+    where
+      go : (b : Bool) → count (put_all ts (p - nodes t) w) ≡ count ts → count (if b then more (put t p w) ts else more t (put_all ts (p - nodes t) w)) ≡ count ts + 1
+      go true e = refl
+      go false e = ap (λ n. n + 1) e
 
-    change_over : (ts : Trees) (i : ℕ) (p : List ℕ) (w : Tree) → AreOf ts → IsOf table w → AreOf (change (λ a. put_position a p w) ts i)
-    change_over none i p w h k = h
-    change_over (more t ts) zero p w h k = (put_over t p w h.0 k, h.1)
-    change_over (more t ts) (suc i) p w h k = (h.0, change_over ts i p w h.1 k)
+  mutual
+    put_over : (t : Tree) (p : ℕ) (w : Tree) → IsOf table t → IsOf table w → IsOf table (put t p w)
+    put_over (var x) p w h k = k
+    put_over (app f ts) zero w h k = k
+    put_over (app f ts) (suc p) w h k = (h.0, count-put_all ts p w ∙ h.1, put_all_over ts p w h.2 k)
+
+    put_all_over : (ts : Trees) (p : ℕ) (w : Tree) → AreOf ts → IsOf table w → AreOf (put_all ts p w)
+    put_all_over none p w h k = tt
+    put_all_over (more t ts) p w h k = go (nat_lt p (nodes t)) (put_over t p w h.0 k) (put_all_over ts (p - nodes t) w h.1 k)
+      where
+        go : (b : Bool) → IsOf table (put t p w) → AreOf (put_all ts (p - nodes t) w) → AreOf (if b then more (put t p w) ts else more t (put_all ts (p - nodes t) w))
+        go true a b = (a, h.1)
+        go false a b = (h.0, b)
 
   abbrev pub IsRuleOver : Rule → Type 0
   IsRuleOver r = IsOf table r.from × IsOf table r.to
@@ -145,19 +156,19 @@ module _ (table : Table) where
 
   module _ (outer inner : Rule) (place : ℕ) (o : Overlapping outer inner place) (h : IsRuleOver outer) (k : IsRuleOver inner) where
     unifier_over : (x : ℕ) → IsOf table (o.σ x)
-    unifier_over = general_over (subterm outer.from place) (shifted o.k inner.from) o.σ o.most_general (at_over outer.from o.path (subterm outer.from place) h.0 o.path_is.there) (shifted_over o.k inner.from k.0)
+    unifier_over = general_over (subterm outer.from place) (shifted o.k inner.from) o.σ o.most_general (subterm_over outer.from place h.0) (shifted_over o.k inner.from k.0)
 
     left_over : IsOf table (left_of o)
     left_over = over_instance o.σ unifier_over outer.to h.1
 
     right_over : IsOf table (right_of o)
-    right_over = put_over (peak o) o.path (inner_to o) (over_instance o.σ unifier_over outer.from h.0) (over_instance o.σ unifier_over (shifted o.k inner.to) (shifted_over o.k inner.to k.1))
+    right_over = over_instance o.σ unifier_over (put outer.from place (shifted o.k inner.to)) (put_over outer.from place (shifted o.k inner.to) h.0 (shifted_over o.k inner.to k.1))
 
   formed_over : (outer inner : Rule) (place : ℕ) (f : Formation) → IsRuleOver outer → IsRuleOver inner → IsFormation outer inner place f → IsFormationOver table f
   formed_over outer inner place f h k (forms_none o large) = tt
-  formed_over outer inner place f h k (forms_pair o fits by) =
-      (subst (IsOf table) (sym by.left_is) (over_instance _ (λ x. tt) (left_of o) (left_over outer inner place o h k)),
-       subst (IsOf table) (sym by.right_is) (over_instance _ (λ x. tt) (right_of o) (right_over outer inner place o h k)))
+  formed_over outer inner place f h k (forms_pair o small by) =
+      (subst (IsOf table) (sym by.numbered.left_is) (over_instance _ (λ x. tt) (left_of o) (left_over outer inner place o h k)),
+       subst (IsOf table) (sym by.numbered.right_is) (over_instance _ (λ x. tt) (right_of o) (right_over outer inner place o h k)))
 
   -- what the pair of two equations over the table comes to is over the table
   pub pair_over : (a b : Equation) (o : Overlap) (f : Formation) → IsOf table a.left × IsOf table a.right → IsOf table b.left × IsOf table b.right → IsPairOf a b o f → IsFormationOver table f

@@ -111,8 +111,7 @@ fn lines_of(
     ensures { IfOk result (λ lines. ArePairLines symbols.now a.now b.now list.now (joined lines)) }
 {
     let mut lines = Seq::new(alloc);
-    for number in 0..list.len() {
-        let formed = &list[number];
+    for formed in list {
         lines.push(line_of(alloc, a, b, &formed.overlap, symbols)?)?;
     }
     Ok(lines)

@@ -7,7 +7,7 @@ inner_lines-requires-clause-one g c = found_at c.args.equations.now c.loop-outer
 
 pub loop-outer-preserved : goal.loop-outer-preserved
 loop-outer-preserved g c = record {
-  begun = rw c.in_ok-append.ensures.ok (one_more_outer c.args.symbols.now (g.O.Order.meaning c.args.order.now) c.args.equations.now c.loop-outer.outer c.loop-outer.lines c.in_ok-inner_lines.value c.index-equations-outer.result (omega arith) c.index-equations-outer.is c.in_ok-inner_lines.ensures c.loop-outer.invariant.begun);
+  begun = rw c.in_ok-append.ensures.ok (one_more_outer c.args.symbols.now (g.O.Order.meaning c.args.order.now) c.args.equations.now c.loop-outer.outer c.loop-outer.lines c.in_ok-inner_lines.field-0 c.index-equations-outer.result (omega arith) c.index-equations-outer.is c.in_ok-inner_lines.ensures c.loop-outer.invariant.begun);
 }
 
 pub returns : goal.returns

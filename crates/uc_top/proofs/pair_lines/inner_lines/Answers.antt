@@ -11,7 +11,7 @@ pairs_of-requires-clause-same g c = same_element c.args.equations.now c.args.out
 
 pub loop-inner-preserved : goal.loop-inner-preserved
 loop-inner-preserved g c = record {
-  begun = rw c.in_ok-append.ensures.ok (one_more_inner c.args.symbols.now (g.O.Order.meaning c.args.order.now) c.args.outer c.args.a.now c.args.equations.now c.loop-inner.inner c.loop-inner.lines c.in_ok-pairs_of.value c.index-equations-inner.result (omega arith) c.index-equations-inner.is c.in_ok-pairs_of.ensures c.loop-inner.invariant.begun);
+  begun = rw c.in_ok-append.ensures.ok (one_more_inner c.args.symbols.now (g.O.Order.meaning c.args.order.now) c.args.outer c.args.a.now c.args.equations.now c.loop-inner.inner c.loop-inner.lines c.in_ok-pairs_of.field-0 c.index-equations-inner.result (omega arith) c.index-equations-inner.is c.in_ok-pairs_of.ensures c.loop-inner.invariant.begun);
 }
 
 pub returns : goal.returns

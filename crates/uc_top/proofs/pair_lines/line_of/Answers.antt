@@ -2,10 +2,10 @@ use Rattle.uc_top.proofs.PairsOver.{pair_over}
 use Rattle.uc_top.proofs.pair_lines.line_of.Goals as goal
 
 pub path-requires : goal.path-requires
-path-requires c = rw c.side_of.ensures c.requires.overlaps.path_is.inside
+path-requires c = rw c.side_of.ensures c.requires.overlaps.inside
 
 pub pair_line-requires : goal.pair_line-requires
 pair_line-requires c = pair_over c.args.symbols.now c.args.a.now c.args.b.now c.args.overlap.now c.in_ok-formation.formation c.requires.a c.requires.b c.in_ok-formation.ensures.pair
 
-pub returns-in-Ok : goal.returns
-returns-in-Ok c = record { path = c.in_ok-path.path; path_is = rw c.side_of.ensures at c.in_ok-path.ensures; formation = c.in_ok-formation.formation; formation_is = c.in_ok-formation.ensures.pair; line_is = c.pair_line.ensures }
+pub returns : goal.returns
+returns c = record { path = c.in_ok-path.path; path_is = rw c.side_of.ensures at c.in_ok-path.ensures; formation = c.in_ok-formation.formation; formation_is = c.in_ok-formation.ensures.pair; line_is = c.pair_line.ensures }
