@@ -1,5 +1,5 @@
 -- An answer to words is the answer to the command that they are.
-use Rattle.std.proofs.Common.{◌⊎◌, inl, inr, ℕ, ◌≡◌, List, [], ◌∷◌, Option, refl, sym, ap, ◌∙◌, subst}
+use Rattle.std.proofs.Common.{◌⊎◌, inl, inr, ℕ, ◌≡◌, List, [], ◌∷◌, Option, refl, sym, subst}
 use Rattle.uc_term.specs.Table.{Table}
 use Rattle.uc_edge.specs.Files.{Files}
 use Rattle.uc_words.specs.declared.command.Command.{Command}

@@ -1,11 +1,11 @@
 -- The lines of a chain of steps.
-use Rattle.std.proofs.Common.{ℕ, ◌+◌, ◌≡◌, ◌<◌, ◌≤◌, List, [], ◌∷◌, ◌++◌, length, get_or, drop, refl, sym, ap, ◌∙◌, subst, append_assoc}
+use Rattle.std.proofs.Common.{ℕ, ◌+◌, ◌≡◌, ◌<◌, ◌≤◌, List, [], ◌∷◌, ◌++◌, length, get_or, drop, sym, ap, ◌∙◌, subst, append_assoc}
 use Rattle.std.proofs.lemmas.List.{drop_more, drop_all, append-nil}
 use Rattle.uc_term.specs.Tree.{Tree, nodes}
 use Rattle.uc_term.specs.Table.{Table, IsOf}
 use Rattle.uc_fact.specs.declared.chain.Step.{Step}
 use Rattle.uc_top.specs.Lines.{joined}
-use Rattle.uc_top.specs.RewriteAnswers.{step_line, IsStepLine, AreChained, no_step, one_step, ArePrintable}
+use Rattle.uc_top.specs.RewriteAnswers.{IsStepLine, AreChained, no_step, one_step, ArePrintable}
 use Rattle.uc_top.proofs.DirectedLines.{joined_one}
 
 module _ (table : Table) (start : Tree) (all : List Step) where

@@ -10,7 +10,7 @@ use Rattle.uc_term.specs.declared.fresh.Fresh.{Fresh}
 use Rattle.uc_term.specs.declared.signature.Signature.{Signature}
 use Rattle.uc_term.specs.Tree.{Tree, var, app, Trees, none, more, nodes, nodes_all}
 use Rattle.uc_term.specs.Over.{AreOver}
-use Rattle.uc_term.specs.Table.{Table, Entry, Has, IsOf, Grows, name_of, arity_of}
+use Rattle.uc_term.specs.Table.{Table, Entry, Has, IsOf, name_of, arity_of}
 use Rattle.uc_term.specs.Gathering.{HasAll}
 use Rattle.uc_term.specs.Signatures.{occurrences_from, occurrences_of, Gathers, first_named, first_constant, tried_name, IsFreshFor, Completes, has_constant, gets_constant, IsSignatureOf}
 use Rattle.uc_term.proofs.Grown.{have_from, gathers-grows}

@@ -1,5 +1,5 @@
 -- The clauses of a problem as lines.
-use Rattle.std.proofs.Common.{◌≡◌, ◌<◌, ℕ, zero, suc, List, [], ◌∷◌, ◌++◌, length, get_or, drop, refl, sym, ap, ◌∙◌, subst, arith, append_assoc}
+use Rattle.std.proofs.Common.{◌≡◌, ◌<◌, ℕ, zero, suc, List, [], ◌∷◌, length, get_or, refl, sym, subst, arith}
 use Rattle.uc_term.specs.Table.{Table, IsOf}
 use Rattle.uc_term.specs.Gathering.{AreOf}
 use Rattle.uc_clause.specs.declared.clause.Sourced.{Sourced}

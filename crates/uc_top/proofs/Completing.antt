@@ -1,5 +1,5 @@
 -- How `show` ends.
-use Rattle.std.proofs.Common.{ℕ, ◌≡◌, List, [], ◌∷◌, Option, Some, refl, sym, ap, ◌∙◌, subst, arith}
+use Rattle.std.proofs.Common.{ℕ, ◌≡◌, List, [], ◌∷◌, Option, Some, refl, sym, ◌∙◌, subst, arith}
 use Rattle.std.specs.Io.KnownBytes.{Appends}
 use Rattle.uc_term.specs.Table.{Table, IsDistinct}
 use Rattle.uc_edge.specs.Files.{Files}
@@ -9,7 +9,6 @@ use Rattle.uc_problem.specs.Holds.{Holds}
 use Rattle.uc_words.specs.declared.command.Command.{Command}
 use Rattle.uc_words.specs.declared.command.Verb.TheVariants as verb
 use Rattle.uc_words.specs.Reads.{Reads}
-use Rattle.uc_words.proofs.Only.{only}
 use Rattle.uc_top.specs.Lines.{shown_lines}
 use Rattle.uc_top.specs.Told.{IsTold, told, cut_short}
 use Rattle.uc_top.specs.Answers.{ShowAnswers, fetch_fails, is_refused, is_loaded, Answers}

@@ -1,5 +1,5 @@
 -- A problem that a library's files hold in one table of symbols they hold in every other, and it is printed alike.
-use Rattle.std.proofs.Common.{ℕ, zero, suc, ◌+◌, ◌≡◌, ◌<◌, ◌==◌, ◌||◌, Bool, true, false, List, [], ◌∷◌, ◌++◌, length, map, filter, slice_get, get_or, unwrap_or, codes, bytes_eq, Option, Some, None, Result, Ok, Err, if◌then◌else◌, refl, sym, ap, ap₂, ◌∙◌, subst, arith, ◌⊎◌, inl, inr}
+use Rattle.std.proofs.Common.{ℕ, zero, suc, ◌+◌, ◌≡◌, ◌<◌, ◌||◌, Bool, true, false, List, [], ◌∷◌, ◌++◌, length, map, filter, slice_get, get_or, unwrap_or, codes, bytes_eq, Option, Some, None, Result, Ok, Err, if◌then◌else◌, refl, sym, ap, ap₂, ◌∙◌, subst, ◌⊎◌, inl, inr}
 use Rattle.std.specs.List.{list_any}
 use Rattle.std.proofs.lemmas.Bool.{eqb-true, eq-eqb}
 use Rattle.std.proofs.Math.Bool.{or-true}
@@ -9,18 +9,17 @@ use Rattle.uc_term.specs.declared.node.Sym.{Sym}
 use Rattle.uc_term.specs.declared.node.Node.{Node}
 use Rattle.uc_term.specs.declared.node.Node.TheVariants.{Var, App}
 use Rattle.uc_term.specs.declared.fault.TermFault.{TermFault}
-use Rattle.uc_term.specs.Tree.{Tree, var, app, Trees, none, more, count}
+use Rattle.uc_term.specs.Tree.{Tree, var, app, Trees, none, more}
 use Rattle.uc_term.specs.Flat.{flat, flat_all}
 use Rattle.uc_term.specs.Over.{AreOver}
 use Rattle.uc_term.specs.Table.{Table, Entry, entry_of, name_of, arity_of, Has, IsOf, IsDistinct, Grows}
-use Rattle.uc_term.specs.Gathering.{HasAll, AreOf}
+use Rattle.uc_term.specs.Gathering.{HasAll}
 use Rattle.uc_term.specs.Signatures.{Occurrence, occurrences_in, occurrences_from, occurrences_of, same_symbol, first_named, Gathers, all_seen, seen_before, is_new, clashes, is_too_many}
 use Rattle.uc_term.proofs.Tables.{get_pushed}
 use Rattle.uc_term.proofs.Grown.{AllHave, have_from}
 use Rattle.uc_edge.specs.Files.{Files}
 use Rattle.uc_clause.specs.declared.clause.Clause.{Clause}
 use Rattle.uc_clause.specs.declared.clause.Item.{Item}
-use Rattle.uc_clause.specs.declared.clause.Item.TheVariants as item
 use Rattle.uc_clause.specs.declared.clause.Sourced.{Sourced}
 use Rattle.uc_clause.specs.declared.clause.Name.{Name}
 use Rattle.uc_clause.specs.declared.token.Place.{Place}
@@ -30,7 +29,7 @@ use Rattle.uc_problem.specs.declared.counts.Counts.{Counts}
 use Rattle.uc_problem.specs.declared.fault.LoadFault.{LoadFault}
 use Rattle.uc_problem.specs.declared.problem.Problem.{Problem}
 use Rattle.uc_problem.specs.Candidates.{folder_of}
-use Rattle.uc_problem.specs.Loading.{lists_name, first_missing, listed_or, selected, Loaded, before, all_before, LoadsFile, reads, refused, LoadsItems, no_item, clause, too_many_clauses, too_deep, too_many_files, fetch_fails, absent, stops_inside, misses_name, includes, LoadsProblem, no_fetch, no_problem, loads}
+use Rattle.uc_problem.specs.Loading.{lists_name, first_missing, listed_or, selected, Loaded, before, all_before, LoadsFile, reads, refused, LoadsItems, no_item, clause, too_many_clauses, too_deep, too_many_files, fetch_fails, absent, stops_inside, misses_name, includes, no_fetch, no_problem, loads}
 use Rattle.uc_problem.specs.Holds.{ReadsAs, Flattens, terms_of, Holds, Refuses, is_not_flat, has_clash, has_too_many}
 use Rattle.uc_problem.specs.Sound.{IsSound, AreSound, AreSoundItems}
 use Rattle.uc_problem.proofs.Sound.{file_sound, sound_both, sound_filter, terms_sound}

@@ -1,8 +1,8 @@
 -- A term is normalised alike in every table of symbols, and its lines are the same.
-use Rattle.std.proofs.Common.{ℕ, ◌+◌, ◌≡◌, List, [], ◌∷◌, ◌++◌, map, slice_get, codes, decimal, Some, refl, sym, ap, ap₂, ◌∙◌, subst}
+use Rattle.std.proofs.Common.{ℕ, ◌+◌, ◌≡◌, List, [], ◌∷◌, ◌++◌, map, slice_get, codes, decimal, Some, refl, sym, ap, ◌∙◌, subst}
 use Rattle.uc_term.specs.declared.node.Sym.{Sym}
 use Rattle.uc_term.specs.declared.equation.Equation.{Equation}
-use Rattle.uc_term.specs.Tree.{Tree, app, none}
+use Rattle.uc_term.specs.Tree.{Tree}
 use Rattle.uc_term.specs.Table.{Table, Entry, Has, IsOf, IsDistinct}
 use Rattle.uc_check.specs.Clauses.{axioms_of}
 use Rattle.uc_tstp.specs.Printing.{path_text, way_text}
@@ -17,7 +17,7 @@ use Rattle.uc_rewrite.specs.Normalising.{Normalises}
 use Rattle.uc_top.specs.Axioms.{AreEquationsOf}
 use Rattle.uc_top.specs.Lines.{spaced}
 use Rattle.uc_top.specs.RewriteAnswers.{number_of, term_line, step_line, stop_line, AreChained, no_step, one_step, ArePrintable, AreNormalLines, IsNormalFor}
-use Rattle.uc_top.proofs.Renamed.{renamed, all_renamed}
+use Rattle.uc_top.proofs.Renamed.{renamed}
 use Rattle.uc_top.proofs.Everywhere.{term_moved}
 use Rattle.uc_top.proofs.CheckHeld.{problem_moved}
 use Rattle.uc_top.proofs.OrderMoved.{Only}

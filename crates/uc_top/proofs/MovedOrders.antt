@@ -1,13 +1,13 @@
 -- The order that words name for a problem is the same in every table of symbols, with the symbols renamed.
-use Rattle.std.proofs.Common.{◌⊎◌, inl, inr, ℕ, zero, suc, ◌+◌, ◌-◌, ◌≡◌, ◌==◌, ◌&&◌, ◌||◌, not, nat_lt, max, Bool, true, false, cond, List, [], ◌∷◌, ◌++◌, length, map, take, filter, filter_map, find, is_none, bytes_eq, slice_get, get_or, unwrap_or, option_map, Option, Some, None, if◌then◌else◌, refl, sym, ap, ap₂, ◌∙◌, subst}
+use Rattle.std.proofs.Common.{ℕ, zero, suc, ◌+◌, ◌-◌, ◌≡◌, ◌==◌, ◌&&◌, ◌||◌, not, nat_lt, max, Bool, true, false, cond, List, [], ◌∷◌, ◌++◌, length, map, take, filter, find, is_none, bytes_eq, slice_get, get_or, unwrap_or, option_map, Option, Some, None, if◌then◌else◌, refl, sym, ap, ap₂, ◌∙◌}
 use Rattle.std.specs.List.{fold, list_any, cons_option}
 use Rattle.std.proofs.lemmas.Bool.{eqb-true, eq-eqb}
 use Rattle.std.proofs.lemmas.List.{map-append, length-map}
 use Rattle.std.proofs.lemmas.Option.{slice_get-get_or}
 use Rattle.uc_term.specs.declared.node.Sym.{Sym}
 use Rattle.uc_term.specs.declared.signature.Signature.{Signature}
-use Rattle.uc_term.specs.Table.{Table, Entry, entry_of, name_of, arity_of, Has, IsDistinct}
-use Rattle.uc_term.specs.Signatures.{first_named, same_symbol}
+use Rattle.uc_term.specs.Table.{Table, Entry, name_of, arity_of, Has, IsDistinct}
+use Rattle.uc_term.specs.Signatures.{first_named}
 use Rattle.uc_order.specs.Members.{Each}
 use Rattle.uc_order.specs.declared.spec.OrderSpec.{OrderSpec}
 use Rattle.uc_order.specs.declared.spec.OrderSpec.TheVariants.{Kbo, Lpo}
@@ -15,7 +15,7 @@ use Rattle.uc_words.specs.declared.command.OrderWords.{OrderWords}
 use Rattle.uc_ordering.specs.declared.fault.ChoiceFault.{ChoiceFault}
 use Rattle.uc_ordering.specs.declared.fault.ChoiceFault.TheVariants.{UnknownSymbol, NotTotal, BadWeight, NoMemory}
 use Rattle.uc_ordering.specs.Precedence.{of_arity, of_less, greatest_arity, by_arity, is_named, unnamed, symbols_named, precedence_of}
-use Rattle.uc_ordering.specs.Weights.{is_last, is_bad, is_bad_at, is_bad_for, weight_given, weight_of}
+use Rattle.uc_ordering.specs.Weights.{is_last, is_bad_at, is_bad_for, weight_given, weight_of}
 use Rattle.uc_ordering.specs.Choice.{own_symbols, weighed_names, spec_of, first_unknown, first_bad, own_precedence, own_weights, IsChosen, IsChoiceFault}
 use Rattle.uc_top.proofs.Everywhere.{entry_moved, name_moved}
 

@@ -4,7 +4,7 @@ use Rattle.uc_term.specs.declared.node.Sym.{Sym}
 use Rattle.uc_term.specs.declared.equation.Equation.{Equation}
 use Rattle.uc_term.specs.declared.equation.Side.{Side}
 use Rattle.uc_term.specs.declared.equation.Side.TheVariants.{Left, Right}
-use Rattle.uc_term.specs.Tree.{Tree, var, app, Trees, none, more, apply, apply_all, nodes}
+use Rattle.uc_term.specs.Tree.{Tree, var, app, Trees, none, more, apply, apply_all}
 use Rattle.uc_term.specs.Equations.{side_of, other_side_of}
 use Rattle.uc_term.specs.Variables.{Occurs, is_itself, in_args, OccursIn, in_first, in_later}
 use Rattle.uc_term.specs.Within.{Within, at_root, under, WithinOne, at_first, at_later}

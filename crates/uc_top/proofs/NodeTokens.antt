@@ -1,18 +1,16 @@
 -- The tokens of a term that are no marks are its nodes, in order.
-use Rattle.std.proofs.Common.{◌⊎◌, inl, inr, ℕ, zero, suc, ◌+◌, ◌≡◌, ◌<◌, ◌==◌, not, Bool, true, false, cond, List, [], ◌∷◌, ◌++◌, length, filter, get_or, slice_get, drop, if◌then◌else◌, Option, Some, None, refl, sym, ap, ◌∙◌, subst, arith, append_assoc}
-use Rattle.std.specs.Prelude.{◌≢◌}
+use Rattle.std.proofs.Common.{◌⊎◌, inl, inr, ℕ, zero, suc, ◌+◌, ◌≡◌, ◌==◌, not, Bool, true, false, cond, List, [], ◌∷◌, ◌++◌, slice_get, drop, if◌then◌else◌, Option, Some, None, refl, sym, ap, ◌∙◌, subst, arith, append_assoc}
 use Rattle.std.proofs.lemmas.List.{append-nil}
 use Rattle.uc_clause.specs.declared.token.Token.{Token}
 use Rattle.uc_clause.specs.declared.token.Kind.{Kind}
 use Rattle.uc_clause.specs.declared.token.Kind.TheVariants as kind
 use Rattle.uc_clause.specs.declared.terminal.Terminal.{Terminal}
-use Rattle.uc_clause.specs.declared.terminal.Terminal.TheVariants.{Open, Close, OpenSquare, CloseSquare, Comma, Dot, Equal, Bar, Tilde, Star, OtherMark, End}
+use Rattle.uc_clause.specs.declared.terminal.Terminal.TheVariants.{Open, Close, OpenSquare, CloseSquare, Comma, Dot, Equal, Bar, Tilde, Star, OtherMark}
 use Rattle.uc_clause.specs.declared.grammar.head.Head.TheVariants.{Variable, Functor, Neither}
-use Rattle.uc_clause.specs.declared.grammar.stop.Why.{Why}
 use Rattle.uc_clause.specs.declared.grammar.head.Head.{Head}
-use Rattle.uc_clause.specs.Terminals.{terminal_of_mark, terminal_of_kind, terminal_of, terminal_or_end, terminal_at}
-use Rattle.uc_clause.specs.Rules.{Outcome, read, stop, mapped, goes_on, stops_first}
-use Rattle.uc_clause.specs.Parse.{Parse, variable, applied, Parses, no_more, also, leaves, leaves_all}
+use Rattle.uc_clause.specs.Terminals.{terminal_of_mark, terminal_of_kind, terminal_or_end, terminal_at}
+use Rattle.uc_clause.specs.Rules.{Outcome, read, stop, mapped}
+use Rattle.uc_clause.specs.Parse.{Parse, applied, Parses, also, leaves, leaves_all}
 use Rattle.uc_clause.specs.Terms.{head_of, head_at, Term, is_variable, is_constant, is_applied, is_node_too_many, is_no_term, Args, stops_in_it, is_last, is_followed, is_one_too_many, is_followed_by_neither}
 use Rattle.uc_top.specs.TermWords.{is_mark, node_tokens}
 

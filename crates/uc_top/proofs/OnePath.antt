@@ -1,9 +1,9 @@
 -- A place of a term has one written position.
-use Rattle.std.proofs.Common.{◌⊎◌, inl, inr, ℕ, zero, suc, ◌+◌, ◌≡◌, List, [], ◌∷◌, Option, Some, None, refl, sym, ap, ap₂, ◌∙◌, subst, arith}
-use Rattle.std.specs.Prelude.{option_and_then, ◌≢◌}
+use Rattle.std.proofs.Common.{◌⊎◌, inl, inr, ℕ, zero, suc, ◌≡◌, List, [], ◌∷◌, Option, Some, None, refl, sym, ap, ap₂, ◌∙◌, arith}
+use Rattle.std.specs.Prelude.{option_and_then}
 use Rattle.uc_term.specs.declared.node.Sym.{Sym}
 use Rattle.uc_term.specs.Tree.{Tree, var, app, Trees, none, more}
-use Rattle.uc_term.specs.Path.{nth, argument, change, change_argument, written_argument, at_position, put_position}
+use Rattle.uc_term.specs.Path.{nth, change, at_position, put_position}
 use Rattle.uc_term.specs.Positions.{IsPlaceOf}
 
 nth_changed : (g : Tree → Tree) (ts : Trees) (i : ℕ) (t : Tree) → nth ts i ≡ Some t → nth (change g ts i) i ≡ Some (g t)

@@ -1,5 +1,5 @@
 -- Renamed terms compare as they did, where the symbols weigh as much and stand in the same order.
-use Rattle.std.proofs.Common.{◌⊎◌, inl, inr, ℕ, ◌+◌, ◌≡◌, ◌<◌, ◌≤◌, List, [], ◌∷◌, ◌++◌, refl, sym, ap, ap₂, ◌∙◌, subst, arith, count_by}
+use Rattle.std.proofs.Common.{ℕ, ◌+◌, ◌≡◌, ◌++◌, refl, sym, ap, ap₂, ◌∙◌}
 use Rattle.uc_term.specs.declared.node.Sym.{Sym}
 use Rattle.uc_term.specs.Tree.{Tree, var, app, Trees, none, more, count}
 use Rattle.uc_term.specs.Variables.{variables, variables_all}

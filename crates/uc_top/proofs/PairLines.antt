@@ -8,6 +8,7 @@ use Rattle.uc_term.specs.Table.{Table, IsOf}
 use Rattle.uc_order.specs.Laws.{Meaning}
 use Rattle.uc_pair.specs.declared.formed.Formed.{Formed}
 use Rattle.uc_top.specs.Lines.{joined}
+use Rattle.uc_top.specs.Axioms.{AreEquationsOf}
 use Rattle.uc_top.specs.PairsAnswers.{IsPairLine, ArePairLines, no_overlap_left, one_overlap, ArePairsOf, AreInnerLines, no_inner_left, one_inner, AreOuterLines, no_outer_left, one_outer}
 use Rattle.uc_top.proofs.DirectedLines.{joined_one}
 
@@ -20,6 +21,11 @@ found_at xs k x h at = slice_get-get_or xs k x h ∙ ap Some (sym at)
 
 pub same_element : {X : Type 0} (xs : List X) (k l : ℕ) (x y : X) → slice_get xs k ≡ Some x → l < length xs → y ≡ get_or xs l y → k ≡ l → x ≡ y
 same_element xs k l x y p h at e = let r : Some x ≡ Some y = sym p ∙ ap (slice_get xs) e ∙ found_at xs l y h at in cc
+
+pub sides_found : (table : Table) (es : List Equation) (i : ℕ) (e : Equation) → slice_get es i ≡ Some e → AreEquationsOf table es → IsOf table e.left × IsOf table e.right
+sides_found table [] i e q of = absurd cc
+sides_found table (x ∷ xs) zero e q of = let same : x ≡ e = cc in subst (λ (k : Equation). IsOf table k.left × IsOf table k.right) same (of.0, of.1)
+sides_found table (x ∷ xs) (suc i) e q of = sides_found table xs i e q of.2
 
 module _ (table : Table) where
   module _ (a b : Equation) (all : List Formed) where

@@ -11,7 +11,7 @@ use Rattle.uc_fact.specs.declared.chain.Step.{Step}
 use Rattle.uc_fact.specs.declared.fact.Stop.{Stop}
 use Rattle.uc_fact.specs.Live.{Live, Rule, rules_of, numbered_from, numbered}
 use Rattle.uc_fact.proofs.Occurring.{occurs_or_not}
-use Rattle.uc_rewrite.specs.Normalising.{Makes, FirstRule, this_rule, later_rule, FirstStep, in_arguments, at_the_term, FirstStepAmong, in_this, in_another, Normalises, is_full, is_spent, is_large, goes_on}
+use Rattle.uc_rewrite.specs.Normalising.{Makes, FirstRule, this_rule, later_rule, FirstStep, in_arguments, at_the_term, FirstStepAmong, in_this, in_another, Normalises, goes_on}
 use Rattle.uc_top.specs.Axioms.{AreEquationsOf}
 use Rattle.uc_top.specs.RewriteAnswers.{ArePrintable}
 

@@ -1,5 +1,5 @@
 -- What a library's files are read as in one table of symbols they are read as in another, with the symbols renamed.
-use Rattle.std.proofs.Common.{ℕ, zero, suc, ◌+◌, ◌≡◌, ◌||◌, Bool, true, false, cond, List, [], ◌∷◌, ◌++◌, map, filter, slice_get, Option, Some, None, Result, Ok, Err, if◌then◌else◌, refl, sym, ap, ap₂, ◌∙◌, subst}
+use Rattle.std.proofs.Common.{ℕ, ◌+◌, ◌≡◌, ◌||◌, Bool, true, false, cond, List, [], ◌∷◌, map, filter, slice_get, Option, Some, None, Result, Ok, Err, if◌then◌else◌, refl, sym, ap, ap₂, ◌∙◌, subst}
 use Rattle.std.proofs.lemmas.List.{map-append}
 use Rattle.uc_term.specs.declared.node.Sym.{Sym}
 use Rattle.uc_term.specs.Tree.{Tree, var, app, Trees, none, more, count}
@@ -19,7 +19,7 @@ use Rattle.uc_clause.specs.Reading.{ReadsFile}
 use Rattle.uc_problem.specs.declared.counts.Counts.{Counts}
 use Rattle.uc_problem.specs.declared.fault.LoadFault.{LoadFault}
 use Rattle.uc_problem.specs.Candidates.{folder_of}
-use Rattle.uc_problem.specs.Loading.{gives_name, lists_name, same_name, first_missing, listed_or, selected, Loaded, before, all_before, LoadsFile, reads, refused, LoadsItems, no_item, clause, too_many_clauses, too_deep, too_many_files, fetch_fails, absent, stops_inside, misses_name, includes, LoadsProblem, no_fetch, no_problem, loads}
+use Rattle.uc_problem.specs.Loading.{gives_name, lists_name, same_name, first_missing, listed_or, selected, Loaded, before, all_before, LoadsFile, reads, refused, LoadsItems, no_item, clause, too_many_clauses, too_deep, too_many_files, fetch_fails, absent, stops_inside, misses_name, includes, no_fetch, no_problem, loads}
 use Rattle.uc_problem.specs.Holds.{ReadsAs, Flattens}
 
 module _ (ρ : Sym → Sym) where

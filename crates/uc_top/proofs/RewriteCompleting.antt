@@ -1,5 +1,5 @@
 -- How `rewrite` ends.
-use Rattle.std.proofs.Common.{ℕ, zero, suc, ◌+◌, ◌≡◌, ◌≤◌, ◌||◌, not, Bool, true, false, cond, List, [], ◌∷◌, ◌++◌, map, position, slice_get, Option, Some, None, refl, sym, ap, ap₂, ◌∙◌, subst}
+use Rattle.std.proofs.Common.{ℕ, zero, suc, ◌+◌, ◌≡◌, ◌≤◌, ◌||◌, not, cond, List, [], ◌∷◌, ◌++◌, map, position, slice_get, Option, Some, None, refl, sym, ap, ap₂, ◌∙◌, subst}
 use Rattle.std.specs.List.{list_any, position_from}
 use Rattle.std.specs.Io.KnownBytes.{Appends}
 use Rattle.std.proofs.lemmas.Iterator.Adapters.{position_from-zero}
@@ -23,7 +23,6 @@ use Rattle.uc_rewrite.specs.declared.normal.Normal.{Normal}
 use Rattle.uc_words.specs.declared.command.Command.{Command}
 use Rattle.uc_words.specs.declared.command.OrderWords.{OrderWords}
 use Rattle.uc_words.specs.declared.command.Verb.TheVariants as verb
-use Rattle.uc_words.specs.Reads.{Reads}
 use Rattle.uc_ordering.specs.declared.fault.ChoiceFault.{ChoiceFault}
 use Rattle.uc_ordering.specs.declared.fault.ChoiceFault.TheVariants as choice
 use Rattle.uc_ordering.specs.Choice.{IsChosen, IsChoiceFault}
@@ -34,15 +33,15 @@ use Rattle.uc_top.specs.declared.term_word.WordFault.{WordFault}
 use Rattle.uc_top.specs.declared.term_word.WordFault.TheVariants.{Unread, UnknownSymbol, NoMemory}
 use Rattle.uc_top.specs.TermWords.{is_foreign, first_foreign, IsTermWord, IsWordFault}
 use Rattle.uc_top.specs.Axioms.{AreEquationsOf}
-use Rattle.uc_top.specs.RewriteAnswers.{word_line, stop_status, IsNormalFor, AreNormalLines, IsRewritten, is_unordered, is_no_term, is_normalised}
-use Rattle.uc_top.specs.Answers.{RewriteAnswers, fetch_fails, is_refused, is_loaded, Answers}
+use Rattle.uc_top.specs.RewriteAnswers.{word_line, IsNormalFor, AreNormalLines, IsRewritten, is_unordered, is_no_term, is_normalised}
+use Rattle.uc_top.specs.Answers.{RewriteAnswers, fetch_fails, is_refused, is_loaded}
 use Rattle.uc_top.specs.Runs.{MayAnswer, is_answer, wants_memory, IsRun, EndsWith, tells_all, tells_want}
 use Rattle.uc_top.specs.RewriteRuns.{NormalEnds, tells_chain, lacks_memory, RewriteEnds, CompletesRewrite}
 use Rattle.uc_top.proofs.AnswersOnce.{first_name, second_name}
 use Rattle.uc_top.proofs.ByVerb.{of_verb}
 use Rattle.uc_top.proofs.Completing.{told_whole}
-use Rattle.uc_top.proofs.Renamed.{renamed, all_renamed, means_renamed}
-use Rattle.uc_top.proofs.Merged.{Merged, merged, moved, is_moved, grown_at}
+use Rattle.uc_top.proofs.Renamed.{renamed, means_renamed}
+use Rattle.uc_top.proofs.Merged.{Merged}
 use Rattle.uc_top.proofs.Everywhere.{unchanged, isnt_refused, name_moved, node_renamed, flat_renamed}
 use Rattle.uc_top.proofs.CheckHeld.{problem_moved}
 use Rattle.uc_top.proofs.TermWords.{term_of, symbol_of}

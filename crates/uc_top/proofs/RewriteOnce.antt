@@ -1,12 +1,11 @@
 -- A problem, a term and the words of an order have one answer.
-use Rattle.std.proofs.Common.{ℕ, ◌≡◌, List, [], ◌∷◌, ◌++◌, slice_get, Option, Some, None, Result, refl, sym, ap, ap₂, ◌∙◌, subst}
+use Rattle.std.proofs.Common.{ℕ, ◌≡◌, List, ◌++◌, slice_get, Option, Some, None, refl, sym, ap, ap₂, ◌∙◌, subst}
 use Rattle.uc_term.specs.declared.node.Sym.{Sym}
 use Rattle.uc_term.specs.declared.node.Node.{Node}
 use Rattle.uc_term.specs.declared.node.Node.TheVariants.{App}
 use Rattle.uc_term.specs.Tree.{Tree}
 use Rattle.uc_term.specs.Flat.{flat}
 use Rattle.uc_term.specs.Table.{Table, IsDistinct, name_of}
-use Rattle.uc_clause.specs.declared.token.Token.{Token}
 use Rattle.uc_clause.specs.declared.token.Place.{Place}
 use Rattle.uc_clause.specs.declared.fault.ClauseFault.{ClauseFault}
 use Rattle.uc_clause.specs.declared.fault.ClauseFault.TheVariants.{Syntax}

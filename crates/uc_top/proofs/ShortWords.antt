@@ -1,5 +1,5 @@
 -- The positionals of a command line are words of it, so they are short.
-use Rattle.std.proofs.Common.{ℕ, ◌≡◌, ◌<◌, ◌^◌, ◌&&◌, Bool, true, false, nat_lt, List, [], ◌∷◌, ◌++◌, length, Option, Some, None, refl, sym, ap, ◌∙◌, subst, if◌then◌else◌, bytes_eq, drop}
+use Rattle.std.proofs.Common.{ℕ, ◌≡◌, ◌<◌, ◌^◌, Bool, true, false, nat_lt, List, [], ◌∷◌, ◌++◌, length, Option, Some, None, sym, subst, if◌then◌else◌, bytes_eq, drop}
 use Rattle.std.specs.List.{list_all}
 use Rattle.std.proofs.lemmas.Bool.{and_parts, ltb-true}
 use Rattle.uc_words.specs.declared.command.Verb.{Verb}
@@ -12,7 +12,7 @@ use Rattle.uc_words.specs.declared.line.Expects.TheVariants.{Item, Value, Positi
 use Rattle.uc_words.specs.declared.table.Key.{Key}
 use Rattle.uc_words.specs.Forms.{form_of}
 use Rattle.uc_words.specs.Table.{verb_named}
-use Rattle.uc_words.specs.Lines.{item, turn, onto, joined, at_end, line_of, given_value, is_value}
+use Rattle.uc_words.specs.Lines.{item, turn, onto, at_end, line_of, given_value, is_value}
 use Rattle.uc_words.specs.Reads.{is_clean, is_printable, with_items, with_verb, says, Reads}
 
 abbrev pub AreShort : List (List ℕ) → Type 0

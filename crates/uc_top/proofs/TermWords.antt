@@ -1,6 +1,5 @@
 -- The first symbol of a term that isn't known, and where it stands in the word.
-use Rattle.std.proofs.Common.{◌⊎◌, inl, inr, ℕ, zero, suc, ◌+◌, ◌≡◌, ◌<◌, not, Bool, true, false, List, [], ◌∷◌, ◌++◌, length, length-append, position, get_or, slice_get, unwrap_or, Option, Some, None, refl, sym, ap, ◌∙◌, subst, arith}
-use Rattle.std.specs.List.{list_any}
+use Rattle.std.proofs.Common.{ℕ, zero, suc, ◌≡◌, ◌<◌, Bool, true, List, [], ◌∷◌, ◌++◌, length, length-append, position, get_or, slice_get, unwrap_or, Option, Some, refl, sym, ap, ◌∙◌, subst, arith}
 use Rattle.std.proofs.lemmas.List.Quantifiers.{position-Some}
 use Rattle.std.proofs.lemmas.Option.{slice_get-get_or}
 use Rattle.uc_term.specs.declared.node.Sym.{Sym}
@@ -10,19 +9,16 @@ use Rattle.uc_term.specs.Tree.{Tree, var, app, Trees, none, more, count}
 use Rattle.uc_term.specs.Flat.{flat, flat_all}
 use Rattle.uc_term.specs.Table.{Table, Entry, Has, IsOf, IsSymbol, arity_of, name_of}
 use Rattle.uc_term.specs.Over.{AreOver}
-use Rattle.uc_term.specs.Signatures.{same_symbol}
 use Rattle.uc_clause.specs.declared.token.Token.{Token}
 use Rattle.uc_clause.specs.declared.token.Place.{Place}
-use Rattle.uc_clause.specs.Tokens.{AreTokens}
-use Rattle.uc_clause.specs.Terminals.{place_or_end, place_at}
+use Rattle.uc_clause.specs.Terminals.{place_or_end}
 use Rattle.uc_clause.specs.Rules.{read, goes_on}
 use Rattle.uc_clause.specs.Parse.{Parse, Parses, leaves, leaves_all}
 use Rattle.uc_clause.specs.Terms.{Term}
 use Rattle.uc_clause.specs.Items.{term_alone}
 use Rattle.uc_clause.specs.Meaning.{Variables, Means, variable_means, functor_means, MeanAll, none_mean, more_mean}
 use Rattle.uc_clause.specs.Reading.{ReadsTerm}
-use Rattle.uc_clause.proofs.Tables.{get_within}
-use Rattle.uc_top.specs.TermWords.{is_foreign, first_foreign, node_tokens, place_or_first, node_place, HasForeign}
+use Rattle.uc_top.specs.TermWords.{is_foreign, first_foreign, place_or_first, node_place, HasForeign}
 use Rattle.uc_top.proofs.NodeTokens.{node_at}
 
 some_within : {X : Type 0} (xs : List X) (i : ℕ) (x : X) → slice_get xs i ≡ Some x → i < length xs

@@ -1,5 +1,5 @@
 -- What `order` answers for a problem.
-use Rattle.std.specs.Prelude.{ℕ, ◌≡◌, List, [], ◌∷◌, ◌++◌, codes, decimal, None}
+use Rattle.std.specs.Prelude.{ℕ, ◌≡◌, List, [], ◌++◌, codes, decimal, None}
 use Rattle.uc_term.specs.Table.{Table}
 use Rattle.uc_clause.specs.Names.{spelling}
 use Rattle.uc_check.specs.Clauses.{axioms_of}

@@ -1,5 +1,5 @@
 -- A term that is a word of the command line, over the symbols of a signature.
-use Rattle.std.specs.Prelude.{ℕ, ◌≡◌, not, Bool, true, false, List, [], ◌∷◌, filter, position, slice_get, Option, Some, None}
+use Rattle.std.specs.Prelude.{ℕ, ◌≡◌, not, Bool, true, false, List, filter, position, slice_get, Option, Some, None}
 use Rattle.std.specs.List.{list_any}
 use Rattle.uc_term.specs.declared.node.Sym.{Sym}
 use Rattle.uc_term.specs.declared.node.Node.{Node}
@@ -12,7 +12,6 @@ use Rattle.uc_clause.specs.declared.token.Kind.{Kind}
 use Rattle.uc_clause.specs.declared.token.Kind.TheVariants.{Mark}
 use Rattle.uc_clause.specs.declared.token.Token.{Token}
 use Rattle.uc_clause.specs.declared.token.Place.{Place}
-use Rattle.uc_clause.specs.declared.fault.ClauseFault.{ClauseFault}
 use Rattle.uc_clause.specs.Parse.{leaves}
 use Rattle.uc_clause.specs.Terminals.{place_at}
 use Rattle.uc_clause.specs.Items.{term_alone}

@@ -1,4 +1,4 @@
-use Rattle.std.proofs.Common.{◌≤◌, ℕ, List, ◌++◌, drop, length}
+use Rattle.std.proofs.Common.{drop}
 use Rattle.uc_top.specs.RewriteAnswers.{ArePrintable}
 use Rattle.uc_top.proofs.ChainLines.{Begun}
 use Rattle.uc_top.proofs.chaining.step_lines.Given as goal

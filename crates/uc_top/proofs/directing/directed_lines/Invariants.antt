@@ -1,4 +1,4 @@
-use Rattle.std.proofs.Common.{◌≤◌, ℕ, List, ◌++◌, drop, length}
+use Rattle.std.proofs.Common.{ℕ, List, ◌++◌, drop}
 use Rattle.uc_top.specs.Lines.{joined}
 use Rattle.uc_top.specs.Directions.{AreDirected}
 use Rattle.uc_top.proofs.directing.directed_lines.Given as goal

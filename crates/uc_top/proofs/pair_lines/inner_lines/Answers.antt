@@ -1,7 +1,10 @@
 use Rattle.std.proofs.Common.{arith}
 use Rattle.uc_top.proofs.DirectedLines.{sides_of}
-use Rattle.uc_top.proofs.PairLines.{same_element, one_more_inner, all_inner_told}
+use Rattle.uc_top.proofs.PairLines.{sides_found, same_element, one_more_inner, all_inner_told}
 use Rattle.uc_top.proofs.pair_lines.inner_lines.Goals as goal
+
+pub pairs_of-requires-clause-a : goal.pairs_of-requires-clause-a
+pairs_of-requires-clause-a g c = sides_found c.args.symbols.now c.args.equations.now c.args.outer c.args.a.now c.requires.one c.requires.over
 
 pub pairs_of-requires-clause-b : goal.pairs_of-requires-clause-b
 pairs_of-requires-clause-b g c = sides_of c.args.symbols.now c.args.equations.now c.loop-inner.inner c.index-equations-inner.result (omega arith) c.index-equations-inner.is c.requires.over
