@@ -1,3 +1,4 @@
+pub mod Fitting
 pub mod Numbering
 pub mod Overlapping
 pub mod Listing

@@ -1,5 +1,5 @@
 -- Variables renumbered by their places in a list of names.
-use Rattle.std.specs.Prelude.{ℕ, ◌≡◌, ◌+◌, ◌<◌, ◌⊎◌, ◌++◌, ◌∷◌, [], List, length, slice_get, Some}
+use Rattle.std.specs.Prelude.{ℕ, ◌≡◌, ◌+◌, ◌≤◌, ◌++◌, ◌∷◌, [], List, length}
 use Rattle.uc_term.specs.declared.node.Node.{Node}
 use Rattle.uc_term.specs.declared.node.Node.TheVariants.{Var, App}
 use Rattle.uc_term.specs.Tree.{Tree, var, apply}
@@ -12,6 +12,7 @@ placed_by names offset t = apply (λ x. var (place_of names x + offset)) t
 -- the name has this place among the new names, which are the old ones with the name behind them where it is new
 pub record IsNameAt (x : ℕ) (old new : List ℕ) (place : ℕ) : Type 0 where
   pub names_are : new ≡ old ++ firsts_after old (x ∷ [])
+  pub low : place ≤ length old
   pub place_is : (rest : List ℕ) → place ≡ place_of (new ++ rest) x
 
 -- the node is the old one with its variable renumbered so

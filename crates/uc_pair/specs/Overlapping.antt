@@ -1,11 +1,9 @@
 -- Overlaps of two rules: a side of the inner one unifies with a part of a side of the outer one (Baader and Nipkow, Term
 -- Rewriting and All That, section 6.2).
-use Rattle.std.specs.Prelude.{ℕ, ◌≡◌, ◌+◌, ◌<◌, ◌≤◌, ◌⊎◌, List}
+use Rattle.std.specs.Prelude.{ℕ, ◌≡◌, ◌+◌, ◌<◌, ◌≤◌, ◌⊎◌}
 use Rattle.uc_term.specs.declared.equation.Equation.{Equation}
 use Rattle.uc_term.specs.declared.equation.Side.{Side}
-use Rattle.uc_term.specs.Tree.{Tree, var, apply, nodes, subterm}
-use Rattle.uc_term.specs.Path.{put_position}
-use Rattle.uc_term.specs.Positions.{IsPlaceOf}
+use Rattle.uc_term.specs.Tree.{Tree, var, apply, nodes, subterm, put}
 use Rattle.uc_term.specs.Variables.{Occurs, IsApp}
 use Rattle.uc_unify.specs.Unifiers.{IsMostGeneral, HasNoUnifier}
 use Rattle.uc_fact.specs.declared.fact.Overlap.{Overlap}
@@ -29,8 +27,7 @@ IsBelow k rule = (x : ℕ) → Occurs x rule.from ⊎ Occurs x rule.to → x < k
 -- The inner rule's side, its variables renamed apart, unifies with the part of the outer rule's side at a place, which is no
 -- variable, by a most general unifier.
 pub record Overlapping (outer inner : Rule) (place : ℕ) : Type 0 where
-  pub path : List ℕ
-  pub path_is : IsPlaceOf outer.from path place
+  pub inside : place < nodes outer.from
   pub no_variable : IsApp (subterm outer.from place)
   pub k : ℕ
   pub apart : IsBelow k outer
@@ -58,9 +55,9 @@ inner_from {inner = inner} o = apply o.σ (shifted o.k inner.from)
 abbrev pub inner_to : {outer inner : Rule} {place : ℕ} → Overlapping outer inner place → Tree
 inner_to {inner = inner} o = apply o.σ (shifted o.k inner.to)
 
--- the pair's right side: the instance of the outer side with that of the inner rule's other side at the place
+-- the pair's right side: the instance of the outer side, in which the inner rule's other side stands at the place
 abbrev pub right_of : {outer inner : Rule} {place : ℕ} → Overlapping outer inner place → Tree
-right_of o = put_position (peak o) o.path (inner_to o)
+right_of {outer = outer} {inner = inner} {place = place} o = apply o.σ (put outer.from place (shifted o.k inner.to))
 
 -- the term has more nodes than a term may have
 abbrev pub IsLarge : Tree → Type 0

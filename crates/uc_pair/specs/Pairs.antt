@@ -45,8 +45,11 @@ chain_by outer inner place left top right = record {
 pub record IsPairBy {outer inner : Rule} {place : ℕ} (o : Overlapping outer inner place) (left right : Tree) (chain : Chain) : Type 0 where
   pub left_is : left ≡ numbered_by o (left_of o)
   pub right_is : right ≡ numbered_by o (right_of o)
+  -- the place in the peak is at the same position as the place in the outer side
+  pub path : List ℕ
   pub there : ℕ
-  pub there_is : IsPlaceOf (peak o) o.path there
+  pub path_is : IsPlaceOf outer.from path place
+  pub there_is : IsPlaceOf (peak o) path there
   pub chain_is : chain ≡ chain_by outer inner there left (numbered_by o (peak o)) right
 
 -- what the overlap's pair comes to

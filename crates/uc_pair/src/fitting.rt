@@ -1,9 +1,16 @@
 //! Whether two terms may unify: a test that takes no memory.
 
-use uc_term::{Node, Sym, Term, end_of};
+ghost use Rattle.std.specs.Prelude.{◌≡◌, ◌↔◌, ◌<◌, ◌≤◌, ℕ, length, IsTrue, false, MatchOption};
+ghost use Rattle.uc_term.specs.Tree.{subterm};
+ghost use Rattle.uc_term.specs.Flat.{tree_of, IsWhole};
+ghost use Rattle.uc_term.specs.Variables.{IsApp};
+ghost use Rattle.uc_pair.specs.Fitting.{NeverMeet, MeetFrom, WalksOn, HasNoFit, IsFirstFit, FitsNowhere};
 
-/// The first place of the outer side where a symbol stands and the inner side may unify. It takes no memory.
+use uc_term::{MAX_NODES, Node, Sym, Term, end_of};
+
+/// The first place of the outer side where a symbol stands and the part may unify with the inner side. It takes no memory.
 pub(crate) fn first_fit(outer: &Term, inner: &Term) -> Option<u32>
+    ensures { MatchOption result (FitsNowhere outer.now inner.now) (IsFirstFit outer.now inner.now) }
 {
     for place in 0..outer.nodes() {
         if fits_at(outer.as_nodes(), place as usize, inner.as_nodes()) {
@@ -13,9 +20,16 @@ pub(crate) fn first_fit(outer: &Term, inner: &Term) -> Option<u32>
     None
 }
 
-/// Whether a symbol stands at the place and the part there has no other symbol than the inner side where both have one. It
+/// Whether a symbol stands at the place, and the part there has the same symbols as the inner side where both have one. It
 /// takes no memory.
 pub(crate) fn fits_at(outer: &[Node], place: usize, inner: &[Node]) -> bool
+    requires whole_outer { IsWhole outer.now }
+    requires whole_inner { IsWhole inner.now }
+    requires small_outer { length outer.now ≤ MAX_NODES }
+    requires small_inner { length inner.now ≤ MAX_NODES }
+    requires within { place < length outer.now }
+    ensures symbol { IsTrue result → IsApp (subterm (tree_of outer.now) place) }
+    ensures none { result ≡ false → HasNoFit (tree_of outer.now) (tree_of inner.now) place }
 {
     match outer[place] {
         Node::Var(_) => false,
@@ -25,27 +39,71 @@ pub(crate) fn fits_at(outer: &[Node], place: usize, inner: &[Node]) -> bool
 
 /// Whether the two terms have the same symbols where both have one.
 fn fits(s: &[Node], t: &[Node]) -> bool
+    requires whole_s { IsWhole s.now }
+    requires whole_t { IsWhole t.now }
+    requires small_s { length s.now ≤ MAX_NODES }
+    requires small_t { length t.now ≤ MAX_NODES }
+    ensures { result ≡ false → NeverMeet (tree_of s.now) (tree_of t.now) }
 {
     let mut p = 0;
     let mut q = 0;
     while p < s.len() {
-        match (s[p], t[q]) {
-            (Node::Var(_), _) => {
-                p += 1;
-                q = end_of(t, q);
+        match next_places(s, t, p, q) {
+            Some(next) => {
+                p = next.0;
+                q = next.1;
             }
-            (Node::App(_, _), Node::Var(_)) => {
-                p = end_of(s, p);
-                q += 1;
-            }
-            (Node::App(f, n), Node::App(g, m)) => {
-                if !(f == g && n == m) {
-                    return false;
-                }
-                p += 1;
-                q += 1;
-            }
+            None => return false,
         }
     }
     true
+}
+
+/// The places behind two nodes: where one of them is a variable, behind the term that stands against it. None where two
+/// different symbols stand.
+fn next_places(s: &[Node], t: &[Node], p: usize, q: usize) -> Option<(usize, usize)>
+    requires whole_s { IsWhole s.now }
+    requires whole_t { IsWhole t.now }
+    requires small_s { length s.now ≤ MAX_NODES }
+    requires small_t { length t.now ≤ MAX_NODES }
+    requires within { p < length s.now }
+    requires meets { MeetFrom s.now t.now p q }
+    ensures { MatchOption result (NeverMeet (tree_of s.now) (tree_of t.now)) (WalksOn s.now t.now p) }
+{
+    match s[p] {
+        Node::Var(_) => Some((p + 1, end_of(t, q))),
+        Node::App(f, n) => {
+            if is_var(t[q]) {
+                return Some((end_of(s, p), q + 1));
+            }
+            if is_head(t[q], f, n) {
+                Some((p + 1, q + 1))
+            } else {
+                None
+            }
+        }
+    }
+}
+
+/// Whether the node is a variable.
+#[inline]
+fn is_var(node: Node) -> bool
+    ensures is { IsTrue result → (x : ℕ) × (node ≡ Node.Var x) }
+    ensures not { result ≡ false → (x : ℕ) → node ≡ Node.Var x → ⊥ }
+{
+    match node {
+        Node::Var(_) => true,
+        Node::App(_, _) => false,
+    }
+}
+
+/// Whether the node is this symbol with this number of arguments.
+#[inline]
+fn is_head(node: Node, f: Sym, n: u32) -> bool
+    ensures { IsTrue result ↔ (node ≡ Node.App f n) }
+{
+    match node {
+        Node::App(g, m) => g == f && m == n,
+        Node::Var(_) => false,
+    }
 }

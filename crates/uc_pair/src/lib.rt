@@ -17,3 +17,6 @@ pub use formation::Formation;
 pub use formed::{Formed, Size};
 pub use listing::overlaps;
 pub use pairing::pair_of;
+
+#[cfg(test)]
+mod tests;

@@ -19,12 +19,13 @@ pub(crate) fn number(
     requires few { length names.old.items ≤ 8192 }
     requires low { offset ≤ 8192 }
     ensures names { IfOk result (λ _. names.new.items ≡ names.old.items ++ firsts_after names.old.items (variables term.now)) }
-    ensures length { IfOk result (λ _. length names.new.items ≤ length names.old.items + nodes term.now) }
+    ensures length { IfOk result (λ _. length names.new.items ≤ length names.old.items + 4096) }
     // more names behind change nothing
     ensures numbered { IfOk result (λ t. (rest : List ℕ) → t ≡ placed_by (names.new.items ++ rest) offset term.now) }
 {
     let mut list = Vec::new(alloc);
-    for node in term.as_nodes() {
+    let nodes = term.as_nodes();
+    for node in nodes {
         list.push(number_node(*node, names, offset)?)?;
     }
     Ok(Term::from_nodes(list))

@@ -1,0 +1,33 @@
+-- Parts of flat lists, and what stands there.
+use Rattle.std.proofs.Common.{◌≡◌, ℕ, ◌+◌, ◌-◌, ◌<◌, List, ◌∷◌, take, drop, get_or, length, true, false, IsTrue, refl, sym, ap, ◌∙◌, subst, arith, inl, inr}
+use Rattle.uc_term.specs.declared.node.Sym.{Sym}
+use Rattle.uc_term.specs.declared.node.Node.{Node}
+use Rattle.uc_term.specs.declared.node.Node.TheVariants.{Var, App}
+use Rattle.uc_term.specs.Tree.{Tree, var, nodes, subterm}
+use Rattle.uc_term.specs.Flat.{flat, tree_of, IsWhole}
+use Rattle.uc_term.specs.Code.{tree_of-flat}
+use Rattle.uc_term.specs.Variables.{IsApp}
+use Rattle.uc_term.proofs.Terms.{whole-flat, length-flat, nodes_whole}
+use Rattle.uc_term.proofs.Ahead.{drop-at, at_place, subterm_of-drop}
+use Rattle.uc_pair.specs.Fitting.{NeverMeet, HasNoFit}
+
+pub part_list : (ns : List Node) (p to : ℕ) → IsWhole ns → p < length ns → to ≡ p + nodes (tree_of (drop p ns)) → take (to - p) (drop p ns) ≡ flat (subterm (tree_of ns) p)
+part_list ns p to w h e = (at_place ns ns (tree_of ns) p to refl w refl h e).1
+
+pub part_whole : (ns : List Node) (p to : ℕ) → IsWhole ns → p < length ns → to ≡ p + nodes (tree_of (drop p ns)) → IsWhole (take (to - p) (drop p ns))
+part_whole ns p to w h e = subst IsWhole (sym (part_list ns p to w h e)) (whole-flat (subterm (tree_of ns) p))
+
+pub part_tree : (ns : List Node) (p to : ℕ) → IsWhole ns → p < length ns → to ≡ p + nodes (tree_of (drop p ns)) → tree_of (take (to - p) (drop p ns)) ≡ subterm (tree_of ns) p
+part_tree ns p to w h e = ap tree_of (part_list ns p to w h e) ∙ tree_of-flat (subterm (tree_of ns) p)
+
+pub variable_at : (ns : List Node) (p x : ℕ) (d : Node) → IsWhole ns → p < length ns → get_or ns p d ≡ Var x → subterm (tree_of ns) p ≡ var x
+variable_at ns p x d w h e = sym (subterm_of-drop ns p w h) ∙ ap tree_of (drop-at ns p d h ∙ ap (λ y. y ∷ drop (p + 1) ns) e)
+
+pub symbol_at : (ns : List Node) (p : ℕ) (f : Sym) (n : ℕ) (d : Node) → IsWhole ns → p < length ns → get_or ns p d ≡ App f n → IsApp (subterm (tree_of ns) p)
+symbol_at ns p f n d w h e = subst IsApp (sym (ap tree_of (drop-at ns p d h ∙ ap (λ y. y ∷ drop (p + 1) ns) e)) ∙ subterm_of-drop ns p w h) tt
+
+pub no_symbol_at : (ns : List Node) (p x : ℕ) (d : Node) → IsWhole ns → p < length ns → get_or ns p d ≡ Var x → IsApp (subterm (tree_of ns) p) → ⊥
+no_symbol_at ns p x d w h e a = subst IsApp (variable_at ns p x d w h e) a
+
+pub no_fit : (ns ms : List Node) (p to : ℕ) → IsWhole ns → p < length ns → to ≡ p + nodes (tree_of (drop p ns)) → NeverMeet (tree_of (take (to - p) (drop p ns))) (tree_of ms) → HasNoFit (tree_of ns) (tree_of ms) p
+no_fit ns ms p to w h e n = inr (subst (λ t. NeverMeet t (tree_of ms)) (part_tree ns p to w h e) n)
