@@ -1,5 +1,7 @@
-pub mod Fitting
-pub mod Numbering
 pub mod Overlapping
 pub mod Listing
 pub mod Pairs
+pub mod Numbering
+pub mod Fitting
+pub mod Reading
+pub mod Judging

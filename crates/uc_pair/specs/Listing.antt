@@ -14,11 +14,17 @@ pub data ComesBefore (r s : Rule) : Type 0 where
   by_number : r.number < s.number → ComesBefore r s
   by_side : r.number ≡ s.number → r.side ≡ Left → s.side ≡ Right → ComesBefore r s
 
+-- they are one rule, whose other side has no variable that its side lacks
+pub record IsCopy (outer inner : Rule) : Type 0 where
+  pub one_number : inner.number ≡ outer.number
+  pub one_side : inner.side ≡ outer.side
+  pub no_further : (x : ℕ) → Occurs x outer.to → Occurs x outer.from
+
 -- At the root, where the inner side is no variable, the same pair comes from the rules the other way round; or a side is unified
 -- with its own copy, and the other side has no variable that it lacks.
 pub data IsRepeated (outer inner : Rule) (place : ℕ) : Type 0 where
   inner_is_later : place ≡ 0 → IsApp inner.from → ComesBefore outer inner → IsRepeated outer inner place
-  with_its_copy : place ≡ 0 → IsApp inner.from → inner.number ≡ outer.number → inner.side ≡ outer.side → ((x : ℕ) → Occurs x outer.to → Occurs x outer.from) → IsRepeated outer inner place
+  with_its_copy : place ≡ 0 → IsApp inner.from → IsCopy outer inner → IsRepeated outer inner place
 
 -- what is greater
 module _ (Greater : Tree → Tree → Type 0) where

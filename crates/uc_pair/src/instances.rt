@@ -1,5 +1,11 @@
 //! Two rules whose variables are renamed apart, and their instances by a unifier.
 
+ghost use Rattle.std.specs.Prelude.{◌≡◌, ◌<◌, ℕ, IfOk};
+ghost use Rattle.uc_term.specs.Tree.{Tree, nodes};
+ghost use Rattle.uc_term.specs.Subst.{image};
+ghost use Rattle.uc_pair.specs.Reading.{rule_read, AreApart};
+ghost use Rattle.uc_pair.specs.Judging.{IsInstance, IsPut, IsReplaced};
+
 use crate::numbering::number;
 use crate::reading::Read;
 use std::alloc::{AllocError, Global};
@@ -17,6 +23,7 @@ pub(crate) struct RenamedApart {
 
 /// The rules' variables renamed apart.
 pub(crate) fn rename_apart(alloc: Global, outer: &Read, inner: &Read) -> Result<RenamedApart, AllocError>
+    ensures { IfOk result (AreApart (rule_read outer.now) (rule_read inner.now)) }
 {
     let mut names = Vec::new(alloc);
     let outer_from = number(alloc, outer.from, &mut names, 0)?;
@@ -39,6 +46,7 @@ pub(crate) fn instance_of(
     term: &Term,
     subst: &Subst,
 ) -> Result<Option<Term>, AllocError>
+    ensures { IfOk result (IsInstance (image subst.now) term.now) }
 {
     let nodes = term.as_nodes();
     if instance_size(nodes, subst) > MAX_NODES {
@@ -63,6 +71,8 @@ pub(crate) fn replaced(
     instance: &Option<Term>,
     part: &Option<Term>,
 ) -> Result<Option<Placed>, AllocError>
+    requires { place < nodes term.now }
+    ensures { IfOk result (λ placed. (σ : ℕ → Tree) (v : Tree) → IsInstance σ term.now instance.now → IsInstance σ v part.now → IsReplaced σ term.now place v placed) }
 {
     let Some(whole) = instance else {
         return Ok(None);
@@ -74,16 +84,18 @@ pub(crate) fn replaced(
     let Some(there) = whole.pos_of(path.as_slice()) else {
         return Ok(None);
     };
-    put(alloc, whole, there, part)
+    put_part(alloc, whole, there, part)
 }
 
 /// The term with its subterm at a place replaced. None exactly where it has more than 4,096 nodes.
-fn put(
+fn put_part(
     alloc: Global,
     term: &Term,
     there: Pos,
     part: &Term,
 ) -> Result<Option<Placed>, AllocError>
+    requires { there.0 < nodes term.now }
+    ensures { IfOk result (IsPut term.now there.0 part.now) }
 {
     match term.put(alloc, there, part) {
         Ok(term) => Ok(Some(Placed { term, there })),

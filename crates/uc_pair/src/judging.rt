@@ -1,5 +1,14 @@
 //! Whether there is an overlap at a place, whether it is left out, and how large its pair is.
 
+ghost use Rattle.std.specs.Prelude.{◌≡◌, ◌↔◌, ◌<◌, ℕ, IsTrue, IfOk};
+ghost use Rattle.uc_term.specs.Tree.{Tree, apply, nodes, subterm};
+ghost use Rattle.uc_term.specs.Subst.{image};
+ghost use Rattle.uc_term.specs.Variables.{IsApp};
+ghost use Rattle.uc_unify.specs.Unifiers.{IsMostGeneral};
+ghost use Rattle.uc_pair.specs.Listing.{NeverDown, IsRepeated};
+ghost use Rattle.uc_pair.specs.Reading.{rule_read, AreApart};
+ghost use Rattle.uc_pair.specs.Judging.{IsInstance, IsSizeOf, AreAtMost, IsJudged, IsJudgedBy};
+
 use crate::Size;
 use crate::fitting::fits_at;
 use crate::instances::{RenamedApart, instance_of, replaced};
@@ -19,6 +28,11 @@ pub(crate) fn size_at<O: Order>(
     place: u32,
     order: &O,
 ) -> Result<Option<Size>, AllocError>
+    requires apart { AreApart (rule_read outer.now) (rule_read inner.now) terms.now }
+    requires inside { place < nodes outer.now.from.now }
+    requires outer_down { NeverDown (O.meaning order.now).greater (rule_read outer.now) → ⊥ }
+    requires inner_down { NeverDown (O.meaning order.now).greater (rule_read inner.now) → ⊥ }
+    ensures { IfOk result (IsJudged (O.meaning order.now).greater (rule_read outer.now) (rule_read inner.now) place) }
 {
     if is_repeated(outer, inner, place) {
         return Ok(None);
@@ -45,6 +59,8 @@ fn judged<O: Order>(
     subst: &Subst,
     order: &O,
 ) -> Result<Option<Size>, AllocError>
+    requires inside { place < nodes terms.now.outer_from }
+    ensures { IfOk result (IsJudgedBy (O.meaning order.now).greater terms.now place (image subst.now)) }
 {
     let peak = instance_of(alloc, &terms.outer_from, subst)?;
     let left = instance_of(alloc, &terms.outer_to, subst)?;
@@ -65,6 +81,7 @@ fn judged<O: Order>(
 /// Whether the instance of a side is at most that of the other side, where both are small. Where one is too large, the sides
 /// themselves are compared, and these lead down.
 fn goes_up<O: Order>(from: &Option<Term>, to: &Option<Term>, order: &O) -> bool
+    ensures { IsTrue result ↔ AreAtMost (O.meaning order.now).greater from.now to.now }
 {
     let Some(from) = from else {
         return false;
@@ -77,6 +94,7 @@ fn goes_up<O: Order>(from: &Option<Term>, to: &Option<Term>, order: &O) -> bool
 
 /// The size of a pair whose right side is small.
 fn size_of(left: &Option<Term>, right: &Term) -> Size
+    ensures { (σ : ℕ → Tree) (t : Tree) → IsInstance σ t left.now → IsSizeOf (apply σ t) right.now result }
 {
     let Some(left) = left else {
         return Size::Large;

@@ -1,5 +1,12 @@
 //! Facts read from one of their sides to the other.
 
+ghost use Rattle.std.specs.Prelude.{◌≡◌, ◌↔◌, ℕ, IsTrue, false};
+ghost use Rattle.uc_term.specs.Flat.{tree_of, IsWhole};
+ghost use Rattle.uc_term.specs.Variables.{Occurs, IsApp};
+ghost use Rattle.uc_pair.specs.Overlapping.{read_from};
+ghost use Rattle.uc_pair.specs.Listing.{AtMost, NeverDown, ComesBefore, IsCopy, IsRepeated};
+ghost use Rattle.uc_pair.specs.Reading.{rule_read};
+
 use uc_fact::Side;
 use uc_order::{Cmp, Order};
 use uc_term::{Equation, Node, Term};
@@ -16,6 +23,7 @@ pub(crate) struct Read<'a> {
 impl<'a> Read<'a> {
     /// The equation of this number, read from this side.
     pub(crate) fn new(number: u32, side: Side, equation: &'a Equation) -> Self
+        ensures { rule_read result ≡ read_from number side equation.now }
     {
         match side {
             Side::Left => Read {
@@ -36,12 +44,14 @@ impl<'a> Read<'a> {
 
 /// Whether the side from which it is read is the other one, or less; so are its instances then.
 pub(crate) fn is_never_down<O: Order>(rule: &Read, order: &O) -> bool
+    ensures { IsTrue result ↔ NeverDown (O.meaning order.now).greater (rule_read rule.now) }
 {
     is_at_most(rule.from, rule.to, order)
 }
 
 /// Whether a term is another one, or less.
 pub(crate) fn is_at_most<O: Order>(s: &Term, t: &Term, order: &O) -> bool
+    ensures { IsTrue result ↔ AtMost (O.meaning order.now).greater s.now t.now }
 {
     match order.compare(s.as_nodes(), t.as_nodes()) {
         Cmp::Less => true,
@@ -54,6 +64,7 @@ pub(crate) fn is_at_most<O: Order>(s: &Term, t: &Term, order: &O) -> bool
 /// Whether the overlap at this place is left out, since it is repeated: at the root, where the inner side is no variable, the
 /// rules come the other way round too; or a side meets its own copy, and the other side has no further variable.
 pub(crate) fn is_repeated(outer: &Read, inner: &Read, place: u32) -> bool
+    ensures { IsTrue result ↔ IsRepeated (rule_read outer.now) (rule_read inner.now) place }
 {
     place == 0
         && !is_variable(inner.from)
@@ -61,6 +72,7 @@ pub(crate) fn is_repeated(outer: &Read, inner: &Read, place: u32) -> bool
 }
 
 fn is_variable(term: &Term) -> bool
+    ensures { (result ≡ false) ↔ IsApp term.now }
 {
     match term.as_nodes()[0] {
         Node::Var(_) => true,
@@ -70,6 +82,7 @@ fn is_variable(term: &Term) -> bool
 
 /// Whether the first rule comes before the second: facts are compared first, and left comes before right.
 fn comes_before(first: &Read, second: &Read) -> bool
+    ensures { IsTrue result ↔ ComesBefore (rule_read first.now) (rule_read second.now) }
 {
     first.number < second.number
         || first.number == second.number
@@ -79,6 +92,7 @@ fn comes_before(first: &Read, second: &Read) -> bool
 
 /// Whether they are one rule whose other side has no further variable.
 fn is_copy(outer: &Read, inner: &Read) -> bool
+    ensures { IsTrue result ↔ IsCopy (rule_read outer.now) (rule_read inner.now) }
 {
     inner.number == outer.number
         && inner.side == outer.side
@@ -87,19 +101,31 @@ fn is_copy(outer: &Read, inner: &Read) -> bool
 
 /// Whether each variable of the first term occurs in the second.
 fn has_variables_of(term: &Term, other: &Term) -> bool
+    ensures { IsTrue result ↔ ((x : ℕ) → Occurs x term.now → Occurs x other.now) }
 {
-    for node in term.as_nodes() {
-        if let Node::Var(x) = *node {
-            if !has_variable(other.as_nodes(), x) {
-                return false;
-            }
+    let nodes = term.as_nodes();
+    for node in nodes {
+        if is_further(*node, other) {
+            return false;
         }
     }
     true
 }
 
-/// Whether the variable occurs among the nodes.
+/// Whether the node is a variable that doesn't occur in the term.
+fn is_further(node: Node, other: &Term) -> bool
+    ensures { (result ≡ false) ↔ ((x : ℕ) → node ≡ Node.Var x → Occurs x other.now) }
+{
+    match node {
+        Node::Var(x) => !has_variable(other.as_nodes(), x),
+        Node::App(_, _) => false,
+    }
+}
+
+/// Whether the variable occurs in the term.
 fn has_variable(nodes: &[Node], x: u32) -> bool
+    requires { IsWhole nodes.now }
+    ensures { IsTrue result ↔ Occurs x (tree_of nodes.now) }
 {
     for node in nodes {
         if *node == Node::Var(x) {

@@ -1,0 +1,80 @@
+-- What the place of an outer side comes to, found by instances that are built only where they are small.
+use Rattle.std.specs.Prelude.{ℕ, ◌≡◌, ◌+◌, ◌⊎◌, ◌++◌, List, ◌∷◌, Option, Some, None}
+use Rattle.uc_term.specs.Tree.{Tree, apply, nodes, put}
+use Rattle.uc_term.specs.Positions.{IsPlaceOf}
+use Rattle.uc_fact.specs.Live.{Rule}
+use Rattle.uc_pair.specs.declared.formed.Size.{Size}
+use Rattle.uc_pair.specs.declared.formed.Size.TheVariants.{Weight, Same, Large}
+use Rattle.uc_pair.specs.declared.formed.Formed.{Formed}
+use Rattle.uc_pair.specs.declared.instances.Placed.{Placed}
+use Rattle.uc_pair.specs.declared.instances.RenamedApart.{RenamedApart}
+use Rattle.uc_pair.specs.Overlapping.{IsLarge, IsSmall, overlap_at}
+use Rattle.uc_pair.specs.Listing.{AtMost, Lists}
+
+-- the instance, where it is small
+abbrev pub IsInstance : (ℕ → Tree) → Tree → Option Tree → Type 0
+IsInstance σ t None = IsLarge (apply σ t)
+IsInstance σ t (Some u) = (u ≡ apply σ t) × IsSmall (apply σ t)
+
+-- the term with its subterm at a place replaced, where it is small
+abbrev pub IsPut : Tree → ℕ → Tree → Option Placed → Type 0
+IsPut t place part None = IsLarge (put t place part)
+IsPut t place part (Some placed) = (placed.term ≡ put t place part) × IsSmall (put t place part) × (placed.there.0 ≡ place)
+
+-- the instance of a term in which another term stands at a place, and the place of the same position in the term's instance
+pub record IsReplacedBy (σ : ℕ → Tree) (t : Tree) (place : ℕ) (v : Tree) (placed : Placed) : Type 0 where
+  pub term_is : placed.term ≡ apply σ (put t place v)
+  pub small : IsSmall (apply σ (put t place v))
+  pub path : List ℕ
+  pub path_is : IsPlaceOf t path place
+  pub there_is : IsPlaceOf (apply σ t) path placed.there.0
+
+-- this, where it and the term's instance are small
+abbrev pub IsReplaced : (ℕ → Tree) → Tree → ℕ → Tree → Option Placed → Type 0
+IsReplaced σ t place v None = IsLarge (apply σ t) ⊎ IsLarge (apply σ (put t place v))
+IsReplaced σ t place v (Some placed) = IsReplacedBy σ t place v placed
+
+-- the size of a pair whose right side is small
+abbrev pub IsSizeOf : Tree → Tree → Size → Type 0
+IsSizeOf left right Large = IsLarge left
+IsSizeOf left right Same = IsSmall left × (left ≡ right)
+IsSizeOf left right (Weight weight) = IsSmall left × (left ≡ right → ⊥) × (weight ≡ nodes left + nodes right)
+
+abbrev pub formed_at : Rule → Rule → ℕ → Size → Formed
+formed_at outer inner place size = record { overlap = overlap_at outer inner place; size = size }
+
+module _ (Greater : Tree → Tree → Type 0) where
+  -- both instances are small, and the first is at most the second
+  abbrev pub AreAtMost : Option Tree → Option Tree → Type 0
+  AreAtMost (Some u) (Some v) = AtMost Greater u v
+  AreAtMost (Some u) None = ⊥
+  AreAtMost None v = ⊥
+
+  -- the list from a place on is the one from the next place on, with the overlap at the place before it where one is listed
+  abbrev pub IsJudged : Rule → Rule → ℕ → Option Size → Type 0
+  IsJudged outer inner place None = (list : List Formed) → Lists Greater outer inner (place + 1) list → Lists Greater outer inner place list
+  IsJudged outer inner place (Some size) = (list : List Formed) → Lists Greater outer inner (place + 1) list → Lists Greater outer inner place (formed_at outer inner place size ∷ list)
+
+  -- the list from a place on is the one from a later place on, with these before it
+  abbrev pub ListsOn : Rule → Rule → ℕ → ℕ → List Formed → Type 0
+  ListsOn outer inner place next added = (list : List Formed) → Lists Greater outer inner next list → Lists Greater outer inner place (added ++ list)
+
+-- What the instances of renamed sides by a unifier come to: one of the rules doesn't lead down, though both instances are small;
+-- or it is how large the pair is.
+pub record LeadDown (Greater : Tree → Tree → Type 0) (terms : RenamedApart) (σ : ℕ → Tree) : Type 0 where
+  pub outer_down : IsSmall (apply σ terms.outer_from) → IsSmall (apply σ terms.outer_to) → AtMost Greater (apply σ terms.outer_from) (apply σ terms.outer_to) → ⊥
+  pub inner_down : IsSmall (apply σ terms.inner_from) → IsSmall (apply σ terms.inner_to) → AtMost Greater (apply σ terms.inner_from) (apply σ terms.inner_to) → ⊥
+
+pub data StaysUp (Greater : Tree → Tree → Type 0) (terms : RenamedApart) (σ : ℕ → Tree) : Type 0 where
+  outer_stays : IsSmall (apply σ terms.outer_from) → IsSmall (apply σ terms.outer_to) → AtMost Greater (apply σ terms.outer_from) (apply σ terms.outer_to) → StaysUp Greater terms σ
+  inner_stays : IsSmall (apply σ terms.inner_from) → IsSmall (apply σ terms.inner_to) → AtMost Greater (apply σ terms.inner_from) (apply σ terms.inner_to) → StaysUp Greater terms σ
+
+-- how large the pair of these is
+abbrev pub IsSizeBy : Tree → Tree → Tree → Size → Type 0
+IsSizeBy top left right Large = IsLarge top ⊎ (IsLarge left ⊎ IsLarge right)
+IsSizeBy top left right Same = IsSmall top × IsSmall left × IsSmall right × (left ≡ right)
+IsSizeBy top left right (Weight weight) = IsSmall top × IsSmall left × IsSmall right × (left ≡ right → ⊥) × (weight ≡ nodes left + nodes right)
+
+abbrev pub IsJudgedBy : (Tree → Tree → Type 0) → RenamedApart → ℕ → (ℕ → Tree) → Option Size → Type 0
+IsJudgedBy Greater terms place σ None = StaysUp Greater terms σ
+IsJudgedBy Greater terms place σ (Some size) = LeadDown Greater terms σ × IsSizeBy (apply σ terms.outer_from) (apply σ terms.outer_to) (apply σ (put terms.outer_from place terms.inner_to)) size
