@@ -1,3 +1,9 @@
 pub mod Walking
 pub mod Names
 pub mod Parts
+pub mod Replacing
+pub mod Occurring
+pub mod Renaming
+pub mod Apart
+pub mod Judged
+pub mod Listed

@@ -9,6 +9,8 @@ use Rattle.uc_term.specs.Code.{tree_of-flat}
 use Rattle.uc_term.specs.Variables.{IsApp}
 use Rattle.uc_term.proofs.Terms.{whole-flat, length-flat, nodes_whole}
 use Rattle.uc_term.proofs.Ahead.{drop-at, at_place, subterm_of-drop}
+use Rattle.uc_unify.specs.Unifiers.{IsUnified}
+use Rattle.uc_unify.specs.declared.unification.Unified.{Unified}
 use Rattle.uc_pair.specs.Fitting.{NeverMeet, HasNoFit}
 
 pub part_list : (ns : List Node) (p to : ℕ) → IsWhole ns → p < length ns → to ≡ p + nodes (tree_of (drop p ns)) → take (to - p) (drop p ns) ≡ flat (subterm (tree_of ns) p)
@@ -31,3 +33,13 @@ no_symbol_at ns p x d w h e a = subst IsApp (variable_at ns p x d w h e) a
 
 pub no_fit : (ns ms : List Node) (p to : ℕ) → IsWhole ns → p < length ns → to ≡ p + nodes (tree_of (drop p ns)) → NeverMeet (tree_of (take (to - p) (drop p ns))) (tree_of ms) → HasNoFit (tree_of ns) (tree_of ms) p
 no_fit ns ms p to w h e n = inr (subst (λ t. NeverMeet t (tree_of ms)) (part_tree ns p to w h e) n)
+
+pub unified_is : (s t s' t' : Tree) (u v : Unified) → s ≡ s' → t ≡ t' → u ≡ v → IsUnified s t u → IsUnified s' t' v
+unified_is s t s' t' u v a b e h = subst (IsUnified s' t') e (subst (λ y. IsUnified s' y u) b (subst (λ x. IsUnified x t u) a h))
+
+-- the part at a place of a term
+pub part_of : (ns : List Node) (t : Tree) (p to : ℕ) → IsWhole ns → tree_of ns ≡ t → p < length ns → to ≡ p + nodes (tree_of (drop p ns)) → tree_of (take (to - p) (drop p ns)) ≡ subterm t p
+part_of ns t p to w is h e = part_tree ns p to w h e ∙ ap (λ u. subterm u p) is
+
+pub within_list : (ns : List Node) (t : Tree) (p : ℕ) → IsWhole ns → tree_of ns ≡ t → p < nodes t → p < length ns
+within_list ns t p w is h = omega (arith, nodes_whole ns w, ap nodes is)

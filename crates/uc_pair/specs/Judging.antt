@@ -25,6 +25,7 @@ IsPut t place part (Some placed) = (placed.term ≡ put t place part) × IsSmall
 pub record IsReplacedBy (σ : ℕ → Tree) (t : Tree) (place : ℕ) (v : Tree) (placed : Placed) : Type 0 where
   pub term_is : placed.term ≡ apply σ (put t place v)
   pub small : IsSmall (apply σ (put t place v))
+  pub whole_small : IsSmall (apply σ t)
   pub path : List ℕ
   pub path_is : IsPlaceOf t path place
   pub there_is : IsPlaceOf (apply σ t) path placed.there.0

@@ -5,3 +5,4 @@ pub mod Numbering
 pub mod Fitting
 pub mod Reading
 pub mod Judging
+pub mod Adding

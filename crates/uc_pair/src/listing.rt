@@ -1,5 +1,13 @@
 //! The overlaps of two facts.
 
+ghost use Rattle.std.specs.Prelude.{◌≡◌, ◌<◌, [], ◌∷◌, IfOk, OnOk, All};
+ghost use Rattle.uc_term.specs.Tree.{nodes};
+ghost use Rattle.uc_term.specs.declared.equation.Side.TheVariants.{Left, Right};
+ghost use Rattle.uc_pair.specs.Overlapping.{IsFormedOf, read_from};
+ghost use Rattle.uc_pair.specs.Listing.{NeverDown, Lists, ListsEach, AreOverlaps};
+ghost use Rattle.uc_pair.specs.Reading.{rule_read};
+ghost use Rattle.uc_pair.specs.Adding.{Adds, AddsAt};
+
 use crate::fitting::first_fit;
 use crate::instances::rename_apart;
 use crate::judging::size_at;
@@ -26,6 +34,10 @@ pub fn overlaps<O: Order>(
     b: &Equation,
     order: &O,
 ) -> Result<Seq<Formed>, AllocError>
+    requires same { outer ≡ inner → a.now ≡ b.now }
+    ensures list { IfOk result (AreOverlaps (O.meaning order.now).greater outer a.now inner b.now) }
+    // what follows for each of them
+    ensures formed { IfOk result (All (IsFormedOf a.now b.now)) }
 {
     let mut list = Vec::new(alloc);
     add_outer(
@@ -56,6 +68,7 @@ fn add_outer<O: Order>(
     b: &Equation,
     order: &O,
 ) -> Result<(), AllocError>
+    ensures { OnOk result (Adds (ListsEach (O.meaning order.now).greater ((rule_read outer.now, read_from inner Left b.now) ∷ (rule_read outer.now, read_from inner Right b.now) ∷ [])) list.old.items list.new.items) }
 {
     if is_never_down(outer, order) {
         return Ok(());
@@ -84,6 +97,8 @@ fn add_inner<O: Order>(
     inner: &Read,
     order: &O,
 ) -> Result<(), AllocError>
+    requires { NeverDown (O.meaning order.now).greater (rule_read outer.now) → ⊥ }
+    ensures { OnOk result (Adds (Lists (O.meaning order.now).greater (rule_read outer.now) (rule_read inner.now) 0) list.old.items list.new.items) }
 {
     if is_never_down(inner, order) {
         return Ok(());
@@ -107,6 +122,7 @@ fn add(
     place: u32,
     size: Option<Size>,
 ) -> Result<(), AllocError>
+    ensures { OnOk result (AddsAt (rule_read outer.now) (rule_read inner.now) place size list.old.items list.new.items) }
 {
     if let Some(size) = size {
         list.push(Formed {

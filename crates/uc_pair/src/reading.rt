@@ -128,9 +128,20 @@ fn has_variable(nodes: &[Node], x: u32) -> bool
     ensures { IsTrue result ↔ Occurs x (tree_of nodes.now) }
 {
     for node in nodes {
-        if *node == Node::Var(x) {
+        if is_var(*node, x) {
             return true;
         }
     }
     false
+}
+
+/// Whether the node is this variable.
+#[inline]
+fn is_var(node: Node, x: u32) -> bool
+    ensures { IsTrue result ↔ (node ≡ Node.Var x) }
+{
+    match node {
+        Node::Var(y) => y == x,
+        Node::App(_, _) => false,
+    }
 }
