@@ -1,5 +1,6 @@
 -- The lists of overlaps, place by place and side by side.
 use Rattle.std.proofs.Common.{◌≡◌, ℕ, zero, suc, ◌+◌, ◌<◌, ◌≤◌, List, [], ◌∷◌, ◌++◌, Option, Some, None, refl, sym, ap, ◌∙◌, subst, arith, append_assoc, append-nil, ◌⊎◌, inl, inr}
+use Rattle.std.specs.Prelude.{All}
 use Rattle.uc_term.specs.declared.equation.Equation.{Equation}
 use Rattle.uc_term.specs.declared.equation.Side.{Side}
 use Rattle.uc_term.specs.declared.equation.Side.TheVariants.{Left, Right}
@@ -68,6 +69,7 @@ none_each m outer left right old h = ([], next_rules (none_listed m outer left (
 
 each_append : (m : Meaning) (xs ys : List (Rule × Rule)) (a b : List Formed) → ListsEach m.greater xs a → ListsEach m.greater ys b → ListsEach m.greater (xs ++ ys) (a ++ b)
 each_append m [] ys [] b no_rules k = k
+each_append m [] ys (_ ∷ _) b l k = elim l [ ]
 each_append m ((outer, inner) ∷ xs) ys _ b (next_rules {list = list} {others = others} l r) k = subst (ListsEach m.greater (((outer, inner) ∷ xs) ++ ys)) (sym (append_assoc list others b)) (next_rules l (each_append m xs ys others b r k))
 
 pub are_overlaps : (m : Meaning) (i j : ℕ) (a b : Equation) (one two : Rule) (empty mid all : List Formed) → one ≡ read_from i Left a → two ≡ read_from i Right a → empty ≡ [] → Adds (ListsEach m.greater ((one, read_from j Left b) ∷ (one, read_from j Right b) ∷ [])) empty mid → Adds (ListsEach m.greater ((two, read_from j Left b) ∷ (two, read_from j Right b) ∷ [])) mid all → AreOverlaps m.greater i a j b all
@@ -93,3 +95,18 @@ each_formed Greater i j s t a b (is_listed o n u size rest) = (record { overlaps
 formed_append : (a b : Equation) (xs ys : List Formed) → EachFormed a b xs → EachFormed a b ys → EachFormed a b (xs ++ ys)
 formed_append a b [] ys h k = k
 formed_append a b (x ∷ xs) ys h k = (h.0, formed_append a b xs ys h.1 k)
+
+each_pair : (Greater : Tree → Tree → Type 0) (i j : ℕ) (a b : Equation) (list : List Formed) → AreOverlaps Greater i a j b list → EachFormed a b list
+each_pair Greater i j a b _ (next_rules {list = ll} ll_is (next_rules {list = lr} lr_is (next_rules {list = rl} rl_is (next_rules {list = rr} rr_is no_rules)))) =
+    formed_append a b ll _ (each_formed Greater i j Left Left a b ll_is)
+      (formed_append a b lr _ (each_formed Greater i j Left Right a b lr_is)
+        (formed_append a b rl _ (each_formed Greater i j Right Left a b rl_is)
+          (formed_append a b rr [] (each_formed Greater i j Right Right a b rr_is) tt)))
+
+all_formed : (a b : Equation) (list : List Formed) → EachFormed a b list → All (IsFormedOf a b) list
+all_formed a b [] h k d q = absurd (omega arith)
+all_formed a b (x ∷ xs) h zero d q = h.0
+all_formed a b (x ∷ xs) h (suc k) d q = all_formed a b xs h.1 k d (omega arith)
+
+pub all_are_formed : (Greater : Tree → Tree → Type 0) (i j : ℕ) (a b : Equation) (list : List Formed) → AreOverlaps Greater i a j b list → All (IsFormedOf a b) list
+all_are_formed Greater i j a b list l = all_formed a b list (each_pair Greater i j a b list l)

@@ -6,3 +6,4 @@ pub mod Fitting
 pub mod Reading
 pub mod Judging
 pub mod Adding
+pub mod Forming

@@ -12,16 +12,12 @@ use Rattle.uc_fact.specs.declared.chain.By.TheVariants.{Fact}
 use Rattle.uc_fact.specs.Live.{Rule}
 use Rattle.uc_pair.specs.declared.formation.Formation.{Formation}
 use Rattle.uc_pair.specs.declared.formation.Formation.TheVariants.{Pair, TooLarge}
-use Rattle.uc_pair.specs.Overlapping.{Overlapping, Fits, IsTooLarge, peak, left_of, right_of, read_from}
+use Rattle.uc_pair.specs.Overlapping.{Overlapping, Fits, IsTooLarge, peak, left_of, right_of, overlap_at, read_from}
 
--- The variables of the pair's sides by first occurrence, left side first; behind them those that only the chain has, by first
+-- The variables of a pair's sides by first occurrence, left side first; behind them those that only the chain has, by first
 -- occurrence in the chain.
-abbrev pub names_of : {outer inner : Rule} {place : ℕ} → Overlapping outer inner place → List ℕ
-names_of o = firsts (variables (left_of o) ++ (variables (right_of o) ++ variables (peak o)))
-
--- the term with its variables numbered so
-abbrev pub numbered_by : {outer inner : Rule} {place : ℕ} → Overlapping outer inner place → Tree → Tree
-numbered_by o t = renumbered_by (names_of o) t
+abbrev pub names_of : Tree → Tree → Tree → List ℕ
+names_of left right top = firsts (variables left ++ (variables right ++ variables top))
 
 abbrev pub is_left : Side → Bool
 is_left Left = true
@@ -31,26 +27,29 @@ abbrev pub is_right : Side → Bool
 is_right Left = false
 is_right Right = true
 
--- The chain goes from the left side to the peak, by the outer rule backwards at the root, and from there to the right side, by
--- the inner rule at this place.
-abbrev pub chain_by : Rule → Rule → ℕ → Tree → Tree → Tree → Chain
-chain_by outer inner place left top right = record {
+-- The chain goes from the left side to the peak, by the outer fact backwards at the root, and from there to the right side, by
+-- the inner fact at this place.
+abbrev pub chain_by : Overlap → ℕ → Tree → Tree → Tree → Chain
+chain_by overlap place left top right = record {
   start = left;
-  steps = record { by = Fact outer.number; left_to_right = is_right outer.side; position = record { 0 = 0 }; to = top }
-        ∷ record { by = Fact inner.number; left_to_right = is_left inner.side; position = record { 0 = place }; to = right }
+  steps = record { by = Fact overlap.outer; left_to_right = is_right overlap.outer_side; position = record { 0 = 0 }; to = top }
+        ∷ record { by = Fact overlap.inner; left_to_right = is_left overlap.inner_side; position = record { 0 = place }; to = right }
         ∷ [];
 }
 
--- these are the pair's two sides with their chain
+-- The two sides of a pair with their chain: the terms l, r and top with their variables numbered by first occurrence.
+pub record IsNumbered (overlap : Overlap) (top l r : Tree) (there : ℕ) (left right : Tree) (chain : Chain) : Type 0 where
+  pub left_is : left ≡ renumbered_by (names_of l r top) l
+  pub right_is : right ≡ renumbered_by (names_of l r top) r
+  pub chain_is : chain ≡ chain_by overlap there left (renumbered_by (names_of l r top) top) right
+
+-- these are the pair's two sides with their chain, which goes by the place of the same position in the peak
 pub record IsPairBy {outer inner : Rule} {place : ℕ} (o : Overlapping outer inner place) (left right : Tree) (chain : Chain) : Type 0 where
-  pub left_is : left ≡ numbered_by o (left_of o)
-  pub right_is : right ≡ numbered_by o (right_of o)
-  -- the place in the peak is at the same position as the place in the outer side
   pub path : List ℕ
   pub there : ℕ
   pub path_is : IsPlaceOf outer.from path place
   pub there_is : IsPlaceOf (peak o) path there
-  pub chain_is : chain ≡ chain_by outer inner there left (numbered_by o (peak o)) right
+  pub numbered : IsNumbered (overlap_at outer inner place) (peak o) (left_of o) (right_of o) there left right chain
 
 -- what the overlap's pair comes to
 pub data IsFormation (outer inner : Rule) (place : ℕ) : Formation → Type 0 where
@@ -67,3 +66,15 @@ pub record Replaces (from to before : Tree) (place : ℕ) (after : Tree) : Type 
   pub σ : ℕ → Tree
   pub from_is : apply σ from ≡ subterm before place
   pub to_is : put before place (apply σ to) ≡ after
+
+-- Each step of a pair's chain replaces equals by equals: the outer rule read backwards at the root, and then the inner rule.
+pub record Replays (outer inner : Rule) (overlap : Overlap) (left right : Tree) (chain : Chain) : Type 0 where
+  pub top : Tree
+  pub there : ℕ
+  pub chain_is : chain ≡ chain_by overlap there left top right
+  pub by_outer : Replaces outer.to outer.from left 0 top
+  pub by_inner : Replaces inner.from inner.to top there right
+
+abbrev pub ReplaysPair : Equation → Equation → Overlap → Formation → Type 0
+ReplaysPair a b overlap TooLarge = Unit {0}
+ReplaysPair a b overlap (Pair left right chain) = Replays (read_from overlap.outer overlap.outer_side a) (read_from overlap.inner overlap.inner_side b) overlap left right chain

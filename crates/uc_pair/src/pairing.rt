@@ -1,5 +1,12 @@
 //! The pair of an overlap.
 
+ghost use Rattle.std.specs.Prelude.{◌≡◌, ◌<◌, IfOk};
+ghost use Rattle.uc_term.specs.Tree.{nodes};
+ghost use Rattle.uc_term.specs.Subst.{image};
+ghost use Rattle.uc_pair.specs.Overlapping.{IsOverlapOf};
+ghost use Rattle.uc_pair.specs.Pairs.{IsPairOf, ReplaysPair, is_left, is_right};
+ghost use Rattle.uc_pair.specs.Forming.{IsPairByTerms, IsNumberedPair};
+
 use crate::Formation;
 use crate::instances::{RenamedApart, instance_of, rename_apart, replaced};
 use crate::numbering::number;
@@ -21,6 +28,10 @@ pub fn pair_of(
     a: &Equation,
     b: &Equation,
 ) -> Result<Formation, AllocError>
+    requires { IsOverlapOf a.now b.now overlap.now }
+    ensures pair { IfOk result (IsPairOf a.now b.now overlap.now) }
+    // what follows: each step of the chain is a replacement of equals
+    ensures replays { IfOk result (ReplaysPair a.now b.now overlap.now) }
 {
     let outer = Read::new(overlap.outer, overlap.outer_side, a);
     let inner = Read::new(overlap.inner, overlap.inner_side, b);
@@ -42,6 +53,8 @@ fn pair_by(
     terms: &RenamedApart,
     subst: &Subst,
 ) -> Result<Formation, AllocError>
+    requires { overlap.now.position.0 < nodes terms.now.outer_from }
+    ensures { IfOk result (IsPairByTerms overlap.now terms.now (image subst.now)) }
 {
     let peak = instance_of(alloc, &terms.outer_from, subst)?;
     let left = instance_of(alloc, &terms.outer_to, subst)?;
@@ -68,6 +81,7 @@ fn numbered(
     right: &Term,
     there: Pos,
 ) -> Result<Formation, AllocError>
+    ensures { IfOk result (IsNumberedPair overlap.now peak.now left.now right.now there.0) }
 {
     let mut names = Vec::new(alloc);
     let left = number(alloc, left, &mut names, 0)?;
@@ -76,13 +90,13 @@ fn numbered(
     let mut steps = Vec::new(alloc);
     steps.push(Step {
         by: By::Fact(overlap.outer),
-        left_to_right: overlap.outer_side == Side::Right,
+        left_to_right: is_right(overlap.outer_side),
         position: Pos(0),
         to: peak,
     })?;
     steps.push(Step {
         by: By::Fact(overlap.inner),
-        left_to_right: overlap.inner_side == Side::Left,
+        left_to_right: is_left(overlap.inner_side),
         position: there,
         to: right.copy(alloc)?,
     })?;
@@ -91,4 +105,24 @@ fn numbered(
         steps: Seq::from_vec(steps),
     };
     Ok(Formation::Pair { left, right, chain })
+}
+
+/// Whether a side is the left one.
+fn is_left(side: Side) -> bool
+    ensures { result ≡ is_left side }
+{
+    match side {
+        Side::Left => true,
+        Side::Right => false,
+    }
+}
+
+/// Whether a side is the right one.
+fn is_right(side: Side) -> bool
+    ensures { result ≡ is_right side }
+{
+    match side {
+        Side::Left => false,
+        Side::Right => true,
+    }
 }
