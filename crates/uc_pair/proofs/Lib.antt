@@ -7,3 +7,6 @@ pub mod Renaming
 pub mod Apart
 pub mod Judged
 pub mod Listed
+pub mod Renumbering
+pub mod Forming
+pub mod Paired
