@@ -166,3 +166,7 @@ some_bound rule = (bound (variables rule.from ++ variables rule.to), λ x o. go 
         or_true : (b : Bool) → (b || true) ≡ true
         or_true true = refl
         or_true false = refl
+
+-- a number that is above each variable of a term
+pub above_all : (t : Tree) → (k : ℕ) × ((x : ℕ) → Occurs x t → x < k)
+above_all t = (bound (variables t), λ x o. below_bound (variables t) x (among x t o))

@@ -14,6 +14,8 @@ use Rattle.uc_pair.specs.declared.instances.Placed.{Placed}
 use Rattle.uc_pair.specs.Fitting.{HasNoFit}
 use Rattle.uc_pair.specs.Overlapping.{shifted, IsBelow, Overlapping, IsApart, peak, left_of, inner_from, inner_to, right_of, IsLarge, IsSmall, IsTooLarge, Fits, HasSize, is_large, is_same, is_weight}
 use Rattle.uc_pair.specs.Listing.{AtMost, GoesUp, by_instances, by_sides, LeadsUp, outer_up, inner_up, NeverDown, IsRepeated, Lists, at_variable, no_unifier, repeats, leads_up, is_listed}
+use Rattle.uc_pair.specs.declared.formation.Formation.TheVariants.{TooLarge as NoPair}
+use Rattle.uc_pair.specs.Pairs.{IsFormation, forms_none}
 use Rattle.uc_pair.specs.Reading.{renamed, renamed_all, sides_apart, sides_renamed, AreApart}
 use Rattle.uc_pair.specs.Judging.{IsInstance, IsReplacedBy, IsReplaced, IsSizeOf, AreAtMost, IsJudged, LeadDown, StaysUp, outer_stays, inner_stays, IsSizeBy, IsJudgedBy}
 use Rattle.uc_pair.proofs.Renaming.{apply-renamed, subterm-renamed, put-renamed, moved, most_general_back, no_unifier_back, Alike, alike}
@@ -231,6 +233,16 @@ module _ (outer inner : Rule) (place : ℕ) (terms : RenamedApart) (x : AreApart
       ups (outer_up (by_sides s q)) = outer_down q
       ups (inner_up (by_instances s t q)) = absurd (omega (arith, s, inner_large))
       ups (inner_up (by_sides s q)) = inner_down q
+
+  pub large_overlap : (is : IsApp part) → IsTooLargeUnifier part' terms.inner_from → (o : Overlapping outer inner place) × IsTooLarge o
+  large_overlap is l =
+      let o = overlap_by is l.σ l.most_general in
+      let inner_large : IsLarge (inner_from o) = large_back _ _ _ _ (next_two _ _ _ _ _ _ _ _ _ _ (overlap_alike is l.σ l.most_general)) (subst IsLarge l.most_general.unifies l.large) in
+      let peak_large : IsLarge (peak o) = omega (arith, nodes-subterm o.σ outer.from place h, ap nodes o.most_general.unifies, inner_large) in
+      (o, inl peak_large)
+
+  pub large_formation : IsApp part → IsTooLargeUnifier part' terms.inner_from → IsFormation outer inner place NoPair
+  large_formation is l = let o = large_overlap is l in forms_none o.0 o.1
 
   pub judged_apart : (m : Meaning) → HasNoUnifier part' terms.inner_from → IsJudged m.greater outer inner place None
   judged_apart m n list rest = no_unifier h (apart_back n) rest

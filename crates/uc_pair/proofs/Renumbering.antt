@@ -125,6 +125,9 @@ module _ (l r top l' r' top' : Tree) (α β : ℕ → Tree) (el : l ≡ apply α
   term_there : (t t' : Tree) → t ≡ apply α t' → t' ≡ apply β t → t' ≡ renamed there t
   term_there t t' e f = f ∙ same_if β (λ x. var (there x)) t (λ x o. (one_term t t' e f x o).0)
 
+  pub is_renamed : (t t' : Tree) → t ≡ apply α t' → t' ≡ apply β t → (f : ℕ → ℕ) × (t' ≡ renamed f t)
+  is_renamed t t' e f = (there, term_there t t' e f)
+
   abbrev all : List ℕ
   all = variables l ++ (variables r ++ variables top)
 
