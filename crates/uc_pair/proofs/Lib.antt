@@ -10,3 +10,4 @@ pub mod Listed
 pub mod Renumbering
 pub mod Forming
 pub mod Paired
+pub mod Uniqueness

@@ -7,3 +7,4 @@ pub mod Reading
 pub mod Judging
 pub mod Adding
 pub mod Forming
+pub mod Peaks

@@ -7,6 +7,7 @@ mod formation;
 mod formed;
 mod instances;
 mod judging;
+mod laws;
 mod listing;
 mod numbering;
 
@@ -15,6 +16,7 @@ mod reading;
 
 pub use formation::Formation;
 pub use formed::{Formed, Size};
+pub use laws::{nowhere_is_up, one_list, one_pair, too_large_by_size, up_is_never_down};
 pub use listing::overlaps;
 pub use pairing::pair_of;
 
