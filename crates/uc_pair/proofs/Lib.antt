@@ -11,3 +11,4 @@ pub mod Renumbering
 pub mod Forming
 pub mod Paired
 pub mod Uniqueness
+pub mod OnePair

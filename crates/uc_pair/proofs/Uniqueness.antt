@@ -148,7 +148,7 @@ module _ (m : Meaning) (laws : Laws m) (outer inner : Rule) (place : ℕ) where
   not_both (skips_nowhere n) o fresh down = down (nowhere_up m laws outer inner place o n)
   not_both (skips_up p u) o fresh down = down (leads_up_alike o p u)
 
-too_large_or_fits : (outer inner : Rule) (place : ℕ) (o : Overlapping outer inner place) → IsTooLarge o → Fits o → ⊥
+pub too_large_or_fits : (outer inner : Rule) (place : ℕ) (o : Overlapping outer inner place) → IsTooLarge o → Fits o → ⊥
 too_large_or_fits outer inner place o (inl l) f = absurd (omega (arith, l, f.peak_small))
 too_large_or_fits outer inner place o (inr (inl l)) f = absurd (omega (arith, l, f.left_small))
 too_large_or_fits outer inner place o (inr (inr l)) f = absurd (omega (arith, l, f.right_small))

@@ -1,14 +1,15 @@
-ghost use Rattle.std.specs.Prelude.{IsTrue};
+ghost use Rattle.std.specs.Prelude.{IsTrue, All};
 ghost use Rattle.uc_term.specs.Table.{Has, arity_of};
 ghost use Rattle.uc_order.specs.Members.{Each};
+ghost use Rattle.uc_pair.specs.Overlapping.{IsFormedOf};
 ghost use Rattle.uc_lpo.specs.Constants.{HasConstant};
 
 use crate::{Formation, Formed, Size, overlaps, pair_of};
 use std::alloc::Global;
 use std::test::Fail;
-use uc_fact::{By, Chain, Overlap, Side};
+use uc_fact::{Chain, Side};
 use uc_lpo::Lpo;
-use uc_term::{Equation, Pos, Seq, Sym, Symbols, Term, TermFault};
+use uc_term::{Equation, Sym, Symbols, Term, TermFault};
 
 const A: Sym = Sym(0);
 
@@ -124,89 +125,215 @@ struct Row {
     right: &'static [u8],
 }
 
-// The pair of an overlap, its sides and its weight.
-fn is_pair(
-    alloc: Global,
-    formed: &Formed,
-    formation: &Formation,
-    row: &Row,
-) -> Result<bool, TermFault> {
-    let Formation::Pair { left, right, .. } = formation else {
-        return Ok(false);
-    };
-    let expected_left = term(alloc, row.left)?;
-    let expected_right = term(alloc, row.right)?;
-    Ok(left.same(&expected_left)
-        && right.same(&expected_right)
-        && formed.size == Size::Weight(left.nodes() + right.nodes()))
+// Whether this is the overlap, and it has the row's place and sides, and its pair's weight.
+fn is_at(formed: &Formed, row: &Row, weight: u32) -> bool {
+    formed.overlap.outer_side == row.outer_side
+        && formed.overlap.inner_side == row.inner_side
+        && formed.overlap.position.0 == row.place
+        && formed.size == Size::Weight(weight)
 }
 
-// Whether these are the overlaps of two equations.
+// Whether the pair has the row's two sides, and its chain leads from the one to the other.
+fn is_pair(
+    alloc: Global,
+    left: &Term,
+    right: &Term,
+    chain: &Chain,
+    row: &Row,
+) -> Result<bool, TermFault> {
+    let expected_left = term(alloc, row.left)?;
+    let expected_right = term(alloc, row.right)?;
+    let steps = chain.steps.as_slice();
+    if steps.len() != 2 {
+        return Ok(false);
+    }
+    Ok(left.same(&expected_left)
+        && right.same(&expected_right)
+        && chain.start.same(&expected_left)
+        && steps[1].to.same(&expected_right))
+}
+
+// Whether these are all the overlaps of an equation with another one, of another number.
 fn are_overlaps(
     alloc: Global,
-    outer: u32,
     a: &Equation,
-    inner: u32,
     b: &Equation,
+    inner: u32,
     rows: &[Row],
 ) -> Result<bool, Fail> {
-    let order = order(alloc)?;
-    if outer == inner {
-        return Err(Fail::from("one number"));
+    if inner == 1 {
+        return Err(Fail::from("the outer number"));
     }
-    let list = overlaps(alloc, outer, a, inner, b, &order)?;
+    let order = order(alloc)?;
+    let list = overlaps(alloc, 1, a, inner, b, &order)?;
+    are_rows(alloc, a, b, list.as_slice(), rows)
+}
+
+// Whether these are all the overlaps of an equation with itself.
+fn are_own_overlaps(alloc: Global, a: &Equation, rows: &[Row]) -> Result<bool, Fail> {
+    let order = order(alloc)?;
+    let list = overlaps(alloc, 0, a, 0, a, &order)?;
+    are_rows(alloc, a, a, list.as_slice(), rows)
+}
+
+fn are_rows(
+    alloc: Global,
+    a: &Equation,
+    b: &Equation,
+    list: &[Formed],
+    rows: &[Row],
+) -> Result<bool, Fail>
+    requires { All (IsFormedOf a.now b.now) list.now }
+{
     if list.len() != rows.len() {
         return Ok(false);
     }
-    for (formed, row) in list.as_slice().iter().zip(rows) {
-        let overlap = Overlap {
-            outer,
-            outer_side: row.outer_side,
-            inner,
-            inner_side: row.inner_side,
-            position: Pos(row.place),
-        };
-        if formed.overlap != overlap {
-            return Ok(false);
-        }
-        let formation = pair_of(alloc, &formed.overlap, a, b)?;
-        if !is_pair(alloc, formed, &formation, row)? {
+    for i in 0..list.len() {
+        if !is_row(alloc, a, b, &list[i], &rows[i])? {
             return Ok(false);
         }
     }
     Ok(true)
 }
 
+fn is_row(
+    alloc: Global,
+    a: &Equation,
+    b: &Equation,
+    formed: &Formed,
+    row: &Row,
+) -> Result<bool, Fail>
+    requires { IsFormedOf a.now b.now formed.now }
+{
+    match pair_of(alloc, &formed.overlap, a, b)? {
+        Formation::Pair { left, right, chain } => {
+            let weight = left.nodes() + right.nodes();
+            Ok(is_pair(alloc, &left, &right, &chain, row)? && is_at(formed, row, weight))
+        }
+        Formation::TooLarge => Ok(false),
+    }
+}
+
+// f(X) = g(Y), whose sides have different variables: each side meets its own copy at the root
+const OWN: &[Row] = &[
+    Row {
+        outer_side: Side::Left,
+        inner_side: Side::Left,
+        place: 0,
+        left: b"0g",
+        right: b"1g",
+    },
+    Row {
+        outer_side: Side::Right,
+        inner_side: Side::Right,
+        place: 0,
+        left: b"0f",
+        right: b"1f",
+    },
+];
+
 #[test]
-fn probe(rt: HostRuntime) -> Result<(), Fail> {
+fn a_side_meets_its_own_copy(rt: HostRuntime) -> Result<(), Fail> {
     let g = rt.alloc();
-    let e = equation(g, b"0f", b"1g")?;
-    let order = order(g)?;
-    let list = overlaps(g, 0, &e, 0, &e, &order)?;
-    for formed in list.as_slice() {
-        println!(rt; "{formed:?}")?;
-        let formation = pair_of(g, &formed.overlap, &e, &e)?;
-        println!(rt; "{formation:?}")?;
-    }
-    let as_ = equation(g, b"01m2m", b"012mm")?;
-    let list = overlaps(g, 0, &as_, 0, &as_, &order)?;
-    for formed in list.as_slice() {
-        println!(rt; "{formed:?}")?;
-        let formation = pair_of(g, &formed.overlap, &as_, &as_)?;
-        println!(rt; "{formation:?}")?;
-    }
+    let a = equation(g, b"0f", b"1g")?;
+    assert!(rt; are_own_overlaps(g, &a, OWN)?);
+    Ok(())
+}
+
+// m(m(X,Y),Z) = m(X,m(Y,Z))
+const ASSOCIATIVE: &[Row] = &[Row {
+    outer_side: Side::Left,
+    inner_side: Side::Left,
+    place: 1,
+    left: b"01m23mm",
+    right: b"012mm3m",
+}];
+
+// with the left inverse m(f(X),X) = a: the group theory of Knuth and Bendix
+const INVERSE: &[Row] = &[Row {
+    outer_side: Side::Left,
+    inner_side: Side::Left,
+    place: 1,
+    left: b"0f01mm",
+    right: b"a1m",
+}];
+
+#[test]
+fn groups_have_their_critical_pairs(rt: HostRuntime) -> Result<(), Fail> {
+    let g = rt.alloc();
+    let associative = equation(g, b"01m2m", b"012mm")?;
     let inverse = equation(g, b"0f0m", b"a")?;
-    let list = overlaps(g, 0, &as_, 1, &inverse, &order)?;
-    for formed in list.as_slice() {
-        println!(rt; "{formed:?}")?;
-        let formation = pair_of(g, &formed.overlap, &as_, &inverse)?;
-        println!(rt; "{formation:?}")?;
+    assert!(rt; are_own_overlaps(g, &associative, ASSOCIATIVE)?);
+    assert!(rt; are_own_overlaps(g, &inverse, &[])?);
+    assert!(rt; are_overlaps(g, &associative, &inverse, 2, INVERSE)?);
+    assert!(rt; are_overlaps(g, &inverse, &associative, 2, &[])?);
+    Ok(())
+}
+
+// a term of `h` with 24 arguments: for i from 1 to 12 the variable i, and m of i and i, or of i, i and i + 1 one after another
+fn wide(alloc: Global, with_pairs: bool) -> Result<Term, Fail> {
+    let mut args: Vec<Term> = Vec::new(alloc);
+    for i in 1..13u32 {
+        args.push(Term::var(alloc, i)?)?;
+        if with_pairs {
+            let pair = [Term::var(alloc, i)?, Term::var(alloc, i)?];
+            args.push(Term::app(alloc, M, &pair)?)?;
+        } else {
+            args.push(Term::var(alloc, i + 1)?)?;
+        }
     }
-    let list = overlaps(g, 1, &inverse, 0, &as_, &order)?;
+    if args.len() > 255 {
+        return Err(Fail::from("too many arguments"));
+    }
+    Ok(Term::app(alloc, H, args.as_slice())?)
+}
+
+// h(X1,m(X1,X1),..,X12,m(X12,X12)) = a and h(X1,X2,X2,..,X12,X12,X13) = b: the unifier has a term of 8,191 nodes
+#[test]
+fn a_unifier_may_be_too_large(rt: HostRuntime) -> Result<(), Fail> {
+    let g = rt.alloc();
+    let a = Equation {
+        left: wide(g, true)?,
+        right: term(g, b"a")?,
+    };
+    let b = Equation {
+        left: wide(g, false)?,
+        right: term(g, b"b")?,
+    };
+    let order = order(g)?;
+    assert_eq!(rt; overlaps(g, 0, &a, 1, &b, &order)?.len(), 0);
+    let list = overlaps(g, 1, &b, 0, &a, &order)?;
+    assert_eq!(rt; list.len(), 1);
     for formed in list.as_slice() {
-        println!(rt; "{formed:?}")?;
-        let formation = pair_of(g, &formed.overlap, &inverse, &as_)?;
-        println!(rt; "{formation:?}")?;
+        assert!(rt; formed.size == Size::Large);
+        assert!(rt; is_large(g, &b, &a, formed)?);
+    }
+    Ok(())
+}
+
+fn is_large(alloc: Global, a: &Equation, b: &Equation, formed: &Formed) -> Result<bool, Fail>
+    requires { IsFormedOf a.now b.now formed.now }
+{
+    match pair_of(alloc, &formed.overlap, a, b)? {
+        Formation::Pair { .. } => Ok(false),
+        Formation::TooLarge => Ok(true),
+    }
+}
+
+// f(X) = a with f(Y) = a, and X has the largest number
+#[test]
+fn equal_sides_are_told(rt: HostRuntime) -> Result<(), Fail> {
+    let g = rt.alloc();
+    let a = Equation {
+        left: Term::app(g, F, &[Term::var(g, u32::MAX)?])?,
+        right: term(g, b"a")?,
+    };
+    let b = equation(g, b"0f", b"a")?;
+    let order = order(g)?;
+    let list = overlaps(g, 1, &a, 0, &b, &order)?;
+    assert_eq!(rt; list.len(), 1);
+    for formed in list.as_slice() {
+        assert!(rt; formed.size == Size::Same);
     }
     Ok(())
 }
