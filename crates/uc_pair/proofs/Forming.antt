@@ -66,6 +66,6 @@ pair_from overlap terms σ top l placed et el small r (Pair left right chain) n 
   path_is = r.path_is;
   there_is = r.there_is;
   numbered = subst (λ x. IsNumbered overlap x (apply σ terms.outer_to) (apply σ (put terms.outer_from overlap.position.0 terms.inner_to)) placed.there.0 left right chain) et
-    (subst (λ y. IsNumbered overlap top y (apply σ (put terms.outer_from overlap.position.0 terms.inner_to)) placed.there.0 left right chain) el
+      (subst (λ y. IsNumbered overlap top y (apply σ (put terms.outer_from overlap.position.0 terms.inner_to)) placed.there.0 left right chain) el
       (subst (λ z. IsNumbered overlap top l z placed.there.0 left right chain) r.term_is n));
 }

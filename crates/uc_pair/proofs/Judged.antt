@@ -186,7 +186,7 @@ module _ (outer inner : Rule) (place : ℕ) (terms : RenamedApart) (x : AreApart
         (ap₂ more from_there (ap₂ more to_there (ap₂ more inner_from_there (ap₂ more inner_to_there (ap (λ t. more t none) put_there)))))
         (ap₂ more from_back (ap₂ more to_back (ap₂ more inner_from_back (ap₂ more inner_to_back (ap (λ t. more t none) put_back)))))
 
-  module _ (is : IsApp part) (m : Meaning) (laws : Laws m) (outer_down : NeverDown m.greater outer → ⊥) (inner_down : NeverDown m.greater inner → ⊥) (fresh : IsRepeated outer inner place → ⊥) (σ : ℕ → Tree) (mgu : IsMostGeneral part' terms.inner_from σ) where
+  module _ (is : IsApp part) (m : Meaning) (laws : Laws m) (outer_down : NeverDown m.greater outer → ⊥) (inner_down : NeverDown m.greater inner → ⊥) (fresh : IsRepeated outer inner place → ⊥) (each : (o p : Overlapping outer inner place) → LeadsUp m.greater p → LeadsUp m.greater o) (σ : ℕ → Tree) (mgu : IsMostGeneral part' terms.inner_from σ) where
     abbrev o : Overlapping outer inner place
     o = overlap_by is σ mgu
 
@@ -210,7 +210,7 @@ module _ (outer inner : Rule) (place : ℕ) (terms : RenamedApart) (x : AreApart
     downs d (inner_up (by_sides s q)) = inner_down q
 
     pub judged_by : (size : Option Size) → IsJudgedBy m.greater terms place σ size → IsJudged m.greater outer inner place size
-    judged_by None up = λ list rest. leads_up o (ups up) rest
+    judged_by None up = λ list rest. leads_up o (λ p. each p o (ups up)) rest
     judged_by (Some size) by = λ list rest. is_listed o fresh (downs by.0) (size_alike o _ _ _ _ _ al size by.1) rest
 
   pub judged_large : (is : IsApp part) (m : Meaning) → (NeverDown m.greater outer → ⊥) → (NeverDown m.greater inner → ⊥) → (IsRepeated outer inner place → ⊥) → IsTooLargeUnifier part' terms.inner_from → IsJudged m.greater outer inner place (Some Large)

@@ -5,17 +5,18 @@ use Rattle.uc_term.specs.declared.equation.Equation.{Equation}
 use Rattle.uc_term.specs.declared.equation.Side.{Side}
 use Rattle.uc_term.specs.declared.equation.Side.TheVariants.{Left, Right}
 use Rattle.uc_term.specs.Tree.{Tree, nodes}
-use Rattle.uc_order.specs.Laws.{Meaning}
+use Rattle.uc_order.specs.Laws.{Meaning, Laws}
 use Rattle.uc_fact.specs.Live.{Rule}
 use Rattle.uc_pair.specs.declared.formed.Size.{Size}
 use Rattle.uc_pair.specs.declared.formed.Formed.{Formed}
 use Rattle.uc_pair.specs.Fitting.{HasNoFit, FitsNowhere, IsFirstFit}
-use Rattle.uc_pair.specs.Overlapping.{IsBelow, IsFormedOf, read_from}
-use Rattle.uc_pair.specs.Listing.{NeverDown, Lists, no_more_places, at_variable, no_unifier, repeats, goes_nowhere, leads_up, is_listed, ListsEach, no_rules, next_rules, AreOverlaps}
+use Rattle.uc_pair.specs.Overlapping.{Overlapping, IsBelow, IsFormedOf, read_from}
+use Rattle.uc_pair.specs.Listing.{LeadsUp, NeverDown, Lists, no_more_places, at_variable, no_unifier, repeats, goes_nowhere, leads_up, is_listed, ListsEach, no_rules, next_rules, AreOverlaps}
 use Rattle.uc_pair.specs.Judging.{IsJudged, ListsOn, formed_at}
 use Rattle.uc_pair.specs.Adding.{Adds, AddsAt}
 use Rattle.uc_pair.proofs.Apart.{some_bound}
 use Rattle.uc_pair.proofs.Judged.{judged_unfit}
+use Rattle.uc_pair.proofs.Uniqueness.{nowhere_up}
 
 module _ (m : Meaning) (outer inner : Rule) where
   abbrev L : ℕ → List Formed → Type 0
@@ -27,7 +28,7 @@ module _ (m : Meaning) (outer inner : Rule) where
   until (suc n) h low list rest =
       let k = some_bound outer in
       until n (λ p q. h p (omega arith)) (omega arith) list
-        (judged_unfit m outer inner n k.0 k.1 (omega arith) (h n (omega arith)) list (let e : suc n ≡ n + 1 = omega arith in subst (λ q. L q list) e rest))
+      (judged_unfit m outer inner n k.0 k.1 (omega arith) (h n (omega arith)) list (let e : suc n ≡ n + 1 = omega arith in subst (λ q. L q list) e rest))
 
   pub nowhere_listed : FitsNowhere outer.from inner.from → L 0 []
   nowhere_listed h = until (nodes outer.from) h (omega arith) [] (no_more_places (omega arith))
@@ -41,21 +42,25 @@ module _ (m : Meaning) (outer inner : Rule) where
 
   pub listing_goes_on : (place : ℕ) (old mid new : List Formed) (size : Option Size) → Adds (ListsOn m.greater outer inner 0 place) old mid → IsJudged m.greater outer inner place size → AddsAt outer inner place size mid new → Adds (ListsOn m.greater outer inner 0 (place + 1)) old new
   listing_goes_on place old mid new None a j e = (a.0, (λ list rest. a.1 list (j list rest)), e ∙ a.2)
-  listing_goes_on place old mid new (Some size) a j e =
-      (a.0 ++ formed_at outer inner place size ∷ [],
-       (λ list rest. subst (L 0) (sym (append_assoc a.0 (formed_at outer inner place size ∷ []) list)) (a.1 (formed_at outer inner place size ∷ list) (j list rest))),
-       e ∙ ap (λ l. l ++ formed_at outer inner place size ∷ []) a.2 ∙ append_assoc old a.0 (formed_at outer inner place size ∷ []))
+  listing_goes_on place old mid new (Some size) a j e = (
+    a.0 ++ formed_at outer inner place size ∷ [],
+    (λ list rest. subst (L 0) (sym (append_assoc a.0 (formed_at outer inner place size ∷ []) list)) (a.1 (formed_at outer inner place size ∷ list) (j list rest))),
+    e ∙ ap (λ l. l ++ formed_at outer inner place size ∷ []) a.2 ∙ append_assoc old a.0 (formed_at outer inner place size ∷ []),
+  )
 
   pub listing_ends : (place : ℕ) (old new : List Formed) → nodes outer.from ≤ place → Adds (ListsOn m.greater outer inner 0 place) old new → Adds (L 0) old new
   listing_ends place old new h a = (a.0, subst (L 0) (append-nil a.0) (a.1 [] (no_more_places h)), a.2)
 
   -- where a rule never leads down, nothing is listed
-  none_from : (n place : ℕ) → n + place ≡ nodes outer.from → NeverDown m.greater outer ⊎ NeverDown m.greater inner → L place []
-  none_from zero place e h = no_more_places (omega arith)
-  none_from (suc n) place e h = goes_nowhere (omega arith) h (none_from n (place + 1) (omega arith) h)
+  abbrev EachUp : Type 0
+  EachUp = (p : ℕ) (o : Overlapping outer inner p) → LeadsUp m.greater o
 
-  pub none_listed : NeverDown m.greater outer ⊎ NeverDown m.greater inner → L 0 []
-  none_listed h = none_from (nodes outer.from) 0 (omega arith) h
+  none_from : (n place : ℕ) → n + place ≡ nodes outer.from → NeverDown m.greater outer ⊎ NeverDown m.greater inner → EachUp → L place []
+  none_from zero place e h up = no_more_places (omega arith)
+  none_from (suc n) place e h up = goes_nowhere (omega arith) h (up place) (none_from n (place + 1) (omega arith) h up)
+
+  pub none_listed : Laws m → NeverDown m.greater outer ⊎ NeverDown m.greater inner → L 0 []
+  none_listed laws h = none_from (nodes outer.from) 0 (omega arith) h (λ p o. nowhere_up m laws outer inner p o h)
 
 pub adds_none : (P : List Formed → Type 0) (old : List Formed) → P [] → Adds P old old
 adds_none P old p = ([], p, sym (append-nil old))
@@ -64,8 +69,8 @@ pub adds_each : (m : Meaning) (outer left right : Rule) (old mid new : List Form
 adds_each m outer left right old mid new a b =
     (a.0 ++ (b.0 ++ []), next_rules a.1 (next_rules b.1 no_rules), b.2 ∙ ap (λ l. l ++ b.0) a.2 ∙ append_assoc old a.0 b.0 ∙ ap (λ l. old ++ (a.0 ++ l)) (sym (append-nil b.0)))
 
-pub none_each : (m : Meaning) (outer left right : Rule) (old : List Formed) → NeverDown m.greater outer → Adds (ListsEach m.greater ((outer, left) ∷ (outer, right) ∷ [])) old old
-none_each m outer left right old h = ([], next_rules (none_listed m outer left (inl h)) (next_rules (none_listed m outer right (inl h)) no_rules), sym (append-nil old))
+pub none_each : (m : Meaning) (laws : Laws m) (outer left right : Rule) (old : List Formed) → NeverDown m.greater outer → Adds (ListsEach m.greater ((outer, left) ∷ (outer, right) ∷ [])) old old
+none_each m laws outer left right old h = ([], next_rules (none_listed m outer left laws (inl h)) (next_rules (none_listed m outer right laws (inl h)) no_rules), sym (append-nil old))
 
 each_append : (m : Meaning) (xs ys : List (Rule × Rule)) (a b : List Formed) → ListsEach m.greater xs a → ListsEach m.greater ys b → ListsEach m.greater (xs ++ ys) (a ++ b)
 each_append m [] ys [] b no_rules k = k
@@ -88,7 +93,7 @@ each_formed Greater i j s t a b (no_more_places h) = tt
 each_formed Greater i j s t a b (at_variable h n rest) = each_formed Greater i j s t a b rest
 each_formed Greater i j s t a b (no_unifier h n rest) = each_formed Greater i j s t a b rest
 each_formed Greater i j s t a b (repeats h n rest) = each_formed Greater i j s t a b rest
-each_formed Greater i j s t a b (goes_nowhere h n rest) = each_formed Greater i j s t a b rest
+each_formed Greater i j s t a b (goes_nowhere h n u rest) = each_formed Greater i j s t a b rest
 each_formed Greater i j s t a b (leads_up o n rest) = each_formed Greater i j s t a b rest
 each_formed Greater i j s t a b (is_listed o n u size rest) = (record { overlaps = o; has_size = size }, each_formed Greater i j s t a b rest)
 
@@ -99,9 +104,9 @@ formed_append a b (x ∷ xs) ys h k = (h.0, formed_append a b xs ys h.1 k)
 each_pair : (Greater : Tree → Tree → Type 0) (i j : ℕ) (a b : Equation) (list : List Formed) → AreOverlaps Greater i a j b list → EachFormed a b list
 each_pair Greater i j a b _ (next_rules {list = ll} ll_is (next_rules {list = lr} lr_is (next_rules {list = rl} rl_is (next_rules {list = rr} rr_is no_rules)))) =
     formed_append a b ll _ (each_formed Greater i j Left Left a b ll_is)
-      (formed_append a b lr _ (each_formed Greater i j Left Right a b lr_is)
-        (formed_append a b rl _ (each_formed Greater i j Right Left a b rl_is)
-          (formed_append a b rr [] (each_formed Greater i j Right Right a b rr_is) tt)))
+    (formed_append a b lr _ (each_formed Greater i j Left Right a b lr_is)
+    (formed_append a b rl _ (each_formed Greater i j Right Left a b rl_is)
+    (formed_append a b rr [] (each_formed Greater i j Right Right a b rr_is) tt)))
 
 all_formed : (a b : Equation) (list : List Formed) → EachFormed a b list → All (IsFormedOf a b) list
 all_formed a b [] h k d q = absurd (omega arith)

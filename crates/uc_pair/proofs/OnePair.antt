@@ -117,11 +117,11 @@ module _ (outer inner : Rule) (place : ℕ) (o p : Overlapping outer inner place
       let there = one_there x.path y.path x.there y.there x.path_is y.path_is x.there_is y.there_is in
       let top = renumbered_by (names_of (left_of o) (right_of o) (peak o)) (peak o) in
       let same_chain : chain ≡ chain' =
-          x.numbered.chain_is
-          ∙ ap (λ z. chain_by (overlap_at outer inner place) z left top right) there
-          ∙ ap (λ l. chain_by (overlap_at outer inner place) y.there l top right) same_left
-          ∙ ap (λ r. chain_by (overlap_at outer inner place) y.there left' top r) same_right
-          ∙ sym n.chain_is in
+      x.numbered.chain_is
+      ∙ ap (λ z. chain_by (overlap_at outer inner place) z left top right) there
+      ∙ ap (λ l. chain_by (overlap_at outer inner place) y.there l top right) same_left
+      ∙ ap (λ r. chain_by (overlap_at outer inner place) y.there left' top r) same_right
+      ∙ sym n.chain_is in
       ap (λ l. Pair l right chain) same_left ∙ ap (λ r. Pair left' r chain) same_right ∙ ap (λ k. Pair left' right' k) same_chain
 
 pub one_formation : (outer inner : Rule) (place : ℕ) (x y : Formation) → IsFormation outer inner place x → IsFormation outer inner place y → x ≡ y

@@ -72,10 +72,10 @@ two_alike outer inner place o p =
     let put_there : put outer.from place (shifted p.k inner.to) ≡ renamed f (put outer.from place (shifted o.k inner.to)) = ap₂ (λ t u. put t place u) from_there (moves o.k p.k inner.to) ∙ sym (put-renamed f outer.from place (shifted o.k inner.to)) in
     let put_back : put outer.from place (shifted o.k inner.to) ≡ renamed g (put outer.from place (shifted p.k inner.to)) = ap₂ (λ t u. put t place u) from_back (moves p.k o.k inner.to) ∙ sym (put-renamed g outer.from place (shifted p.k inner.to)) in
     alike f g part (shifted o.k inner.from) part (shifted p.k inner.from) part_there (moves o.k p.k inner.from) part_back (moves p.k o.k inner.from) o.σ p.σ o.most_general p.most_general
-      (five outer.from outer.to (shifted o.k inner.from) (shifted o.k inner.to) (put outer.from place (shifted o.k inner.to)))
-      (five outer.from outer.to (shifted p.k inner.from) (shifted p.k inner.to) (put outer.from place (shifted p.k inner.to)))
-      (ap₂ more from_there (ap₂ more to_there (ap₂ more (moves o.k p.k inner.from) (ap₂ more (moves o.k p.k inner.to) (ap (λ t. more t none) put_there)))))
-      (ap₂ more from_back (ap₂ more to_back (ap₂ more (moves p.k o.k inner.from) (ap₂ more (moves p.k o.k inner.to) (ap (λ t. more t none) put_back)))))
+    (five outer.from outer.to (shifted o.k inner.from) (shifted o.k inner.to) (put outer.from place (shifted o.k inner.to)))
+    (five outer.from outer.to (shifted p.k inner.from) (shifted p.k inner.to) (put outer.from place (shifted p.k inner.to)))
+    (ap₂ more from_there (ap₂ more to_there (ap₂ more (moves o.k p.k inner.from) (ap₂ more (moves o.k p.k inner.to) (ap (λ t. more t none) put_there)))))
+    (ap₂ more from_back (ap₂ more to_back (ap₂ more (moves p.k o.k inner.from) (ap₂ more (moves p.k o.k inner.to) (ap (λ t. more t none) put_back)))))
 
 -- a substitution that renames the variables of a term
 mutual
@@ -110,15 +110,15 @@ place_renamed f t path place a = record {
   inside = omega (arith, a.inside, renamed_nodes f t);
   there = at_position-apply (λ x. var (f x)) path t (subterm t place) a.there ∙ ap Some (sym (subterm-renamed f t place));
   puts = λ w.
-    let k = above_all t in
-    let z = k.0 in
-    let σ = but_one z w f in
-    let agrees : (x : ℕ) → Occurs x t → σ x ≡ var (f x) = λ x o. but_there z w f x (k.1 x o) in
-    ap (put (renamed f t) place) (sym (but_here z w f))
-    ∙ sym (put-apply σ f t place (var z) agrees)
-    ∙ ap (apply σ) (a.puts (var z))
-    ∙ apply-put_position σ path t (subterm t place) (var z) a.there
-    ∙ ap₂ (λ u v. put_position u path v) (same_if σ (λ x. var (f x)) t agrees) (but_here z w f);
+      let k = above_all t in
+      let z = k.0 in
+      let σ = but_one z w f in
+      let agrees : (x : ℕ) → Occurs x t → σ x ≡ var (f x) = λ x o. but_there z w f x (k.1 x o) in
+      ap (put (renamed f t) place) (sym (but_here z w f))
+      ∙ sym (put-apply σ f t place (var z) agrees)
+      ∙ ap (apply σ) (a.puts (var z))
+      ∙ apply-put_position σ path t (subterm t place) (var z) a.there
+      ∙ ap₂ (λ u v. put_position u path v) (same_if σ (λ x. var (f x)) t agrees) (but_here z w f);
 }
 
 -- the pair of the renamed sides

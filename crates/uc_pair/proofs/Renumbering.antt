@@ -145,8 +145,8 @@ module _ (l r top l' r' top' : Tree) (α β : ℕ → Tree) (el : l ≡ apply α
   names_there : names_of l' r' top' ≡ map there (names_of l r top)
   names_there =
       ap firsts (ap₂ (λ a b. a ++ b) (ap variables (term_there l l' el el') ∙ variables-renamed there l)
-        (ap₂ (λ a b. a ++ b) (ap variables (term_there r r' er er') ∙ variables-renamed there r) (ap variables (term_there top top' et et') ∙ variables-renamed there top) ∙ sym (map-append there (variables r) (variables top)))
-        ∙ sym (map-append there (variables l) (variables r ++ variables top)))
+      (ap₂ (λ a b. a ++ b) (ap variables (term_there r r' er er') ∙ variables-renamed there r) (ap variables (term_there top top' et et') ∙ variables-renamed there top) ∙ sym (map-append there (variables r) (variables top)))
+      ∙ sym (map-append there (variables l) (variables r ++ variables top)))
       ∙ firsts-map there back all all_back
 
   names_back : Back there back (names_of l r top)
@@ -157,7 +157,7 @@ module _ (l r top l' r' top' : Tree) (α β : ℕ → Tree) (el : l ≡ apply α
       ap₂ renumbered_by names_there (term_there t t' e f)
       ∙ apply-renamed (λ y. var (place_of (map there (names_of l r top)) y)) there t
       ∙ same_if (λ x. var (place_of (map there (names_of l r top)) (there x))) (λ x. var (place_of (names_of l r top) x)) t
-          (λ x o. ap var (place-map there back (names_of l r top) x names_back (one_term t t' e f x o).1))
+      (λ x o. ap var (place-map there back (names_of l r top) x names_back (one_term t t' e f x o).1))
 
   pub numbered_alike : (overlap : Overlap) (place : ℕ) (left right : Tree) (chain : Chain) → IsNumbered overlap top' l' r' place left right chain → IsNumbered overlap top l r place left right chain
   numbered_alike overlap place left right chain n = record {

@@ -105,14 +105,14 @@ module _ (m : Meaning) (laws : Laws m) (outer inner : Rule) (place : ℕ) where
     outer_not : AtMost m.greater (peak o) (left_of o) → ⊥
     outer_not a =
         not_greater m laws (apply ρ (peak o)) (apply ρ (left_of o)) (instance_at_most m laws ρ (peak o) (left_of o) a)
-          (subst (λ u. m.greater u (apply ρ (left_of o))) (on_low o.k d.τ d.υ outer.from (λ x q. o.apart x (inl q)) ∙ again outer.from)
-            (subst (λ u. m.greater (apply d.τ outer.from) u) (on_low o.k d.τ d.υ outer.to (λ x q. o.apart x (inr q)) ∙ again outer.to) d.outer_down))
+        (subst (λ u. m.greater u (apply ρ (left_of o))) (on_low o.k d.τ d.υ outer.from (λ x q. o.apart x (inl q)) ∙ again outer.from)
+        (subst (λ u. m.greater (apply d.τ outer.from) u) (on_low o.k d.τ d.υ outer.to (λ x q. o.apart x (inr q)) ∙ again outer.to) d.outer_down))
 
     inner_not : AtMost m.greater (inner_from o) (inner_to o) → ⊥
     inner_not a =
         not_greater m laws (apply ρ (inner_from o)) (apply ρ (inner_to o)) (instance_at_most m laws ρ (inner_from o) (inner_to o) a)
-          (subst (λ u. m.greater u (apply ρ (inner_to o))) (on_high o.k d.τ d.υ inner.from ∙ again (shifted o.k inner.from))
-            (subst (λ u. m.greater (apply d.υ inner.from) u) (on_high o.k d.τ d.υ inner.to ∙ again (shifted o.k inner.to)) d.inner_down))
+        (subst (λ u. m.greater u (apply ρ (inner_to o))) (on_high o.k d.τ d.υ inner.from ∙ again (shifted o.k inner.from))
+        (subst (λ u. m.greater (apply d.υ inner.from) u) (on_high o.k d.τ d.υ inner.to ∙ again (shifted o.k inner.to)) d.inner_down))
 
   pub up_twice : (o : Overlapping outer inner place) → LeadsUp m.greater o → LeadsDownTwice m.greater outer inner place → ⊥
   up_twice o (outer_up (by_instances s t a)) d = outer_not o d a
@@ -129,24 +129,23 @@ module _ (m : Meaning) (laws : Laws m) (outer inner : Rule) (place : ℕ) where
   goes_up_alike l r a b a' b' t (by_instances x y q) = by_instances (small_back a b a' b' t x) (small_back b a b' a' (alike_swap a b a' b' t) y) (alike_at_most m laws a' b' a b (alike_back a b a' b' t) q)
   goes_up_alike l r a b a' b' t (by_sides x q) = by_sides (either_large a b a' b' t x) q
 
-  leads_up_alike : (o p : Overlapping outer inner place) → LeadsUp m.greater p → LeadsUp m.greater o
+  pub leads_up_alike : (o p : Overlapping outer inner place) → LeadsUp m.greater p → LeadsUp m.greater o
   leads_up_alike o p (outer_up g) = outer_up (goes_up_alike outer.from outer.to (peak o) (left_of o) (peak p) (left_of p) (first_two _ _ _ _ _ _ _ _ _ _ (two_alike outer inner place o p)) g)
   leads_up_alike o p (inner_up g) = inner_up (goes_up_alike inner.from inner.to (inner_from o) (inner_to o) (inner_from p) (inner_to p) (next_two _ _ _ _ _ _ _ _ _ _ (two_alike outer inner place o p)) g)
 
+module _ (Greater : Tree → Tree → Type 0) (outer inner : Rule) (place : ℕ) where
   -- a place at which nothing is listed, and one at which an overlap is
   data Skips : Type 0 where
     skips_variable : (IsApp (subterm outer.from place) → ⊥) → Skips
     skips_apart : IsApart outer inner place → Skips
     skips_repeated : IsRepeated outer inner place → Skips
-    skips_nowhere : NeverDown m.greater outer ⊎ NeverDown m.greater inner → Skips
-    skips_up : (p : Overlapping outer inner place) → LeadsUp m.greater p → Skips
+    skips_up : ((o : Overlapping outer inner place) → LeadsUp Greater o) → Skips
 
-  not_both : Skips → (o : Overlapping outer inner place) → (IsRepeated outer inner place → ⊥) → (LeadsUp m.greater o → ⊥) → ⊥
+  not_both : Skips → (o : Overlapping outer inner place) → (IsRepeated outer inner place → ⊥) → (LeadsUp Greater o → ⊥) → ⊥
   not_both (skips_variable n) o fresh down = n o.no_variable
   not_both (skips_apart a) o fresh down = apart_never outer inner place a o
   not_both (skips_repeated r) o fresh down = fresh r
-  not_both (skips_nowhere n) o fresh down = down (nowhere_up m laws outer inner place o n)
-  not_both (skips_up p u) o fresh down = down (leads_up_alike o p u)
+  not_both (skips_up u) o fresh down = down (u o)
 
 pub too_large_or_fits : (outer inner : Rule) (place : ℕ) (o : Overlapping outer inner place) → IsTooLarge o → Fits o → ⊥
 too_large_or_fits outer inner place o (inl l) f = absurd (omega (arith, l, f.peak_small))
@@ -172,25 +171,25 @@ size_again outer inner place o p _ (is_weight f e) = size_alike o _ _ _ _ _ (two
 pub any_size : (outer inner : Rule) (place : ℕ) (o p : Overlapping outer inner place) (s t : Size) → HasSize o s → HasSize p t → s ≡ t
 any_size outer inner place o p s t h k = one_size outer inner place o s t h (size_again outer inner place o p t k)
 
-module _ (m : Meaning) (laws : Laws m) (outer inner : Rule) where
+module _ (Greater : Tree → Tree → Type 0) (outer inner : Rule) where
   -- what a list begins with
   data Begins (place : ℕ) : List Formed → Type 0 where
     begins_none : nodes outer.from ≤ place → Begins place []
-    begins_later : {list : List Formed} → place < nodes outer.from → Skips m laws outer inner place → Lists m.greater outer inner (place + 1) list → Begins place list
-    begins_here : {size : Size} {list : List Formed} (o : Overlapping outer inner place) → (IsRepeated outer inner place → ⊥) → (LeadsUp m.greater o → ⊥) → HasSize o size → Lists m.greater outer inner (place + 1) list → Begins place (formed_at outer inner place size ∷ list)
+    begins_later : {list : List Formed} → place < nodes outer.from → Skips Greater outer inner place → Lists Greater outer inner (place + 1) list → Begins place list
+    begins_here : {size : Size} {list : List Formed} (o : Overlapping outer inner place) → (IsRepeated outer inner place → ⊥) → (LeadsUp Greater o → ⊥) → HasSize o size → Lists Greater outer inner (place + 1) list → Begins place (formed_at outer inner place size ∷ list)
 
-  begins : (place : ℕ) (list : List Formed) → Lists m.greater outer inner place list → Begins place list
+  begins : (place : ℕ) (list : List Formed) → Lists Greater outer inner place list → Begins place list
   begins place _ (no_more_places h) = begins_none h
   begins place list (at_variable h n rest) = begins_later h (skips_variable n) rest
   begins place list (no_unifier h a rest) = begins_later h (skips_apart a) rest
   begins place list (repeats h r rest) = begins_later h (skips_repeated r) rest
-  begins place list (goes_nowhere h n rest) = begins_later h (skips_nowhere n) rest
-  begins place list (leads_up o u rest) = begins_later o.inside (skips_up o u) rest
+  begins place list (goes_nowhere h n u rest) = begins_later h (skips_up u) rest
+  begins place list (leads_up o u rest) = begins_later o.inside (skips_up u) rest
   begins place _ (is_listed o fresh down size rest) = begins_here o fresh down size rest
 
   -- by the number of places that are left
   abbrev SameFrom : ℕ → Type 0
-  SameFrom place = (x y : List Formed) → Lists m.greater outer inner place x → Lists m.greater outer inner place y → x ≡ y
+  SameFrom place = (x y : List Formed) → Lists Greater outer inner place x → Lists Greater outer inner place y → x ≡ y
 
   same_at : (place : ℕ) → SameFrom (place + 1) → (x y : List Formed) → Begins place x → Begins place y → x ≡ y
   same_at place next _ _ (begins_none h) (begins_none k) = refl
@@ -198,9 +197,9 @@ module _ (m : Meaning) (laws : Laws m) (outer inner : Rule) where
   same_at place next _ _ (begins_none h) (begins_here o fresh down size rest) = absurd (omega (arith, o.inside))
   same_at place next x _ (begins_later k s rest) (begins_none h) = absurd (omega arith)
   same_at place next x y (begins_later k s rest) (begins_later h r others) = next x y rest others
-  same_at place next x _ (begins_later k s rest) (begins_here o fresh down size others) = absurd (not_both m laws outer inner place s o fresh down)
+  same_at place next x _ (begins_later k s rest) (begins_here o fresh down size others) = absurd (not_both Greater outer inner place s o fresh down)
   same_at place next _ _ (begins_here o fresh down size rest) (begins_none h) = absurd (omega (arith, o.inside))
-  same_at place next _ y (begins_here o fresh down size rest) (begins_later k s others) = absurd (not_both m laws outer inner place s o fresh down)
+  same_at place next _ y (begins_here o fresh down size rest) (begins_later k s others) = absurd (not_both Greater outer inner place s o fresh down)
   same_at place next _ _ (begins_here {size = s} {list = x} o fresh down size rest) (begins_here {size = t} {list = y} p new below large others) =
       ap₂ (λ z l. formed_at outer inner place z ∷ l) (any_size outer inner place o p s t size large) (next x y rest others)
 
@@ -215,10 +214,10 @@ module _ (m : Meaning) (laws : Laws m) (outer inner : Rule) where
   same_from zero place h x y a b = ended place (omega arith) x y (begins place x a) (begins place y b)
   same_from (suc n) place h x y a b = same_at place (same_from n (place + 1) (omega arith)) x y (begins place x a) (begins place y b)
 
-  pub same_list : (x y : List Formed) → Lists m.greater outer inner 0 x → Lists m.greater outer inner 0 y → x ≡ y
+  pub same_list : (x y : List Formed) → Lists Greater outer inner 0 x → Lists Greater outer inner 0 y → x ≡ y
   same_list = same_from (nodes outer.from) 0 (omega arith)
 
-pub same_each : (m : Meaning) → Laws m → (rules : List (Rule × Rule)) (x y : List Formed) → ListsEach m.greater rules x → ListsEach m.greater rules y → x ≡ y
-same_each m laws [] _ _ no_rules no_rules = refl
-same_each m laws ((outer, inner) ∷ rules) _ _ (next_rules {list = x} {others = xs} a more_a) (next_rules {list = y} {others = ys} b more_b) =
-    ap₂ (λ l r. l ++ r) (same_list m laws outer inner x y a b) (same_each m laws rules xs ys more_a more_b)
+pub same_each : (Greater : Tree → Tree → Type 0) (rules : List (Rule × Rule)) (x y : List Formed) → ListsEach Greater rules x → ListsEach Greater rules y → x ≡ y
+same_each Greater [] _ _ no_rules no_rules = refl
+same_each Greater ((outer, inner) ∷ rules) _ _ (next_rules {list = x} {others = xs} a more_a) (next_rules {list = y} {others = ys} b more_b) =
+    ap₂ (λ l r. l ++ r) (same_list Greater outer inner x y a b) (same_each Greater rules xs ys more_a more_b)

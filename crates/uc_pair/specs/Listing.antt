@@ -43,19 +43,20 @@ module _ (Greater : Tree → Tree → Type 0) where
     outer_up : GoesUp outer.from outer.to (peak o) (left_of o) → LeadsUp o
     inner_up : GoesUp inner.from inner.to (inner_from o) (inner_to o) → LeadsUp o
 
-  -- The rule leads down nowhere: so each of its overlaps leads up.
+  -- The rule leads down nowhere, since one side is at most the other; so are their instances.
   abbrev pub NeverDown : Rule → Type 0
   NeverDown rule = AtMost rule.from rule.to
 
-  -- The overlaps at the places of the outer side from one on, in preorder, each with its size: at each place there is none, since
-  -- it is a variable's or the parts don't unify; or each is left out, since it is repeated or leads up; or it is listed.
+  -- The overlaps at the places of the outer side from one on, in preorder, each with its size. At each place there is none, since
+  -- it is a variable's or the parts don't unify; or it is left out, since it is repeated or leads up, by whichever most general
+  -- unifier; or it is listed. Where one of the rules leads down nowhere, so that each overlap leads up, there needn't be one.
   pub data Lists (outer inner : Rule) : ℕ → List Formed → Type 0 where
     no_more_places : {place : ℕ} → nodes outer.from ≤ place → Lists outer inner place []
     at_variable : {place : ℕ} {list : List Formed} → place < nodes outer.from → (IsApp (subterm outer.from place) → ⊥) → Lists outer inner (place + 1) list → Lists outer inner place list
     no_unifier : {place : ℕ} {list : List Formed} → place < nodes outer.from → IsApart outer inner place → Lists outer inner (place + 1) list → Lists outer inner place list
     repeats : {place : ℕ} {list : List Formed} → place < nodes outer.from → IsRepeated outer inner place → Lists outer inner (place + 1) list → Lists outer inner place list
-    goes_nowhere : {place : ℕ} {list : List Formed} → place < nodes outer.from → NeverDown outer ⊎ NeverDown inner → Lists outer inner (place + 1) list → Lists outer inner place list
-    leads_up : {place : ℕ} {list : List Formed} (o : Overlapping outer inner place) → LeadsUp o → Lists outer inner (place + 1) list → Lists outer inner place list
+    goes_nowhere : {place : ℕ} {list : List Formed} → place < nodes outer.from → NeverDown outer ⊎ NeverDown inner → ((o : Overlapping outer inner place) → LeadsUp o) → Lists outer inner (place + 1) list → Lists outer inner place list
+    leads_up : {place : ℕ} {list : List Formed} → Overlapping outer inner place → ((o : Overlapping outer inner place) → LeadsUp o) → Lists outer inner (place + 1) list → Lists outer inner place list
     is_listed : {place : ℕ} {size : Size} {list : List Formed} (o : Overlapping outer inner place) → (IsRepeated outer inner place → ⊥) → (LeadsUp o → ⊥) → HasSize o size → Lists outer inner (place + 1) list → Lists outer inner place (record { overlap = overlap_at outer inner place; size = size } ∷ list)
 
   -- those of several pairs of an outer and an inner rule, one behind the other

@@ -33,8 +33,8 @@ abbrev pub chain_by : Overlap → ℕ → Tree → Tree → Tree → Chain
 chain_by overlap place left top right = record {
   start = left;
   steps = record { by = Fact overlap.outer; left_to_right = is_right overlap.outer_side; position = record { 0 = 0 }; to = top }
-        ∷ record { by = Fact overlap.inner; left_to_right = is_left overlap.inner_side; position = record { 0 = place }; to = right }
-        ∷ [];
+      ∷ record { by = Fact overlap.inner; left_to_right = is_left overlap.inner_side; position = record { 0 = place }; to = right }
+      ∷ [];
 }
 
 -- The two sides of a pair with their chain: the terms l, r and top with their variables numbered by first occurrence.

@@ -102,8 +102,9 @@ fn is_var(node: Node) -> bool
 fn is_head(node: Node, f: Sym, n: u32) -> bool
     ensures { IsTrue result ↔ (node ≡ Node.App f n) }
 {
-    match node {
-        Node::App(g, m) => g == f && m == n,
-        Node::Var(_) => false,
+    if let Node::App(g, m) = node {
+        g == f && m == n
+    } else {
+        false
     }
 }

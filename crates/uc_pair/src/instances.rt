@@ -22,7 +22,11 @@ pub(crate) struct RenamedApart {
 }
 
 /// The rules' variables renamed apart.
-pub(crate) fn rename_apart(alloc: Global, outer: &Read, inner: &Read) -> Result<RenamedApart, AllocError>
+pub(crate) fn rename_apart(
+    alloc: Global,
+    outer: &Read,
+    inner: &Read,
+) -> Result<RenamedApart, AllocError>
     ensures { IfOk result (AreApart (rule_read outer.now) (rule_read inner.now)) }
 {
     let mut names = Vec::new(alloc);

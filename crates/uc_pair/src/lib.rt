@@ -10,7 +10,6 @@ mod judging;
 mod laws;
 mod listing;
 mod numbering;
-
 mod pairing;
 mod reading;
 

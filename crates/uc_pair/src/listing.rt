@@ -73,20 +73,8 @@ fn add_outer<O: Order>(
     if is_never_down(outer, order) {
         return Ok(());
     }
-    add_inner(
-        alloc,
-        list,
-        outer,
-        &Read::new(inner, Side::Left, b),
-        order,
-    )?;
-    add_inner(
-        alloc,
-        list,
-        outer,
-        &Read::new(inner, Side::Right, b),
-        order,
-    )
+    add_inner(alloc, list, outer, &Read::new(inner, Side::Left, b), order)?;
+    add_inner(alloc, list, outer, &Read::new(inner, Side::Right, b), order)
 }
 
 /// Adds the overlaps of two rules, of which the outer one leads down somewhere.

@@ -66,9 +66,7 @@ pub(crate) fn is_at_most<O: Order>(s: &Term, t: &Term, order: &O) -> bool
 pub(crate) fn is_repeated(outer: &Read, inner: &Read, place: u32) -> bool
     ensures { IsTrue result ↔ IsRepeated (rule_read outer.now) (rule_read inner.now) place }
 {
-    place == 0
-        && !is_variable(inner.from)
-        && (comes_before(outer, inner) || is_copy(outer, inner))
+    place == 0 && !is_variable(inner.from) && (comes_before(outer, inner) || is_copy(outer, inner))
 }
 
 fn is_variable(term: &Term) -> bool
@@ -85,9 +83,7 @@ fn comes_before(first: &Read, second: &Read) -> bool
     ensures { IsTrue result ↔ ComesBefore (rule_read first.now) (rule_read second.now) }
 {
     first.number < second.number
-        || first.number == second.number
-            && first.side == Side::Left
-            && second.side == Side::Right
+        || first.number == second.number && first.side == Side::Left && second.side == Side::Right
 }
 
 /// Whether they are one rule whose other side has no further variable.

@@ -147,10 +147,12 @@ fn is_pair(
     if steps.len() != 2 {
         return Ok(false);
     }
-    Ok(left.same(&expected_left)
-        && right.same(&expected_right)
-        && chain.start.same(&expected_left)
-        && steps[1].to.same(&expected_right))
+    Ok(
+        left.same(&expected_left)
+            && right.same(&expected_right)
+            && chain.start.same(&expected_left)
+            && steps[1].to.same(&expected_right),
+    )
 }
 
 // Whether these are all the overlaps of an equation with another one, of another number.

@@ -16,6 +16,7 @@ use Rattle.uc_pair.specs.Reading.{rule_read, AreApart}
 use Rattle.uc_pair.specs.Judging.{IsJudged, IsJudgedBy}
 use Rattle.uc_pair.proofs.Parts.{part_whole, part_of, within_list, unified_is}
 use Rattle.uc_pair.proofs.Judged.{judged_by, judged_large, judged_apart, judged_repeated, judged_unfit, same_size}
+use Rattle.uc_pair.proofs.Uniqueness.{leads_up_alike}
 use Rattle.uc_pair.proofs.judging.size_at.Goals as goal
 
 clashed : (b : Bool) → b ≡ false → IsTrue b → ⊥
@@ -35,7 +36,7 @@ fits_at-requires-clause-within g c = within_list c.as_nodes.result.now c.args.ou
 pub returns-then-not-fits_at : goal.returns-then-not-fits_at
 returns-then-not-fits_at g c =
     judged_unfit (g.O.Order.meaning c.args.order.now) (rule_read c.args.outer.now) (rule_read c.args.inner.now) c.args.place c.requires.apart.k c.requires.apart.apart c.requires.inside
-      (subst (λ t. HasNoFit c.args.outer.now.from.now t c.args.place) c.as_nodes-2.ensures.tree (subst (λ s. HasNoFit s (tree_of c.as_nodes-2.result.now) c.args.place) c.as_nodes.ensures.tree (c.fits_at.ensures.none c.if-not-fits_at.true)))
+    (subst (λ t. HasNoFit c.args.outer.now.from.now t c.args.place) c.as_nodes-2.ensures.tree (subst (λ s. HasNoFit s (tree_of c.as_nodes-2.result.now) c.args.place) c.as_nodes.ensures.tree (c.fits_at.ensures.none c.if-not-fits_at.true)))
 
 pub end_of-to-requires-clause-whole : goal.end_of-to-requires-clause-whole
 end_of-to-requires-clause-whole g c = whole_one c.as_nodes-nodes.result.now c.as_nodes-nodes.ensures.whole
@@ -63,21 +64,21 @@ found outer inner place to terms x h ns ms w e f end u v is i =
 pub returns-in-Apart : goal.returns-in-Apart
 returns-in-Apart g c =
     judged_apart (rule_read c.args.outer.now) (rule_read c.args.inner.now) c.args.place c.args.terms.now c.requires.apart c.requires.inside (g.O.Order.meaning c.args.order.now)
-      (found (rule_read c.args.outer.now) (rule_read c.args.inner.now) c.args.place c.end_of-to.result c.args.terms.now c.requires.apart c.requires.inside c.as_nodes-nodes.result.now c.as_nodes-3.result.now c.as_nodes-nodes.ensures.whole c.as_nodes-nodes.ensures.tree c.as_nodes-3.ensures.tree c.end_of-to.ensures.end c.in_ok-unify.field-0 Apart c.in-Apart.is c.in_ok-unify.ensures)
+    (found (rule_read c.args.outer.now) (rule_read c.args.inner.now) c.args.place c.end_of-to.result c.args.terms.now c.requires.apart c.requires.inside c.as_nodes-nodes.result.now c.as_nodes-3.result.now c.as_nodes-nodes.ensures.whole c.as_nodes-nodes.ensures.tree c.as_nodes-3.ensures.tree c.end_of-to.ensures.end c.in_ok-unify.field-0 Apart c.in-Apart.is c.in_ok-unify.ensures)
 
 pub returns-in-TooLarge : goal.returns-in-TooLarge
 returns-in-TooLarge g c =
     judged_large (rule_read c.args.outer.now) (rule_read c.args.inner.now) c.args.place c.args.terms.now c.requires.apart c.requires.inside
-      (symbol c.as_nodes.result.now c.args.outer.now.from.now c.args.place c.as_nodes.ensures.tree c.fits_at.result c.if-not-fits_at.false c.fits_at.ensures.symbol)
-      (g.O.Order.meaning c.args.order.now) c.requires.outer_down c.requires.inner_down (λ r. clashed c.is_repeated.result c.if-is_repeated.false (c.is_repeated.ensures.1 r))
-      (found (rule_read c.args.outer.now) (rule_read c.args.inner.now) c.args.place c.end_of-to.result c.args.terms.now c.requires.apart c.requires.inside c.as_nodes-nodes.result.now c.as_nodes-3.result.now c.as_nodes-nodes.ensures.whole c.as_nodes-nodes.ensures.tree c.as_nodes-3.ensures.tree c.end_of-to.ensures.end c.in_ok-unify.field-0 TooLarge c.in-TooLarge.is c.in_ok-unify.ensures)
+    (symbol c.as_nodes.result.now c.args.outer.now.from.now c.args.place c.as_nodes.ensures.tree c.fits_at.result c.if-not-fits_at.false c.fits_at.ensures.symbol)
+    (g.O.Order.meaning c.args.order.now) c.requires.outer_down c.requires.inner_down (λ r. clashed c.is_repeated.result c.if-is_repeated.false (c.is_repeated.ensures.1 r))
+    (found (rule_read c.args.outer.now) (rule_read c.args.inner.now) c.args.place c.end_of-to.result c.args.terms.now c.requires.apart c.requires.inside c.as_nodes-nodes.result.now c.as_nodes-3.result.now c.as_nodes-nodes.ensures.whole c.as_nodes-nodes.ensures.tree c.as_nodes-3.ensures.tree c.end_of-to.ensures.end c.in_ok-unify.field-0 TooLarge c.in-TooLarge.is c.in_ok-unify.ensures)
 
 pub returns-in-Unifier : goal.returns-in-Unifier
 returns-in-Unifier g c =
     let unifier = found (rule_read c.args.outer.now) (rule_read c.args.inner.now) c.args.place c.end_of-to.result c.args.terms.now c.requires.apart c.requires.inside c.as_nodes-nodes.result.now c.as_nodes-3.result.now c.as_nodes-nodes.ensures.whole c.as_nodes-nodes.ensures.tree c.as_nodes-3.ensures.tree c.end_of-to.ensures.end c.in_ok-unify.field-0 (Unifier c.in-Unifier.subst) c.in-Unifier.is c.in_ok-unify.ensures in
     if_ok (IsJudgedBy (g.O.Order.meaning c.args.order.now).greater c.args.terms.now c.args.place (image c.in-Unifier.subst)) (IsJudged (g.O.Order.meaning c.args.order.now).greater (rule_read c.args.outer.now) (rule_read c.args.inner.now) c.args.place)
-      (λ size by. judged_by (rule_read c.args.outer.now) (rule_read c.args.inner.now) c.args.place c.args.terms.now c.requires.apart c.requires.inside
-        (symbol c.as_nodes.result.now c.args.outer.now.from.now c.args.place c.as_nodes.ensures.tree c.fits_at.result c.if-not-fits_at.false c.fits_at.ensures.symbol)
-        (g.O.Order.meaning c.args.order.now) (g.met.O.Order.laws c.args.order.now) c.requires.outer_down c.requires.inner_down (λ r. clashed c.is_repeated.result c.if-is_repeated.false (c.is_repeated.ensures.1 r))
-        (image c.in-Unifier.subst) unifier.most_general size by)
-      c.judged.result c.judged.ensures
+    (λ size by. judged_by (rule_read c.args.outer.now) (rule_read c.args.inner.now) c.args.place c.args.terms.now c.requires.apart c.requires.inside
+    (symbol c.as_nodes.result.now c.args.outer.now.from.now c.args.place c.as_nodes.ensures.tree c.fits_at.result c.if-not-fits_at.false c.fits_at.ensures.symbol)
+    (g.O.Order.meaning c.args.order.now) (g.met.O.Order.laws c.args.order.now) c.requires.outer_down c.requires.inner_down (λ r. clashed c.is_repeated.result c.if-is_repeated.false (c.is_repeated.ensures.1 r)) (leads_up_alike (g.O.Order.meaning c.args.order.now) (g.met.O.Order.laws c.args.order.now) (rule_read c.args.outer.now) (rule_read c.args.inner.now) c.args.place)
+    (image c.in-Unifier.subst) unifier.most_general size by)
+    c.judged.result c.judged.ensures

@@ -7,12 +7,12 @@ use Rattle.uc_pair.proofs.listing.add_inner.Goals as goal
 pub returns-then-is_never_down : goal.returns-then-is_never_down
 returns-then-is_never_down g c =
     adds_none (Lists (g.O.Order.meaning c.args.order.now).greater (rule_read c.args.outer.now) (rule_read c.args.inner.now) 0) c.args.list.now.items
-      (none_listed (g.O.Order.meaning c.args.order.now) (rule_read c.args.outer.now) (rule_read c.args.inner.now) (inr (c.is_never_down.ensures.0 c.if-is_never_down.true)))
+    (none_listed (g.O.Order.meaning c.args.order.now) (rule_read c.args.outer.now) (rule_read c.args.inner.now) (g.met.O.Order.laws c.args.order.now) (inr (c.is_never_down.ensures.0 c.if-is_never_down.true)))
 
 pub returns-in_default : goal.returns-in_default
 returns-in_default g c =
     adds_none (Lists (g.O.Order.meaning c.args.order.now).greater (rule_read c.args.outer.now) (rule_read c.args.inner.now) 0) c.args.list.now.items
-      (nowhere_listed (g.O.Order.meaning c.args.order.now) (rule_read c.args.outer.now) (rule_read c.args.inner.now) c.in_default.ensures)
+    (nowhere_listed (g.O.Order.meaning c.args.order.now) (rule_read c.args.outer.now) (rule_read c.args.inner.now) c.in_default.ensures)
 
 pub loop-place-init : goal.loop-place-init
 loop-place-init g c = listing_starts (g.O.Order.meaning c.args.order.now) (rule_read c.args.outer.now) (rule_read c.args.inner.now) c.in-Some.first c.args.list.now.items c.in-Some.ensures

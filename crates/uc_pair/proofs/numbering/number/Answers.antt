@@ -9,7 +9,7 @@ loop-node-init c = numbered_starts c.as_nodes-nodes.result.now c.args.names.now.
 pub loop-node-preserved : goal.loop-node-preserved
 loop-node-preserved c =
     subst (Numbered c.as_nodes-nodes.result.now c.args.names.now.items c.number_node.new.names.items c.args.offset (c.loop-node.node-index + 1)) (sym c.in_ok-push.ensures.items)
-      (numbered_goes_on c.as_nodes-nodes.result.now c.args.names.now.items c.loop-node.names.items c.number_node.new.names.items c.args.offset c.loop-node.node-index c.loop-node.list.items c.in_ok-number_node.field-0 _ c.loop-node-test.true c.loop-node.invariant c.in_ok-number_node.ensures)
+    (numbered_goes_on c.as_nodes-nodes.result.now c.args.names.now.items c.loop-node.names.items c.number_node.new.names.items c.args.offset c.loop-node.node-index c.loop-node.list.items c.in_ok-number_node.field-0 _ c.loop-node-test.true c.loop-node.invariant c.in_ok-number_node.ensures)
 
 pub from_nodes-requires-clause-whole : goal.from_nodes-requires-clause-whole
 from_nodes-requires-clause-whole c = numbered_whole c.as_nodes-nodes.result.now c.args.term.now c.args.names.now.items c.loop-node.names.items c.args.offset c.loop-node.node-index c.loop-node.list.items c.as_nodes-nodes.ensures.whole c.as_nodes-nodes.ensures.tree c.loop-node-test.false c.loop-node.invariant

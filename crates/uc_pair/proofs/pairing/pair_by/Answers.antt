@@ -19,9 +19,9 @@ returns c =
     let terms = c.args.terms.now in
     let placed = subst (IsReplaced σ terms.outer_from c.args.overlap.now.position.0 terms.inner_to) c.in-Some-right.is (c.in_ok-right.ensures σ terms.inner_to c.in_ok-peak.ensures c.in_ok-part.ensures) in
     if_ok (IsNumberedPair c.args.overlap.now c.in-Some.peak c.in-Some-left.left c.in-Some-right.right.term c.in-Some-right.right.there.0) (IsPairByTerms c.args.overlap.now terms σ)
-      (pair_from c.args.overlap.now terms σ c.in-Some.peak c.in-Some-left.left c.in-Some-right.right
-        (instance_there σ terms.outer_from c.in_ok-peak.peak c.in-Some.peak c.in-Some.is c.in_ok-peak.ensures)
-        (instance_there σ terms.outer_to c.in_ok-left.left c.in-Some-left.left c.in-Some-left.is c.in_ok-left.ensures)
-        (instance_small σ terms.outer_to c.in_ok-left.left c.in-Some-left.left c.in-Some-left.is c.in_ok-left.ensures)
-        placed)
-      c.numbered.result c.numbered.ensures
+    (pair_from c.args.overlap.now terms σ c.in-Some.peak c.in-Some-left.left c.in-Some-right.right
+    (instance_there σ terms.outer_from c.in_ok-peak.peak c.in-Some.peak c.in-Some.is c.in_ok-peak.ensures)
+    (instance_there σ terms.outer_to c.in_ok-left.left c.in-Some-left.left c.in-Some-left.is c.in_ok-left.ensures)
+    (instance_small σ terms.outer_to c.in_ok-left.left c.in-Some-left.left c.in-Some-left.is c.in_ok-left.ensures)
+    placed)
+    c.numbered.result c.numbered.ensures

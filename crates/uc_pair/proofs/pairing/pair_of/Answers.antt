@@ -69,8 +69,8 @@ returns-in-Unifier-clause-pair c =
     let x = read_apart outer inner (rule_read c.new-outer.result) (rule_read c.new-inner.result) c.in_ok-terms.terms c.new-outer.ensures c.new-inner.ensures c.in_ok-terms.ensures in
     let unifier = found outer inner c.args.overlap.now.position.0 c.in_ok-terms.terms x c.requires c.end_of-to.result c.as_nodes-nodes.result.now c.as_nodes.result.now c.as_nodes-nodes.ensures.whole c.as_nodes-nodes.ensures.tree c.as_nodes.ensures.tree c.end_of-to.ensures.end c.in_ok-subst.field-0 (Unifier c.in-Unifier.subst) c.in-Unifier.is c.in_ok-subst.ensures in
     if_ok (IsPairByTerms c.args.overlap.now c.in_ok-terms.terms (image c.in-Unifier.subst)) (IsPairOf c.args.a.now c.args.b.now c.args.overlap.now)
-      (formation_by outer inner c.args.overlap.now.position.0 c.in_ok-terms.terms x c.requires.inside c.requires.no_variable (image c.in-Unifier.subst) unifier.most_general)
-      c.pair_by.result c.pair_by.ensures
+    (formation_by outer inner c.args.overlap.now.position.0 c.in_ok-terms.terms x c.requires.inside c.requires.no_variable (image c.in-Unifier.subst) unifier.most_general)
+    c.pair_by.result c.pair_by.ensures
 
 pub returns-in-Unifier-clause-replays : goal.returns-in-Unifier-clause-replays
 returns-in-Unifier-clause-replays c =
@@ -79,8 +79,8 @@ returns-in-Unifier-clause-replays c =
     let x = read_apart outer inner (rule_read c.new-outer.result) (rule_read c.new-inner.result) c.in_ok-terms.terms c.new-outer.ensures c.new-inner.ensures c.in_ok-terms.ensures in
     let unifier = found outer inner c.args.overlap.now.position.0 c.in_ok-terms.terms x c.requires c.end_of-to.result c.as_nodes-nodes.result.now c.as_nodes.result.now c.as_nodes-nodes.ensures.whole c.as_nodes-nodes.ensures.tree c.as_nodes.ensures.tree c.end_of-to.ensures.end c.in_ok-subst.field-0 (Unifier c.in-Unifier.subst) c.in-Unifier.is c.in_ok-subst.ensures in
     if_ok (IsPairByTerms c.args.overlap.now c.in_ok-terms.terms (image c.in-Unifier.subst)) (ReplaysPair c.args.a.now c.args.b.now c.args.overlap.now)
-      (λ formation by. replays_of c.args.a.now c.args.b.now c.args.overlap.now formation (formation_by outer inner c.args.overlap.now.position.0 c.in_ok-terms.terms x c.requires.inside c.requires.no_variable (image c.in-Unifier.subst) unifier.most_general formation by))
-      c.pair_by.result c.pair_by.ensures
+    (λ formation by. replays_of c.args.a.now c.args.b.now c.args.overlap.now formation (formation_by outer inner c.args.overlap.now.position.0 c.in_ok-terms.terms x c.requires.inside c.requires.no_variable (image c.in-Unifier.subst) unifier.most_general formation by))
+    c.pair_by.result c.pair_by.ensures
 
 pub returns-in-Apart-clause-pair : goal.returns-in-Apart-clause-pair
 returns-in-Apart-clause-pair c =
@@ -96,4 +96,4 @@ returns-clause-pair c =
     let inner = read_from c.args.overlap.now.inner c.args.overlap.now.inner_side c.args.b.now in
     let x = read_apart outer inner (rule_read c.new-outer.result) (rule_read c.new-inner.result) c.in_ok-terms.terms c.new-outer.ensures c.new-inner.ensures c.in_ok-terms.ensures in
     large_formation outer inner c.args.overlap.now.position.0 c.in_ok-terms.terms x c.requires.inside c.requires.no_variable
-      (found outer inner c.args.overlap.now.position.0 c.in_ok-terms.terms x c.requires c.end_of-to.result c.as_nodes-nodes.result.now c.as_nodes.result.now c.as_nodes-nodes.ensures.whole c.as_nodes-nodes.ensures.tree c.as_nodes.ensures.tree c.end_of-to.ensures.end c.in_ok-subst.field-0 TooLarge c.in-TooLarge.is c.in_ok-subst.ensures)
+    (found outer inner c.args.overlap.now.position.0 c.in_ok-terms.terms x c.requires c.end_of-to.result c.as_nodes-nodes.result.now c.as_nodes.result.now c.as_nodes-nodes.ensures.whole c.as_nodes-nodes.ensures.tree c.as_nodes.ensures.tree c.end_of-to.ensures.end c.in_ok-subst.field-0 TooLarge c.in-TooLarge.is c.in_ok-subst.ensures)
