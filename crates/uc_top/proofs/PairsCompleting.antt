@@ -42,15 +42,18 @@ module _ (files : Files) (before now : ℕ) (well : Rose before now → ⊥) (ta
   pairs_end distinct (fetch_fails file rose fails) = absurd (well rose)
   pairs_end {own = own} distinct (is_refused why h e) = absurd (isnt_refused own table distinct files command.root name problem held h)
   pairs_end {own = own} distinct (is_loaded {problem = loaded} h (is_unordered {why = why} x n)) = absurd (isnt_unordered own table distinct apart files command.root name command.order loaded problem h held spec chosen why n x)
-  pairs_end {own = own} distinct (is_loaded {problem = loaded} h (is_paired own_spec x d)) = (refl, record {
-    table = own;
-    distinct = distinct;
-    problem = loaded;
-    holds = h;
-    spec = own_spec;
-    chosen = x;
-    are_pairs = d;
-  })
+  pairs_end {own = own} distinct (is_loaded {problem = loaded} h (is_paired own_spec x d)) = (
+    refl,
+    record {
+      table = own;
+      distinct = distinct;
+      problem = loaded;
+      holds = h;
+      spec = own_spec;
+      chosen = x;
+      are_pairs = d;
+    },
+  )
 
 module _ (files : Files) (before now : ℕ) (well : Rose before now → ⊥) (words : List (List ℕ)) (old new : Option (List ℕ)) where
   whole : {status result : ℕ} {text : List ℕ} → MayAnswer (Some files) before now words status text → Appends old new text → result ≡ status → CompletesPairs files words old new result

@@ -166,9 +166,10 @@ module _ (table : Table) where
 
   formed_over : (outer inner : Rule) (place : ℕ) (f : Formation) → IsRuleOver outer → IsRuleOver inner → IsFormation outer inner place f → IsFormationOver table f
   formed_over outer inner place f h k (forms_none o large) = tt
-  formed_over outer inner place f h k (forms_pair o small by) =
-      (subst (IsOf table) (sym by.numbered.left_is) (over_instance _ (λ x. tt) (left_of o) (left_over outer inner place o h k)),
-       subst (IsOf table) (sym by.numbered.right_is) (over_instance _ (λ x. tt) (right_of o) (right_over outer inner place o h k)))
+  formed_over outer inner place f h k (forms_pair o small by) = (
+    subst (IsOf table) (sym by.numbered.left_is) (over_instance _ (λ x. tt) (left_of o) (left_over outer inner place o h k)),
+    subst (IsOf table) (sym by.numbered.right_is) (over_instance _ (λ x. tt) (right_of o) (right_over outer inner place o h k)),
+  )
 
   -- what the pair of two equations over the table comes to is over the table
   pub pair_over : (a b : Equation) (o : Overlap) (f : Formation) → IsOf table a.left × IsOf table a.right → IsOf table b.left × IsOf table b.right → IsPairOf a b o f → IsFormationOver table f

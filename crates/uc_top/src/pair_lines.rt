@@ -84,14 +84,15 @@ fn line_of(
     alloc: Global,
     a: &Equation,
     b: &Equation,
-    overlap: &Overlap,
+    formed: &Formed,
     symbols: &Symbols,
 ) -> Result<Text, AllocError>
     requires a { IsOf symbols.now a.now.left × IsOf symbols.now a.now.right }
     requires b { IsOf symbols.now b.now.left × IsOf symbols.now b.now.right }
-    requires overlaps { IsOverlapOf a.now b.now overlap.now }
-    ensures { IfOk result (IsPairLine symbols.now a.now b.now overlap.now) }
+    requires overlaps { IsOverlapOf a.now b.now formed.now.overlap }
+    ensures { IfOk result (IsPairLine symbols.now a.now b.now formed.now.overlap) }
 {
+    let overlap = &formed.overlap;
     let path = side_of(a, overlap.outer_side).path(alloc, overlap.position)?;
     let formation = pair_of(alloc, overlap, a, b)?;
     pair_line(alloc, overlap, path.as_slice(), &formation, symbols)
@@ -112,7 +113,7 @@ fn lines_of(
 {
     let mut lines = Seq::new(alloc);
     for formed in list {
-        lines.push(line_of(alloc, a, b, &formed.overlap, symbols)?)?;
+        lines.push(line_of(alloc, a, b, formed, symbols)?)?;
     }
     Ok(lines)
 }

@@ -28,10 +28,7 @@ const USAGE: &str = "usage: uc COMMAND [--option VALUE].. [WORD]..\n";
 
 // The problem in `p`, and the lines of its pairs.
 const PAIRS: &[(&str, &str)] = &[
-    (
-        FREE,
-        "0 l 0 l [] g(X1) = g(X2)\n0 r 0 r [] f(X1) = f(X2)\n",
-    ),
+    (FREE, "0 l 0 l [] g(X1) = g(X2)\n0 r 0 r [] f(X1) = f(X2)\n"),
     (
         ASSOCIATIVE,
         "0 l 0 l [1] m(m(X1,X2),m(X3,X4)) = m(m(X1,m(X2,X3)),X4)\n",
@@ -98,7 +95,10 @@ fn is_answered<R: Threads + Wait + Sync>(
 #[test]
 fn pairs_are_told(rt: HostRuntime) -> Result<(), Fail> {
     for (problem, lines) in PAIRS {
-        assert!(rt; is_answered(&rt, rt.alloc(), &["pairs", "p"], problem, 0, lines)?, "{lines}");
+        assert!(rt;
+            is_answered(&rt, rt.alloc(), &["pairs", "p"], problem, 0, lines)?,
+            "{lines}"
+        );
     }
     Ok(())
 }
@@ -119,7 +119,10 @@ fn the_order_is_asked(rt: HostRuntime) -> Result<(), Fail> {
 #[test]
 fn words_of_pairs_are_refused(rt: HostRuntime) -> Result<(), Fail> {
     for (words, status, lines) in WORDS {
-        assert!(rt; is_answered(&rt, rt.alloc(), words, TWO, *status, lines)?, "{words:?}");
+        assert!(rt;
+            is_answered(&rt, rt.alloc(), words, TWO, *status, lines)?,
+            "{words:?}"
+        );
     }
     Ok(())
 }
