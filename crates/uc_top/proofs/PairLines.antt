@@ -33,10 +33,10 @@ module _ (table : Table) where
     abbrev pub BegunPairs : ℕ → List (List ℕ) → Type 0
     BegunPairs number lines = (rest : List ℕ) → ArePairLines table a b (drop number all) rest → ArePairLines table a b all (joined lines ++ rest)
 
-    pub one_more_pair : (number : ℕ) (lines : List (List ℕ)) (formed : Formed) (line : List ℕ) → number < length all → formed ≡ get_or all number formed → IsPairLine table a b formed.overlap line → BegunPairs number lines → BegunPairs (number + 1) (lines ++ line ∷ [])
-    one_more_pair number lines formed line h at is begun rest d =
-        let here : drop number all ≡ formed ∷ drop (number + 1) all = drop_more all number formed h ∙ ap (λ k. k ∷ drop (number + 1) all) (sym at) in
-        let next : ArePairLines table a b (drop number all) (line ++ rest) = subst (λ fs. ArePairLines table a b fs (line ++ rest)) (sym here) (one_overlap is d) in
+    pub one_more_pair : (number : ℕ) (lines : List (List ℕ)) (d formed : Formed) (line : List ℕ) → number < length all → formed ≡ get_or all number d → IsPairLine table a b formed.overlap line → BegunPairs number lines → BegunPairs (number + 1) (lines ++ line ∷ [])
+    one_more_pair number lines d formed line h at is begun rest p =
+        let here : drop number all ≡ formed ∷ drop (number + 1) all = drop_more all number d h ∙ ap (λ k. k ∷ drop (number + 1) all) (sym at) in
+        let next : ArePairLines table a b (drop number all) (line ++ rest) = subst (λ fs. ArePairLines table a b fs (line ++ rest)) (sym here) (one_overlap is p) in
         let texts : joined (lines ++ line ∷ []) ++ rest ≡ joined lines ++ (line ++ rest) = ap (λ t. t ++ rest) (joined_one lines line) ∙ append_assoc (joined lines) line rest in
         subst (ArePairLines table a b all) (sym texts) (begun (line ++ rest) next)
 
