@@ -1,10 +1,9 @@
 -- From what an order's choice and the lines of the pairs promise to the answer.
-use Rattle.std.proofs.Common.{ℕ, ◌≡◌, List, [], ◌∷◌, None, Result, Ok, Err, refl, sym, subst}
+use Rattle.std.proofs.Common.{ℕ, ◌≡◌, List, None, Result, Ok, Err, subst}
 use Rattle.std.specs.Result.{IfOk}
 use Rattle.std.specs.declared.alloc.AllocError.{AllocError}
 use Rattle.uc_term.specs.declared.equation.Equation.{Equation}
 use Rattle.uc_term.specs.Table.{Table}
-use Rattle.uc_check.specs.Clauses.{axioms_of}
 use Rattle.uc_problem.specs.declared.problem.Problem.{Problem}
 use Rattle.uc_order.specs.declared.spec.OrderSpec.{OrderSpec}
 use Rattle.uc_order.specs.Laws.{Meaning}

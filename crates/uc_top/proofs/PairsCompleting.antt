@@ -1,5 +1,5 @@
 -- How `pairs` ends.
-use Rattle.std.proofs.Common.{ℕ, ◌≡◌, List, [], ◌∷◌, Option, Some, None, refl, sym, ap, ◌∙◌, subst}
+use Rattle.std.proofs.Common.{ℕ, ◌≡◌, List, Option, Some, None, refl, sym, ◌∙◌, subst}
 use Rattle.std.specs.Io.KnownBytes.{Appends}
 use Rattle.uc_term.specs.Table.{Table, IsDistinct}
 use Rattle.uc_edge.specs.Files.{Files}
@@ -10,15 +10,14 @@ use Rattle.uc_order.specs.declared.spec.OrderSpec.{OrderSpec}
 use Rattle.uc_words.specs.declared.command.Command.{Command}
 use Rattle.uc_words.specs.declared.command.OrderWords.{OrderWords}
 use Rattle.uc_words.specs.declared.command.Verb.TheVariants as verb
-use Rattle.uc_words.specs.Reads.{Reads}
 use Rattle.uc_ordering.specs.declared.fault.ChoiceFault.{ChoiceFault}
 use Rattle.uc_ordering.specs.declared.fault.ChoiceFault.TheVariants.{NoMemory}
 use Rattle.uc_ordering.specs.Choice.{IsChosen, IsChoiceFault}
 use Rattle.uc_ordering.proofs.Once.{chosen_or_refused}
-use Rattle.uc_top.specs.PairsAnswers.{ArePairsFor, IsPaired, is_unordered, is_paired}
-use Rattle.uc_top.specs.Answers.{PairsAnswers, fetch_fails, is_refused, is_loaded, Answers}
+use Rattle.uc_top.specs.PairsAnswers.{is_unordered, is_paired}
+use Rattle.uc_top.specs.Answers.{PairsAnswers, fetch_fails, is_refused, is_loaded}
 use Rattle.uc_top.specs.Runs.{MayAnswer, is_answer, wants_memory, IsRun}
-use Rattle.uc_top.specs.PairsRuns.{ArePairsHeld, PairsEnds, tells_pairs, lacks_memory, CompletesPairs}
+use Rattle.uc_top.specs.PairsRuns.{ArePairsHeld, tells_pairs, lacks_memory, CompletesPairs}
 use Rattle.uc_top.proofs.AnswersOnce.{only_name}
 use Rattle.uc_top.proofs.ByVerb.{of_verb}
 use Rattle.uc_top.proofs.Completing.{told_whole}

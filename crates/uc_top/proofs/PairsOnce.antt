@@ -1,5 +1,5 @@
 -- A problem and the words of an order have one answer to `pairs`.
-use Rattle.std.proofs.Common.{ℕ, ◌+◌, ◌≡◌, List, [], ◌∷◌, ◌++◌, None, refl, sym, ap, ap₂, ◌∙◌, subst}
+use Rattle.std.proofs.Common.{ℕ, ◌≡◌, List, ◌++◌, None, refl, sym, ap, ap₂, ◌∙◌, subst}
 use Rattle.uc_term.specs.declared.equation.Equation.{Equation}
 use Rattle.uc_term.specs.Equations.{side_of}
 use Rattle.uc_term.specs.Table.{Table}

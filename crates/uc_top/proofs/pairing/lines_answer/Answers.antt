@@ -1,4 +1,4 @@
-use Rattle.std.proofs.Common.{refl, arith}
+use Rattle.std.proofs.Common.{refl}
 use Rattle.uc_top.proofs.OrderedAnswers.{axioms_over}
 use Rattle.uc_top.proofs.PairedAnswers.{paired_by}
 use Rattle.uc_top.proofs.pairing.lines_answer.Goals as goal
