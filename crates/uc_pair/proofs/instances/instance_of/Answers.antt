@@ -1,4 +1,4 @@
-use Rattle.std.proofs.Common.{◌≡◌, arith, ap, sym, ◌∙◌, length, refl}
+use Rattle.std.proofs.Common.{arith, ap, ◌∙◌}
 use Rattle.uc_term.specs.Tree.{nodes, apply}
 use Rattle.uc_term.specs.Flat.{tree_of}
 use Rattle.uc_term.specs.Subst.{image}
