@@ -1,8 +1,8 @@
 -- Sides are renamed apart by their places among the names.
-use Rattle.std.proofs.Common.{◌≡◌, ℕ, zero, suc, ◌+◌, ◌-◌, ◌<◌, ◌≤◌, ◌==◌, ◌||◌, nat_lt, Bool, true, false, List, [], ◌∷◌, ◌++◌, length, get_or, if◌then◌else◌, refl, sym, ap, ap₂, ◌∙◌, subst, arith, ◌⊎◌, inl, inr, append-nil}
-use Rattle.std.proofs.lemmas.Bool.{eqb-true, eq-eqb}
+use Rattle.std.proofs.Common.{◌≡◌, ℕ, suc, ◌+◌, ◌-◌, ◌<◌, ◌==◌, ◌||◌, nat_lt, Bool, true, false, List, [], ◌∷◌, ◌++◌, length, get_or, if◌then◌else◌, refl, sym, ap, ap₂, ◌∙◌, arith, ◌⊎◌, inl, inr, append-nil}
+use Rattle.std.proofs.lemmas.Bool.{eqb-true}
 use Rattle.std.proofs.lemmas.Bool.Decides.{nat_tests}
-use Rattle.uc_term.specs.Tree.{Tree, var, Trees, none, more, apply}
+use Rattle.uc_term.specs.Tree.{Tree, var, none, more, apply}
 use Rattle.uc_term.specs.Variables.{Occurs, variables, is_among, firsts_after, place_of}
 use Rattle.uc_term.proofs.Terms.{apply-apply, apply-var}
 use Rattle.uc_term.proofs.Agree.{same_if}
@@ -12,7 +12,7 @@ use Rattle.uc_fact.proofs.Occurring.{among, either}
 use Rattle.uc_pair.specs.declared.instances.RenamedApart.{RenamedApart}
 use Rattle.uc_pair.specs.Numbering.{placed_by}
 use Rattle.uc_pair.specs.Overlapping.{shifted, IsBelow}
-use Rattle.uc_pair.specs.Reading.{renamed, renamed_all, sides_apart, sides_renamed, AreApart}
+use Rattle.uc_pair.specs.Reading.{renamed, AreApart}
 use Rattle.uc_pair.proofs.Names.{place_here, place_later}
 use Rattle.uc_pair.proofs.Renaming.{apply-renamed}
 

@@ -1,10 +1,9 @@
 -- How a pair is formed.
-use Rattle.std.proofs.Common.{◌≡◌, ℕ, ◌+◌, ◌<◌, ◌≤◌, List, Bool, [], ◌∷◌, ◌++◌, Option, Some, None, refl, sym, ap, ap₂, ◌∙◌, subst, arith, append_assoc, append-nil, ◌⊎◌, inl, inr}
+use Rattle.std.proofs.Common.{◌≡◌, ℕ, ◌+◌, List, Bool, [], ◌∷◌, ◌++◌, Option, Some, None, refl, sym, ap, ◌∙◌, subst, arith, append_assoc, append-nil, ◌⊎◌, inl, inr}
 use Rattle.uc_term.specs.Tree.{Tree, var, apply, put}
 use Rattle.uc_term.specs.Variables.{variables, firsts, firsts_after, place_of, renumbered_by}
 use Rattle.uc_term.proofs.Firsts.{firsts-append}
 use Rattle.uc_fact.specs.declared.fact.Overlap.{Overlap}
-use Rattle.uc_fact.specs.declared.chain.Chain.{Chain}
 use Rattle.uc_fact.specs.declared.chain.Step.{Step}
 use Rattle.uc_fact.specs.declared.chain.By.TheVariants.{Fact}
 use Rattle.uc_pair.specs.declared.formation.Formation.{Formation}
@@ -13,9 +12,9 @@ use Rattle.uc_pair.specs.declared.instances.RenamedApart.{RenamedApart}
 use Rattle.uc_pair.specs.declared.instances.Placed.{Placed}
 use Rattle.uc_pair.specs.Numbering.{placed_by}
 use Rattle.uc_pair.specs.Overlapping.{IsLarge, IsSmall}
-use Rattle.uc_pair.specs.Judging.{IsInstance, IsReplacedBy, IsReplaced}
+use Rattle.uc_pair.specs.Judging.{IsReplacedBy, IsReplaced}
 use Rattle.uc_pair.specs.Pairs.{names_of, is_left, is_right, chain_by, IsNumbered}
-use Rattle.uc_pair.specs.Forming.{IsPairFrom, IsPairByTerms, IsNumberedPair}
+use Rattle.uc_pair.specs.Forming.{IsPairByTerms, IsNumberedPair}
 use Rattle.uc_pair.proofs.Renaming.{same_everywhere}
 
 no_offset : (names : List ℕ) (t : Tree) → placed_by names 0 t ≡ renumbered_by names t

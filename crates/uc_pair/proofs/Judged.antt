@@ -1,5 +1,5 @@
 -- What a place comes to, from the instances of the renamed sides.
-use Rattle.std.proofs.Common.{◌≡◌, ℕ, ◌+◌, ◌<◌, ◌≤◌, List, [], ◌∷◌, Option, Some, None, refl, sym, ap, ap₂, ◌∙◌, subst, arith, ◌⊎◌, inl, inr}
+use Rattle.std.proofs.Common.{◌≡◌, ℕ, ◌+◌, ◌<◌, ◌≤◌, Option, Some, None, sym, ap, ap₂, ◌∙◌, subst, arith, ◌⊎◌, inl, inr}
 use Rattle.uc_term.specs.Tree.{Tree, var, app, Trees, none, more, nodes, nodes_all, apply, apply_all, subterm, put}
 use Rattle.uc_term.specs.Variables.{IsApp}
 use Rattle.uc_term.proofs.Terms.{nodes_pos}
@@ -8,15 +8,14 @@ use Rattle.uc_order.specs.Laws.{Meaning, Laws}
 use Rattle.uc_fact.specs.Live.{Rule}
 use Rattle.uc_pair.specs.declared.formed.Size.{Size}
 use Rattle.uc_pair.specs.declared.formed.Size.TheVariants.{Weight, Same, Large}
-use Rattle.uc_pair.specs.declared.formed.Formed.{Formed}
 use Rattle.uc_pair.specs.declared.instances.RenamedApart.{RenamedApart}
 use Rattle.uc_pair.specs.declared.instances.Placed.{Placed}
 use Rattle.uc_pair.specs.Fitting.{HasNoFit}
 use Rattle.uc_pair.specs.Overlapping.{shifted, IsBelow, Overlapping, IsApart, peak, left_of, inner_from, inner_to, right_of, IsLarge, IsSmall, IsTooLarge, Fits, HasSize, is_large, is_same, is_weight}
-use Rattle.uc_pair.specs.Listing.{AtMost, GoesUp, by_instances, by_sides, LeadsUp, outer_up, inner_up, NeverDown, IsRepeated, Lists, at_variable, no_unifier, repeats, leads_up, is_listed}
+use Rattle.uc_pair.specs.Listing.{AtMost, by_instances, by_sides, LeadsUp, outer_up, inner_up, NeverDown, IsRepeated, at_variable, no_unifier, repeats, leads_up, is_listed}
 use Rattle.uc_pair.specs.declared.formation.Formation.TheVariants.{TooLarge as NoPair}
 use Rattle.uc_pair.specs.Pairs.{IsFormation, forms_none}
-use Rattle.uc_pair.specs.Reading.{renamed, renamed_all, sides_apart, sides_renamed, AreApart}
+use Rattle.uc_pair.specs.Reading.{renamed, AreApart}
 use Rattle.uc_pair.specs.Judging.{IsInstance, IsReplacedBy, IsReplaced, IsSizeOf, AreAtMost, IsJudged, LeadDown, StaysUp, outer_stays, inner_stays, IsSizeBy, IsJudgedBy}
 use Rattle.uc_pair.proofs.Renaming.{apply-renamed, subterm-renamed, put-renamed, moved, most_general_back, no_unifier_back, Alike, alike}
 use Rattle.uc_pair.proofs.Names.{renamed_nodes}

@@ -1,5 +1,5 @@
 -- The lists of overlaps, place by place and side by side.
-use Rattle.std.proofs.Common.{◌≡◌, ℕ, zero, suc, ◌+◌, ◌<◌, ◌≤◌, List, [], ◌∷◌, ◌++◌, Option, Some, None, refl, sym, ap, ◌∙◌, subst, arith, append_assoc, append-nil, ◌⊎◌, inl, inr}
+use Rattle.std.proofs.Common.{◌≡◌, ℕ, zero, suc, ◌+◌, ◌<◌, ◌≤◌, List, [], ◌∷◌, ◌++◌, Option, Some, None, sym, ap, ◌∙◌, subst, arith, append_assoc, append-nil, ◌⊎◌, inl}
 use Rattle.std.specs.Prelude.{All}
 use Rattle.uc_term.specs.declared.equation.Equation.{Equation}
 use Rattle.uc_term.specs.declared.equation.Side.{Side}
@@ -10,7 +10,7 @@ use Rattle.uc_fact.specs.Live.{Rule}
 use Rattle.uc_pair.specs.declared.formed.Size.{Size}
 use Rattle.uc_pair.specs.declared.formed.Formed.{Formed}
 use Rattle.uc_pair.specs.Fitting.{HasNoFit, FitsNowhere, IsFirstFit}
-use Rattle.uc_pair.specs.Overlapping.{Overlapping, IsBelow, IsFormedOf, read_from}
+use Rattle.uc_pair.specs.Overlapping.{Overlapping, IsFormedOf, read_from}
 use Rattle.uc_pair.specs.Listing.{LeadsUp, NeverDown, Lists, no_more_places, at_variable, no_unifier, repeats, goes_nowhere, leads_up, is_listed, ListsEach, no_rules, next_rules, AreOverlaps}
 use Rattle.uc_pair.specs.Judging.{IsJudged, ListsOn, formed_at}
 use Rattle.uc_pair.specs.Adding.{Adds, AddsAt}

@@ -1,7 +1,6 @@
 -- Places of names in lists.
 use Rattle.std.proofs.Common.{◌≡◌, ℕ, zero, suc, ◌+◌, ◌<◌, ◌≤◌, ◌==◌, ◌||◌, Bool, true, false, List, [], ◌∷◌, ◌++◌, length, take, get_or, if◌then◌else◌, refl, sym, ap, ap₂, ◌∙◌, arith, append_assoc, append-nil, length-append, subst, ◌⊎◌, inl, inr}
 use Rattle.std.proofs.lemmas.Bool.{eqb-true, eq-eqb}
-use Rattle.std.proofs.lemmas.Bool.Decides.{nat_tests}
 use Rattle.std.proofs.lemmas.List.{take_more}
 use Rattle.std.specs.List.{flat_map}
 use Rattle.std.proofs.lemmas.Grind.{flat_map-append}
@@ -11,7 +10,7 @@ use Rattle.uc_term.specs.declared.node.Node.TheVariants.{Var, App}
 use Rattle.uc_term.specs.Tree.{Tree, var, app, Trees, none, more, apply, apply_all, nodes, nodes_all}
 use Rattle.uc_term.specs.Flat.{flat, tree_of, IsWhole}
 use Rattle.uc_term.specs.Variables.{variables, is_among, firsts_after, place_of}
-use Rattle.uc_term.proofs.Firsts.{is_among-append, firsts_after-append, firsts_after-like, or-false}
+use Rattle.uc_term.proofs.Firsts.{is_among-append, firsts_after-append, firsts_after-like}
 use Rattle.uc_term.proofs.NodeVars.{node_vars, node_vars-append, node_vars-flat, node_vars-app}
 use Rattle.uc_term.proofs.Instances.{node_image, instance_list}
 use Rattle.uc_term.specs.Code.{tree_of-flat}

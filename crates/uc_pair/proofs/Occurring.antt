@@ -1,11 +1,11 @@
 -- Which variables occur in a flat list.
-use Rattle.std.proofs.Common.{◌≡◌, ℕ, ◌+◌, ◌<◌, ◌≤◌, ◌==◌, ◌||◌, Bool, true, false, IsTrue, List, [], ◌∷◌, ◌++◌, length, take, drop, get_or, refl, sym, ap, ◌∙◌, subst, arith, ◌⊎◌, inl, inr}
+use Rattle.std.proofs.Common.{◌≡◌, ℕ, ◌+◌, ◌<◌, ◌≤◌, ◌==◌, ◌||◌, Bool, true, false, List, [], ◌∷◌, length, take, drop, get_or, refl, sym, ap, ◌∙◌, ◌⊎◌, inl, inr}
 use Rattle.std.proofs.lemmas.Bool.{eqb-true, eq-eqb}
 use Rattle.std.proofs.lemmas.List.{take_more, take-append-drop}
 use Rattle.uc_term.specs.declared.node.Node.{Node}
 use Rattle.uc_term.specs.declared.node.Node.TheVariants.{Var, App}
 use Rattle.uc_term.specs.Tree.{Tree}
-use Rattle.uc_term.specs.Flat.{flat, tree_of, IsWhole}
+use Rattle.uc_term.specs.Flat.{tree_of, IsWhole}
 use Rattle.uc_term.specs.Variables.{Occurs, variables, is_among}
 use Rattle.uc_term.proofs.Terms.{take_of_length-le}
 use Rattle.uc_term.proofs.Firsts.{is_among-append}

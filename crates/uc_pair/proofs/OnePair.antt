@@ -1,26 +1,23 @@
 -- The pair of an overlap is determined, with its chain.
-use Rattle.std.proofs.Common.{◌≡◌, ℕ, zero, suc, ◌+◌, ◌-◌, ◌<◌, ◌≤◌, List, [], ◌∷◌, ◌++◌, length, take, drop, get_or, refl, sym, ap, ap₂, ◌∙◌, subst, arith, ◌⊎◌, inl, inr, ◌↔◌}
+use Rattle.std.proofs.Common.{◌≡◌, ℕ, ◌+◌, ◌<◌, List, length, take, drop, get_or, refl, sym, ap, ◌∙◌, subst, arith, ◌⊎◌, inl, inr, ◌↔◌}
 use Rattle.std.proofs.lemmas.Grind.{common_steps}
-use Rattle.uc_term.specs.declared.equation.Equation.{Equation}
 use Rattle.uc_term.specs.declared.node.Sym.{Sym}
 use Rattle.uc_term.specs.declared.node.Node.{Node}
 use Rattle.uc_term.specs.declared.node.Node.TheVariants.{Var, App}
-use Rattle.uc_term.specs.Tree.{Tree, var, app, Trees, none, more, nodes, apply, put, subterm}
+use Rattle.uc_term.specs.Tree.{Tree, app, none, nodes, apply, put}
 use Rattle.uc_term.specs.Flat.{flat, tree_of}
 use Rattle.uc_term.specs.Positions.{IsPlaceOf}
 use Rattle.uc_term.specs.Variables.{renumbered_by}
 use Rattle.uc_term.proofs.Terms.{length-flat}
 use Rattle.uc_term.proofs.Put.{flat-put}
-use Rattle.uc_fact.specs.declared.fact.Overlap.{Overlap}
 use Rattle.uc_fact.specs.declared.chain.Chain.{Chain}
 use Rattle.uc_fact.specs.Live.{Rule}
 use Rattle.uc_pair.specs.declared.formed.Size.{Size}
-use Rattle.uc_pair.specs.declared.formed.Size.TheVariants.{Weight, Same, Large}
-use Rattle.uc_pair.specs.declared.formed.Formed.{Formed}
+use Rattle.uc_pair.specs.declared.formed.Size.TheVariants.{Large}
 use Rattle.uc_pair.specs.declared.formation.Formation.{Formation}
 use Rattle.uc_pair.specs.declared.formation.Formation.TheVariants.{Pair, TooLarge}
-use Rattle.uc_pair.specs.Overlapping.{shifted, Overlapping, peak, left_of, inner_to, right_of, IsTooLarge, Fits, HasSize, is_large, is_same, is_weight, IsFormedOf, overlap_at, read_from}
-use Rattle.uc_pair.specs.Pairs.{names_of, chain_by, IsNumbered, IsPairBy, IsFormation, forms_none, forms_pair, IsPairOf}
+use Rattle.uc_pair.specs.Overlapping.{Overlapping, peak, left_of, right_of, IsTooLarge, HasSize, is_large, is_same, is_weight, overlap_at}
+use Rattle.uc_pair.specs.Pairs.{names_of, chain_by, IsPairBy, IsFormation, forms_none, forms_pair}
 use Rattle.uc_pair.proofs.Renaming.{Alike}
 use Rattle.uc_pair.proofs.Judged.{large_alike, terms_of}
 use Rattle.uc_pair.proofs.Replacing.{put_instance}

@@ -1,27 +1,27 @@
 -- The pair of the renamed sides is the overlap's.
-use Rattle.std.proofs.Common.{◌≡◌, ℕ, ◌+◌, ◌-◌, ◌<◌, ◌≤◌, zero, suc, ◌==◌, nat_lt, Bool, Some, true, false, List, [], ◌∷◌, if◌then◌else◌, refl, sym, ap, ap₂, ◌∙◌, subst, arith, ◌⊎◌, inl, inr}
-use Rattle.std.proofs.lemmas.Bool.{eqb-true, eq-eqb}
+use Rattle.std.proofs.Common.{◌≡◌, ℕ, ◌+◌, ◌-◌, ◌<◌, zero, suc, ◌==◌, nat_lt, Some, true, false, List, if◌then◌else◌, refl, sym, ap, ap₂, ◌∙◌, subst, arith, inl, inr}
+use Rattle.std.proofs.lemmas.Bool.{eq-eqb}
 use Rattle.std.proofs.lemmas.Bool.Decides.{nat_tests}
 use Rattle.uc_term.specs.declared.equation.Equation.{Equation}
-use Rattle.uc_term.specs.Tree.{Tree, var, app, Trees, none, more, nodes, nodes_all, apply, apply_all, subterm, put, put_all}
+use Rattle.uc_term.specs.Tree.{Tree, var, app, Trees, none, more, nodes, apply, apply_all, subterm, put, put_all}
 use Rattle.uc_term.specs.Path.{at_position, put_position}
 use Rattle.uc_term.specs.Positions.{IsPlaceOf}
-use Rattle.uc_term.specs.Variables.{Occurs, is_itself, in_args, OccursIn, in_first, in_later, IsApp, renumbered_by, place_of}
+use Rattle.uc_term.specs.Variables.{Occurs, in_args, OccursIn, in_first, in_later, IsApp, renumbered_by, place_of}
 use Rattle.uc_term.proofs.Terms.{apply-apply, apply-var, nodes_pos}
 use Rattle.uc_term.proofs.Agree.{same_if, all_same_if}
-use Rattle.uc_unify.specs.Unifiers.{IsMostGeneral, HasNoUnifier}
+use Rattle.uc_unify.specs.Unifiers.{IsMostGeneral}
 use Rattle.uc_fact.specs.declared.fact.Overlap.{Overlap}
 use Rattle.uc_fact.specs.declared.chain.Chain.{Chain}
 use Rattle.uc_fact.specs.Live.{Rule}
 use Rattle.uc_pair.specs.declared.formation.Formation.{Formation}
 use Rattle.uc_pair.specs.declared.formation.Formation.TheVariants.{Pair, TooLarge}
 use Rattle.uc_pair.specs.declared.instances.RenamedApart.{RenamedApart}
-use Rattle.uc_pair.specs.Overlapping.{shifted, IsBelow, Overlapping, IsApart, peak, left_of, inner_from, inner_to, right_of, IsLarge, IsSmall, IsTooLarge, Fits, overlap_at, read_from}
-use Rattle.uc_pair.specs.Pairs.{IsFormation, forms_none, forms_pair, IsPairBy, IsPairOf, ReplaysPair, IsNumbered, Replaces, Replays, names_of, chain_by}
-use Rattle.uc_pair.specs.Forming.{IsPairFrom, IsPairByTerms}
+use Rattle.uc_pair.specs.Overlapping.{shifted, Overlapping, IsApart, peak, left_of, inner_from, inner_to, right_of, overlap_at, read_from}
+use Rattle.uc_pair.specs.Pairs.{IsFormation, forms_none, forms_pair, IsPairBy, IsPairOf, ReplaysPair, Replaces, Replays, names_of}
+use Rattle.uc_pair.specs.Forming.{IsPairByTerms}
 use Rattle.uc_pair.specs.Reading.{renamed, renamed_all, AreApart}
 use Rattle.uc_pair.proofs.Renaming.{apply-renamed, subterm-renamed, put-renamed, unifier_there, Alike, alike}
-use Rattle.uc_pair.proofs.Judged.{five, AlikeTwo, first_two, left_and_right, large_alike, fits_alike, terms_of, overlap_by, overlap_alike, apart_back}
+use Rattle.uc_pair.proofs.Judged.{five, AlikeTwo, first_two, left_and_right, large_alike, fits_alike, terms_of, overlap_by, overlap_alike}
 use Rattle.uc_pair.proofs.Replacing.{at_position-apply, apply-put_position, put_instance, put_here, put_later, where_is}
 use Rattle.uc_pair.proofs.Renumbering.{numbered_alike, is_renamed}
 use Rattle.uc_pair.proofs.Names.{renamed_nodes}

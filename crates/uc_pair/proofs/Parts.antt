@@ -1,5 +1,5 @@
 -- Parts of flat lists, and what stands there.
-use Rattle.std.proofs.Common.{◌≡◌, ℕ, ◌+◌, ◌-◌, ◌<◌, List, ◌∷◌, take, drop, get_or, length, true, false, IsTrue, refl, sym, ap, ◌∙◌, subst, arith, inl, inr}
+use Rattle.std.proofs.Common.{◌≡◌, ℕ, ◌+◌, ◌-◌, ◌<◌, List, ◌∷◌, take, drop, get_or, length, refl, sym, ap, ◌∙◌, subst, arith, inr}
 use Rattle.uc_term.specs.declared.node.Sym.{Sym}
 use Rattle.uc_term.specs.declared.node.Node.{Node}
 use Rattle.uc_term.specs.declared.node.Node.TheVariants.{Var, App}
@@ -7,7 +7,7 @@ use Rattle.uc_term.specs.Tree.{Tree, var, nodes, subterm}
 use Rattle.uc_term.specs.Flat.{flat, tree_of, IsWhole}
 use Rattle.uc_term.specs.Code.{tree_of-flat}
 use Rattle.uc_term.specs.Variables.{IsApp}
-use Rattle.uc_term.proofs.Terms.{whole-flat, length-flat, nodes_whole}
+use Rattle.uc_term.proofs.Terms.{whole-flat, nodes_whole}
 use Rattle.uc_term.proofs.Ahead.{drop-at, at_place, subterm_of-drop}
 use Rattle.uc_unify.specs.Unifiers.{IsUnified}
 use Rattle.uc_unify.specs.declared.unification.Unified.{Unified}

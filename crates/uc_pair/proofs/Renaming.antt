@@ -1,12 +1,10 @@
 -- Terms with their variables renamed, and their most general unifiers.
-use Rattle.std.proofs.Common.{◌≡◌, ℕ, zero, suc, ◌+◌, ◌-◌, ◌<◌, ◌≤◌, ◌==◌, nat_lt, Bool, true, false, List, [], ◌∷◌, ◌++◌, map, get_or, if◌then◌else◌, refl, sym, ap, ap₂, ◌∙◌, subst, arith, ◌⊎◌, inl, inr}
+use Rattle.std.proofs.Common.{◌≡◌, ℕ, zero, suc, ◌-◌, ◌==◌, Bool, true, false, ◌∷◌, ◌++◌, map, get_or, if◌then◌else◌, refl, sym, ap, ap₂, ◌∙◌, arith, inl, inr}
 use Rattle.std.proofs.lemmas.Bool.{eqb-true, eq-eqb}
-use Rattle.std.proofs.lemmas.Bool.Decides.{nat_tests}
 use Rattle.std.proofs.Math.ListN.{get_or-map}
 use Rattle.std.proofs.lemmas.List.{map-append}
-use Rattle.uc_term.specs.declared.node.Sym.{Sym}
-use Rattle.uc_term.specs.Tree.{Tree, var, app, Trees, none, more, nodes, nodes_all, apply, apply_all, subterms, subterms_all, subterm, put, put_all}
-use Rattle.uc_term.specs.Variables.{Occurs, is_itself, in_args, OccursIn, in_first, in_later}
+use Rattle.uc_term.specs.Tree.{Tree, var, app, Trees, none, more, nodes, apply, apply_all, subterms, subterms_all, subterm, put, put_all}
+use Rattle.uc_term.specs.Variables.{Occurs}
 use Rattle.uc_term.proofs.Terms.{apply-apply, apply_all-apply_all, apply-var}
 use Rattle.uc_term.proofs.Agree.{agree_at, same_if}
 use Rattle.uc_unify.specs.Unifiers.{IsMostGeneral, HasNoUnifier}

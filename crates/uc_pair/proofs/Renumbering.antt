@@ -1,9 +1,8 @@
 -- Terms that are instances of one another are equal once their variables are numbered by first occurrence.
-use Rattle.std.proofs.Common.{◌≡◌, ℕ, zero, suc, ◌+◌, ◌==◌, ◌||◌, Bool, true, false, List, [], ◌∷◌, ◌++◌, map, if◌then◌else◌, refl, sym, ap, ap₂, ◌∙◌, subst, arith, ◌⊎◌, inl, inr}
+use Rattle.std.proofs.Common.{◌≡◌, ℕ, ◌+◌, ◌==◌, ◌||◌, Bool, true, false, List, [], ◌∷◌, ◌++◌, map, if◌then◌else◌, refl, sym, ap, ap₂, ◌∙◌, ◌⊎◌, inl, inr}
 use Rattle.std.proofs.lemmas.Bool.{eqb-true, eq-eqb}
 use Rattle.std.proofs.lemmas.List.{map-append}
-use Rattle.uc_term.specs.declared.node.Sym.{Sym}
-use Rattle.uc_term.specs.Tree.{Tree, var, app, Trees, none, more, apply, apply_all}
+use Rattle.uc_term.specs.Tree.{Tree, var, app, Trees, none, more, apply}
 use Rattle.uc_term.specs.Variables.{Occurs, variables, variables_all, is_among, firsts_after, firsts, place_of, renumbered_by}
 use Rattle.uc_term.proofs.Terms.{apply-apply, apply-var}
 use Rattle.uc_term.proofs.Agree.{agree_at, same_if}

@@ -1,17 +1,16 @@
 -- Replacing a subterm of an instance, and how large it comes.
-use Rattle.std.proofs.Common.{◌≡◌, ℕ, zero, suc, ◌+◌, ◌-◌, ◌<◌, ◌≤◌, nat_lt, Bool, true, false, List, [], ◌∷◌, ◌++◌, length, get_or, Option, Some, None, option_and_then, if◌then◌else◌, refl, sym, ap, ap₂, ◌∙◌, subst, arith, ◌⊎◌, inl, inr}
+use Rattle.std.proofs.Common.{◌≡◌, ℕ, zero, suc, ◌-◌, ◌<◌, ◌≤◌, nat_lt, true, false, List, [], ◌∷◌, get_or, Option, Some, None, option_and_then, refl, sym, ap, ◌∙◌, subst, arith, ◌⊎◌, inl, inr}
 use Rattle.std.proofs.lemmas.Bool.Decides.{nat_tests}
 use Rattle.std.proofs.Math.Seq.{get_or-append_right}
 use Rattle.std.proofs.Math.ListN.{get_or-append}
-use Rattle.uc_term.specs.declared.node.Sym.{Sym}
 use Rattle.uc_term.specs.Tree.{Tree, var, app, Trees, none, more, nodes, nodes_all, apply, apply_all, subterms, subterms_all, subterm, put, put_all}
-use Rattle.uc_term.specs.Path.{nth, argument, change, change_argument, at, put_at, at_position, put_position, written_argument}
+use Rattle.uc_term.specs.Path.{argument, change, at, put_at, at_position, put_position}
 use Rattle.uc_term.specs.Positions.{IsPlaceOf}
-use Rattle.uc_term.proofs.Terms.{length-subterms, nodes_pos}
+use Rattle.uc_term.proofs.Terms.{length-subterms}
 use Rattle.uc_term.proofs.Paths.{at-apply, apply-put}
 use Rattle.uc_pair.specs.declared.instances.Placed.{Placed}
 use Rattle.uc_pair.specs.Overlapping.{IsLarge, IsSmall}
-use Rattle.uc_pair.specs.Judging.{IsInstance, IsPut, IsReplacedBy, IsReplaced}
+use Rattle.uc_pair.specs.Judging.{IsInstance, IsPut, IsReplaced}
 
 -- the numbers of a written position are counted from 1
 abbrev IsWritten : List ℕ → Type 0

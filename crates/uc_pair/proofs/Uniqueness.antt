@@ -1,7 +1,6 @@
 -- The overlaps of two facts, their sizes and their pairs are determined.
-use Rattle.std.proofs.Common.{◌≡◌, ℕ, zero, suc, ◌+◌, ◌-◌, ◌<◌, ◌≤◌, nat_lt, true, false, List, [], ◌∷◌, ◌++◌, get_or, if◌then◌else◌, refl, sym, ap, ap₂, ◌∙◌, subst, arith, ◌⊎◌, inl, inr, ◌↔◌}
+use Rattle.std.proofs.Common.{◌≡◌, ℕ, zero, suc, ◌+◌, ◌-◌, ◌<◌, ◌≤◌, nat_lt, true, false, List, [], ◌∷◌, ◌++◌, get_or, if◌then◌else◌, refl, sym, ap, ap₂, ◌∙◌, subst, arith, ◌⊎◌, inl, inr}
 use Rattle.std.proofs.lemmas.Bool.Decides.{nat_tests}
-use Rattle.uc_term.specs.declared.equation.Equation.{Equation}
 use Rattle.uc_term.specs.Tree.{Tree, var, app, Trees, none, more, nodes, nodes_all, apply, subterms, subterms_all, subterm}
 use Rattle.uc_term.specs.Variables.{Occurs, in_args, OccursIn, in_first, in_later, IsApp}
 use Rattle.uc_term.proofs.Terms.{apply-apply, length-subterms}
@@ -9,14 +8,14 @@ use Rattle.uc_term.proofs.Agree.{same_if}
 use Rattle.uc_order.specs.Laws.{Meaning, Laws}
 use Rattle.uc_fact.specs.Live.{Rule}
 use Rattle.uc_pair.specs.declared.formed.Size.{Size}
-use Rattle.uc_pair.specs.declared.formed.Size.TheVariants.{Weight, Same, Large}
+use Rattle.uc_pair.specs.declared.formed.Size.TheVariants.{Weight, Same}
 use Rattle.uc_pair.specs.declared.formed.Formed.{Formed}
-use Rattle.uc_pair.specs.Overlapping.{shifted, IsBelow, Overlapping, IsApart, peak, left_of, inner_from, inner_to, right_of, IsLarge, IsSmall, IsTooLarge, Fits, HasSize, is_large, is_same, is_weight}
-use Rattle.uc_pair.specs.Listing.{AtMost, GoesUp, by_instances, by_sides, LeadsUp, outer_up, inner_up, NeverDown, IsRepeated, Lists, no_more_places, at_variable, no_unifier, repeats, goes_nowhere, leads_up, is_listed, ListsEach, no_rules, next_rules, AreOverlaps}
+use Rattle.uc_pair.specs.Overlapping.{shifted, Overlapping, IsApart, peak, left_of, inner_from, inner_to, right_of, IsLarge, IsSmall, IsTooLarge, Fits, HasSize, is_large, is_same, is_weight}
+use Rattle.uc_pair.specs.Listing.{AtMost, GoesUp, by_instances, by_sides, LeadsUp, outer_up, inner_up, NeverDown, IsRepeated, Lists, no_more_places, at_variable, no_unifier, repeats, goes_nowhere, leads_up, is_listed, ListsEach, no_rules, next_rules}
 use Rattle.uc_pair.specs.Peaks.{LeadsDownTwice}
-use Rattle.uc_pair.specs.Judging.{IsSizeBy, formed_at}
-use Rattle.uc_pair.proofs.Renaming.{Alike, apply-renamed}
-use Rattle.uc_pair.proofs.Judged.{AlikeTwo, first_two, next_two, alike_back, alike_swap, alike_at_most, small_back, large_back, large_alike, size_alike, terms_of}
+use Rattle.uc_pair.specs.Judging.{formed_at}
+use Rattle.uc_pair.proofs.Renaming.{apply-renamed}
+use Rattle.uc_pair.proofs.Judged.{AlikeTwo, first_two, next_two, alike_back, alike_swap, alike_at_most, small_back, large_back, large_alike, size_alike}
 use Rattle.uc_unify.specs.Unifiers.{IsMostGeneral}
 use Rattle.std.proofs.Math.Seq.{get_or-append_right}
 use Rattle.std.proofs.Math.ListN.{get_or-append}

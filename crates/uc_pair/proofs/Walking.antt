@@ -3,11 +3,11 @@ use Rattle.std.proofs.Common.{◌≡◌, ℕ, ◌+◌, ◌<◌, ◌≤◌, ◌-�
 use Rattle.uc_term.specs.declared.node.Sym.{Sym}
 use Rattle.uc_term.specs.declared.node.Node.{Node}
 use Rattle.uc_term.specs.declared.node.Node.TheVariants.{Var, App}
-use Rattle.uc_term.specs.Tree.{Tree, var, app, Trees, none, more, count, nodes, apply, apply_all}
+use Rattle.uc_term.specs.Tree.{Tree, var, app, Trees, none, more, count, nodes, apply_all}
 use Rattle.uc_term.specs.Flat.{trees_of, tree_of, IsWhole}
-use Rattle.uc_term.proofs.Terms.{whole_one, nodes_pos}
+use Rattle.uc_term.proofs.Terms.{whole_one}
 use Rattle.uc_term.proofs.Ahead.{join, count-join}
-use Rattle.uc_term.proofs.Joins.{apply_all-join, count-apply_all, join_cancel, opened_at, var_at, place_within, trees_of-whole}
+use Rattle.uc_term.proofs.Joins.{apply_all-join, count-apply_all, opened_at, var_at, place_within, trees_of-whole}
 use Rattle.uc_term.proofs.Parts.{split}
 use Rattle.uc_pair.specs.Fitting.{NeverMeet, MeetAhead, MeetFrom, WalksOn}
 

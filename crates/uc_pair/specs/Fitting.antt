@@ -1,5 +1,5 @@
 -- When two terms may unify.
-use Rattle.std.specs.Prelude.{ℕ, ◌≡◌, ◌+◌, ◌<◌, ◌≤◌, ◌⊎◌, List, drop, length}
+use Rattle.std.specs.Prelude.{ℕ, ◌≡◌, ◌<◌, ◌≤◌, ◌⊎◌, List, drop, length}
 use Rattle.uc_term.specs.declared.node.Node.{Node}
 use Rattle.uc_term.specs.Tree.{Tree, Trees, count, apply, apply_all, nodes, subterm}
 use Rattle.uc_term.specs.Flat.{tree_of, trees_of}

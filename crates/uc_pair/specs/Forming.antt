@@ -1,5 +1,5 @@
 -- The pair that the instances of renamed sides by a unifier make.
-use Rattle.std.specs.Prelude.{ℕ, ◌≡◌, ◌⊎◌, List}
+use Rattle.std.specs.Prelude.{ℕ, ◌⊎◌, List}
 use Rattle.uc_term.specs.Tree.{Tree, apply, put}
 use Rattle.uc_term.specs.Positions.{IsPlaceOf}
 use Rattle.uc_fact.specs.declared.fact.Overlap.{Overlap}

@@ -1,5 +1,5 @@
 -- Rules as they are read, and the sides of an outer and an inner rule with their variables renamed apart.
-use Rattle.std.specs.Prelude.{ℕ, ◌≡◌, ◌+◌}
+use Rattle.std.specs.Prelude.{ℕ, ◌≡◌}
 use Rattle.uc_term.specs.Tree.{Tree, var, Trees, none, more, apply, apply_all}
 use Rattle.uc_fact.specs.Live.{Rule}
 use Rattle.uc_pair.specs.declared.reading.Read.{Read}

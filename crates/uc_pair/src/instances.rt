@@ -1,6 +1,6 @@
 //! Two rules whose variables are renamed apart, and their instances by a unifier.
 
-ghost use Rattle.std.specs.Prelude.{◌≡◌, ◌<◌, ℕ, IfOk};
+ghost use Rattle.std.specs.Prelude.{◌≡◌, ◌<◌, ◌≤◌, ℕ, IfOk, IsTrue, false};
 ghost use Rattle.uc_term.specs.Tree.{Tree, nodes};
 ghost use Rattle.uc_term.specs.Subst.{image};
 ghost use Rattle.uc_pair.specs.Reading.{rule_read, AreApart};
@@ -53,10 +53,18 @@ pub(crate) fn instance_of(
     ensures { IfOk result (IsInstance (image subst.now) term.now) }
 {
     let nodes = term.as_nodes();
-    if instance_size(nodes, subst) > MAX_NODES {
+    if is_too_large(instance_size(nodes, subst)) {
         return Ok(None);
     }
     Ok(Some(Term::from_nodes(instance(alloc, nodes, subst)?)))
+}
+
+/// Whether no term has so many nodes.
+fn is_too_large(size: usize) -> bool
+    ensures large { IsTrue result → MAX_NODES < size }
+    ensures small { result ≡ false → size ≤ MAX_NODES }
+{
+    size > MAX_NODES
 }
 
 /// An instance with one of its subterms replaced, and that subterm's place.

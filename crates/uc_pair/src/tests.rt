@@ -302,15 +302,31 @@ fn a_unifier_may_be_too_large(rt: HostRuntime) -> Result<(), Fail> {
         left: wide(g, false)?,
         right: term(g, b"b")?,
     };
-    let order = order(g)?;
-    assert_eq!(rt; overlaps(g, 0, &a, 1, &b, &order)?.len(), 0);
-    let list = overlaps(g, 1, &b, 0, &a, &order)?;
-    assert_eq!(rt; list.len(), 1);
-    for formed in list.as_slice() {
-        assert!(rt; formed.size == Size::Large);
-        assert!(rt; is_large(g, &b, &a, formed)?);
-    }
+    assert!(rt; are_overlaps(g, &a, &b, 2, &[])?);
+    assert!(rt; has_one_large_overlap(g, &b, &a)?);
     Ok(())
+}
+
+// Whether an equation has one overlap with another one before it, which is too large.
+fn has_one_large_overlap(alloc: Global, a: &Equation, b: &Equation) -> Result<bool, Fail> {
+    let order = order(alloc)?;
+    let list = overlaps(alloc, 1, a, 0, b, &order)?;
+    if list.len() != 1 {
+        return Ok(false);
+    }
+    are_large(alloc, a, b, list.as_slice())
+}
+
+// Whether all the overlaps are too large.
+fn are_large(alloc: Global, a: &Equation, b: &Equation, list: &[Formed]) -> Result<bool, Fail>
+    requires { All (IsFormedOf a.now b.now) list.now }
+{
+    for i in 0..list.len() {
+        if list[i].size != Size::Large || !is_large(alloc, a, b, &list[i])? {
+            return Ok(false);
+        }
+    }
+    Ok(true)
 }
 
 fn is_large(alloc: Global, a: &Equation, b: &Equation, formed: &Formed) -> Result<bool, Fail>

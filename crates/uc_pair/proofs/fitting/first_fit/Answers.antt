@@ -1,4 +1,4 @@
-use Rattle.std.proofs.Common.{arith, length, sym, ap, ◌∙◌}
+use Rattle.std.proofs.Common.{arith, ap}
 use Rattle.uc_term.specs.Tree.{nodes}
 use Rattle.uc_term.proofs.Terms.{nodes_whole}
 use Rattle.uc_pair.proofs.fitting.first_fit.Goals as goal

@@ -1,4 +1,4 @@
-use Rattle.std.proofs.Common.{◌≡◌, arith, inl, refl}
+use Rattle.std.proofs.Common.{inl}
 use Rattle.uc_term.proofs.Terms.{whole_one}
 use Rattle.uc_pair.proofs.Parts.{part_whole, symbol_at, no_symbol_at, no_fit}
 use Rattle.uc_pair.proofs.fitting.fits_at.Goals as goal

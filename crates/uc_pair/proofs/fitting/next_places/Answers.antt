@@ -1,4 +1,4 @@
-use Rattle.std.proofs.Common.{◌≡◌, Bool, true, false, IsTrue, refl}
+use Rattle.std.proofs.Common.{◌≡◌, Bool, true, false, IsTrue}
 use Rattle.uc_term.proofs.Terms.{whole_one}
 use Rattle.uc_pair.proofs.Walking.{within, at_var, at_other_var, at_head, at_clash}
 use Rattle.uc_pair.proofs.fitting.next_places.Goals as goal

@@ -1,4 +1,4 @@
-use Rattle.std.proofs.Common.{arith, sym, ◌∙◌}
+use Rattle.std.proofs.Common.{arith}
 use Rattle.uc_pair.specs.Reading.{rule_read}
 use Rattle.uc_pair.proofs.Apart.{are_apart}
 use Rattle.uc_pair.proofs.instances.rename_apart.Goals as goal

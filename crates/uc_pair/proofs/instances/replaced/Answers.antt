@@ -1,9 +1,6 @@
-use Rattle.std.proofs.Common.{◌≡◌, ℕ, List, Result, Ok, Err, Option, Some, None, IfOk, refl, sym, ap, ◌∙◌, subst, inl}
-use Rattle.uc_term.specs.Tree.{Tree}
+use Rattle.std.proofs.Common.{Result, Ok, Err, IfOk, sym, ap, ◌∙◌, subst}
 use Rattle.uc_term.specs.Path.{at_position}
 use Rattle.uc_term.specs.Positions.{IsPlaceOf}
-use Rattle.uc_pair.specs.declared.instances.Placed.{Placed}
-use Rattle.uc_pair.specs.Judging.{IsInstance, IsReplaced}
 use Rattle.uc_pair.proofs.Replacing.{part_is_large, is_replaced, no_such_position, instance_there, instance_gone, instance_small}
 use Rattle.uc_pair.proofs.instances.replaced.Goals as goal
 

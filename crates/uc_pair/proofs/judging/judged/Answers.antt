@@ -1,6 +1,6 @@
-use Rattle.std.proofs.Common.{◌≡◌, Bool, true, false, IsTrue, Option, Some, None, arith, inl, inr, subst}
+use Rattle.std.proofs.Common.{◌≡◌, Bool, true, false, IsTrue, subst}
 use Rattle.uc_term.specs.Subst.{image}
-use Rattle.uc_pair.specs.Judging.{LeadDown, IsReplaced}
+use Rattle.uc_pair.specs.Judging.{IsReplaced}
 use Rattle.uc_pair.proofs.Judged.{not_at_most, size_by, size_none}
 use Rattle.uc_pair.proofs.judging.judged.Goals as goal
 

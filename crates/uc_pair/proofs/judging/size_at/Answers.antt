@@ -1,4 +1,4 @@
-use Rattle.std.proofs.Common.{◌≡◌, ℕ, ◌+◌, ◌-◌, ◌<◌, List, take, drop, length, Bool, true, false, IsTrue, Result, Ok, Err, Option, Some, None, IfOk, refl, sym, ap, ◌∙◌, arith, subst}
+use Rattle.std.proofs.Common.{◌≡◌, ℕ, ◌+◌, ◌-◌, ◌<◌, List, take, drop, length, Bool, true, false, IsTrue, Result, Ok, Err, IfOk, arith, subst}
 use Rattle.uc_term.specs.declared.node.Node.{Node}
 use Rattle.uc_term.specs.Tree.{Tree, nodes, subterm}
 use Rattle.uc_term.specs.Flat.{tree_of, IsWhole}
@@ -11,7 +11,6 @@ use Rattle.uc_unify.specs.Unifiers.{IsUnified}
 use Rattle.uc_fact.specs.Live.{Rule}
 use Rattle.uc_pair.specs.declared.instances.RenamedApart.{RenamedApart}
 use Rattle.uc_pair.specs.Fitting.{HasNoFit}
-use Rattle.uc_pair.specs.Listing.{IsRepeated}
 use Rattle.uc_pair.specs.Reading.{rule_read, AreApart}
 use Rattle.uc_pair.specs.Judging.{IsJudged, IsJudgedBy}
 use Rattle.uc_pair.proofs.Parts.{part_whole, part_of, within_list, unified_is}

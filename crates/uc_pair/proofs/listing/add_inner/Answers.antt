@@ -1,4 +1,4 @@
-use Rattle.std.proofs.Common.{◌≡◌, arith, inr}
+use Rattle.std.proofs.Common.{arith, inr}
 use Rattle.uc_pair.specs.Reading.{rule_read}
 use Rattle.uc_pair.specs.Listing.{Lists}
 use Rattle.uc_pair.proofs.Listed.{adds_none, none_listed, nowhere_listed, listing_starts, listing_goes_on, listing_ends}

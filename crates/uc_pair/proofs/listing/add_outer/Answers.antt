@@ -1,7 +1,6 @@
-use Rattle.std.proofs.Common.{◌≡◌, ℕ, List, Result, Ok, Err, OnOk, arith, subst}
+use Rattle.std.proofs.Common.{Result, Ok, Err, OnOk, subst}
 use Rattle.uc_term.specs.declared.equation.Side.TheVariants.{Left, Right}
 use Rattle.uc_fact.specs.Live.{Rule}
-use Rattle.uc_pair.specs.declared.formed.Formed.{Formed}
 use Rattle.uc_pair.specs.Overlapping.{read_from}
 use Rattle.uc_pair.specs.Listing.{Lists}
 use Rattle.uc_pair.specs.Reading.{rule_read}

@@ -1,6 +1,4 @@
-use Rattle.std.proofs.Common.{◌≡◌, ◌∙◌, sym, subst}
-use Rattle.std.specs.Prelude.{All}
-use Rattle.uc_pair.specs.Overlapping.{IsFormedOf}
+use Rattle.std.proofs.Common.{sym, subst}
 use Rattle.uc_pair.specs.Listing.{AreOverlaps}
 use Rattle.uc_pair.specs.Reading.{rule_read}
 use Rattle.uc_pair.proofs.Listed.{are_overlaps, all_are_formed}

@@ -1,6 +1,5 @@
-use Rattle.std.proofs.Common.{◌≡◌, get_or, arith, refl, sym, ◌∙◌, subst}
+use Rattle.std.proofs.Common.{◌≡◌, get_or, arith}
 use Rattle.std.proofs.lemmas.Grind.{common_steps}
-use Rattle.uc_pair.specs.Numbering.{IsNameAt}
 use Rattle.uc_pair.proofs.Names.{is_name_known, is_name_behind, not_among_more}
 use Rattle.uc_pair.proofs.numbering.name_place.Goals as goal
 

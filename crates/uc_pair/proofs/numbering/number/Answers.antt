@@ -1,5 +1,4 @@
-use Rattle.std.proofs.Common.{◌≡◌, ℕ, ◌+◌, arith, List, refl, sym, ◌∙◌, subst, ap}
-use Rattle.std.proofs.lemmas.Grind.{common_steps}
+use Rattle.std.proofs.Common.{◌+◌, arith, sym, ◌∙◌, subst}
 use Rattle.uc_pair.proofs.Names.{Numbered, numbered_starts, numbered_goes_on, numbered_names, numbered_tree, numbered_whole, numbered_length}
 use Rattle.uc_pair.proofs.numbering.number.Goals as goal
 

@@ -1,6 +1,5 @@
-use Rattle.std.proofs.Common.{◌≡◌, refl, sym, ◌∙◌, ap, ap₂}
 use Rattle.uc_term.specs.Variables.{renumbered_by}
-use Rattle.uc_pair.specs.Pairs.{names_of, IsNumbered}
+use Rattle.uc_pair.specs.Pairs.{names_of}
 use Rattle.uc_pair.proofs.Forming.{left_numbered, right_numbered, top_numbered, two_steps}
 use Rattle.uc_pair.proofs.pairing.numbered.Goals as goal
 

@@ -1,4 +1,4 @@
-use Rattle.std.proofs.Common.{◌≡◌, Result, Ok, Err, IfOk, Option, Some, None, arith, subst}
+use Rattle.std.proofs.Common.{Result, Ok, Err, IfOk, subst}
 use Rattle.uc_term.specs.Subst.{image}
 use Rattle.uc_pair.specs.Judging.{IsReplaced}
 use Rattle.uc_pair.specs.Forming.{IsPairByTerms, IsNumberedPair}

@@ -1,19 +1,15 @@
-use Rattle.std.proofs.Common.{◌≡◌, ℕ, ◌+◌, ◌-◌, ◌<◌, List, take, drop, length, Result, Ok, Err, IfOk, refl, sym, ap, ap₂, ◌∙◌, arith, subst}
+use Rattle.std.proofs.Common.{◌≡◌, ℕ, ◌+◌, ◌-◌, ◌<◌, List, take, drop, length, Result, Ok, Err, IfOk, arith, subst}
 use Rattle.uc_term.specs.declared.node.Node.{Node}
-use Rattle.uc_term.specs.declared.equation.Equation.{Equation}
-use Rattle.uc_term.specs.Tree.{Tree, nodes, subterm}
+use Rattle.uc_term.specs.Tree.{nodes, subterm}
 use Rattle.uc_term.specs.Flat.{tree_of, IsWhole}
 use Rattle.uc_term.specs.Subst.{image}
 use Rattle.uc_term.proofs.Terms.{whole_one}
 use Rattle.uc_unify.specs.declared.unification.Unified.{Unified}
 use Rattle.uc_unify.specs.declared.unification.Unified.TheVariants.{Unifier, Apart, TooLarge}
-use Rattle.uc_unify.specs.Unifiers.{IsUnified, IsTooLarge, HasNoUnifier}
-use Rattle.uc_fact.specs.declared.fact.Overlap.{Overlap}
+use Rattle.uc_unify.specs.Unifiers.{IsUnified, HasNoUnifier}
 use Rattle.uc_fact.specs.Live.{Rule}
-use Rattle.uc_pair.specs.declared.formation.Formation.{Formation}
-use Rattle.uc_pair.specs.declared.formation.Formation.TheVariants.{TooLarge as NoPair}
 use Rattle.uc_pair.specs.declared.instances.RenamedApart.{RenamedApart}
-use Rattle.uc_pair.specs.Overlapping.{Overlapping, IsOverlapOf, read_from}
+use Rattle.uc_pair.specs.Overlapping.{Overlapping, read_from}
 use Rattle.uc_pair.specs.Pairs.{IsPairOf, ReplaysPair}
 use Rattle.uc_pair.specs.Reading.{rule_read, AreApart}
 use Rattle.uc_pair.specs.Forming.{IsPairByTerms}
