@@ -17,7 +17,8 @@ use Rattle.uc_pair.specs.declared.formation.Formation.{Formation}
 use Rattle.uc_pair.specs.declared.formation.Formation.TheVariants.{Pair, TooLarge}
 use Rattle.uc_pair.specs.declared.instances.RenamedApart.{RenamedApart}
 use Rattle.uc_pair.specs.Overlapping.{shifted, Overlapping, IsApart, peak, left_of, inner_from, inner_to, right_of, overlap_at, read_from}
-use Rattle.uc_pair.specs.Pairs.{IsFormation, forms_none, forms_pair, IsPairBy, IsPairOf, ReplaysPair, Replaces, Replays, names_of}
+use Rattle.uc_pair.specs.Pairs.{IsFormation, forms_none, forms_pair, IsPairBy, IsPairOf, ReplaysPair, Replays, names_of}
+use Rattle.uc_fact.specs.Chains.{ReplacesAt}
 use Rattle.uc_pair.specs.Forming.{IsPairByTerms}
 use Rattle.uc_pair.specs.Reading.{renamed, renamed_all, AreApart}
 use Rattle.uc_pair.proofs.Renaming.{apply-renamed, subterm-renamed, put-renamed, unifier_there, Alike, alike}
@@ -186,7 +187,7 @@ module _ (outer inner : Rule) (place : ℕ) (o : Overlapping outer inner place) 
   abbrev ν : ℕ → ℕ
   ν = place_of names
 
-  by_outer : Replaces outer.to outer.from left 0 top
+  by_outer : ReplacesAt outer.to outer.from left 0 top
   by_outer = record {
     inside = nodes_pos left;
     σ = λ y. renamed ν (o.σ y);
@@ -204,7 +205,7 @@ module _ (outer inner : Rule) (place : ℕ) (o : Overlapping outer inner place) 
   inner_instance : (t : Tree) → apply (λ y. renamed ν (o.σ (y + o.k))) t ≡ renamed ν (apply o.σ (shifted o.k t))
   inner_instance t = sym (ap (renamed ν) (apply-renamed o.σ (λ y. y + o.k) t) ∙ apply-apply (λ y. var (ν y)) (λ y. o.σ (y + o.k)) t)
 
-  by_inner : Replaces inner.from inner.to top p.there right
+  by_inner : ReplacesAt inner.from inner.to top p.there right
   by_inner = record {
     inside = omega (arith, p.there_is.inside, renamed_nodes ν (peak o));
     σ = λ y. renamed ν (o.σ (y + o.k));

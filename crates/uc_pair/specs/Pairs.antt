@@ -1,15 +1,16 @@
 -- The pair of an overlap, with the chain by the term from which both sides come.
-use Rattle.std.specs.Prelude.{ℕ, ◌≡◌, ◌<◌, ◌++◌, Bool, true, false, List, [], ◌∷◌}
+use Rattle.std.specs.Prelude.{ℕ, ◌≡◌, ◌++◌, Bool, true, false, List, [], ◌∷◌}
 use Rattle.uc_term.specs.declared.equation.Equation.{Equation}
 use Rattle.uc_term.specs.declared.equation.Side.{Side}
 use Rattle.uc_term.specs.declared.equation.Side.TheVariants.{Left, Right}
-use Rattle.uc_term.specs.Tree.{Tree, apply, nodes, subterm, put}
+use Rattle.uc_term.specs.Tree.{Tree}
 use Rattle.uc_term.specs.Positions.{IsPlaceOf}
 use Rattle.uc_term.specs.Variables.{variables, firsts, renumbered_by}
 use Rattle.uc_fact.specs.declared.fact.Overlap.{Overlap}
 use Rattle.uc_fact.specs.declared.chain.Chain.{Chain}
 use Rattle.uc_fact.specs.declared.chain.By.TheVariants.{Fact}
 use Rattle.uc_fact.specs.Live.{Rule}
+use Rattle.uc_fact.specs.Chains.{ReplacesAt}
 use Rattle.uc_pair.specs.declared.formation.Formation.{Formation}
 use Rattle.uc_pair.specs.declared.formation.Formation.TheVariants.{Pair, TooLarge}
 use Rattle.uc_pair.specs.Overlapping.{Overlapping, Fits, IsTooLarge, peak, left_of, right_of, overlap_at, read_from}
@@ -59,21 +60,13 @@ pub data IsFormation (outer inner : Rule) (place : ℕ) : Formation → Type 0 w
 abbrev pub IsPairOf : Equation → Equation → Overlap → Formation → Type 0
 IsPairOf a b overlap = IsFormation (read_from overlap.outer overlap.outer_side a) (read_from overlap.inner overlap.inner_side b) overlap.position.0
 
--- The place is one of the term before; one substitution makes the side that is replaced the subterm there, and the term behind
--- is the one before with the other side's instance in its place.
-pub record Replaces (from to before : Tree) (place : ℕ) (after : Tree) : Type 0 where
-  pub inside : place < nodes before
-  pub σ : ℕ → Tree
-  pub from_is : apply σ from ≡ subterm before place
-  pub to_is : put before place (apply σ to) ≡ after
-
 -- Each step of a pair's chain replaces equals by equals: the outer rule read backwards at the root, and then the inner rule.
 pub record Replays (outer inner : Rule) (overlap : Overlap) (left right : Tree) (chain : Chain) : Type 0 where
   pub top : Tree
   pub there : ℕ
   pub chain_is : chain ≡ chain_by overlap there left top right
-  pub by_outer : Replaces outer.to outer.from left 0 top
-  pub by_inner : Replaces inner.from inner.to top there right
+  pub by_outer : ReplacesAt outer.to outer.from left 0 top
+  pub by_inner : ReplacesAt inner.from inner.to top there right
 
 abbrev pub ReplaysPair : Equation → Equation → Overlap → Formation → Type 0
 ReplaysPair a b overlap TooLarge = Unit {0}
