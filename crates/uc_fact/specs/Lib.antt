@@ -1,4 +1,6 @@
 pub mod Live
+pub mod Against
 pub mod Retrieval
 pub mod Ordered
 pub mod Chains
+pub mod Ground

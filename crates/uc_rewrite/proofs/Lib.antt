@@ -5,8 +5,8 @@ pub mod Choosing
 pub mod Frames
 pub mod Lifting
 pub mod Advancing
+pub mod Telling
 pub mod Testing
-pub mod Fitting
 pub mod Stepping
 pub mod Chaining
 pub mod Scanned

@@ -3,17 +3,17 @@
 //! failure).
 #![tactic(auto)]
 
+mod comparison;
 mod completed;
 mod falls;
 mod laws;
-mod matching;
 mod normal;
 mod replaying;
 mod scan;
 mod walk;
 
-pub use laws::one_normal_form;
-pub use normal::{Normal, normalise};
+pub use laws::{one_normal_form, one_normal_form_under};
+pub use normal::{Normal, normalise, normalise_under};
 pub use replaying::replay;
 pub use scan::Scan;
 
@@ -21,3 +21,5 @@ pub use scan::Scan;
 mod replaying_tests;
 #[cfg(test)]
 mod tests;
+#[cfg(test)]
+mod under_tests;

@@ -58,7 +58,7 @@ fn has_constant(symbols: &Symbols, list: &[Sym]) -> bool
     false
 }
 
-fn order(alloc: Global) -> Result<Lpo, Fail> {
+pub fn order(alloc: Global) -> Result<Lpo, Fail> {
     let symbols = symbols(alloc)?;
     if !are_known(&symbols, PRECEDENCE) || !has_constant(&symbols, PRECEDENCE) {
         return Err(Fail::from("no constant"));
@@ -97,7 +97,7 @@ fn one(alloc: Global, letter: u8, stack: &mut Vec<Term>) -> Result<Term, TermFau
 }
 
 // The term that the letters spell in postfix order.
-fn term(alloc: Global, letters: &[u8]) -> Result<Term, TermFault> {
+pub fn term(alloc: Global, letters: &[u8]) -> Result<Term, TermFault> {
     let mut stack: Vec<Term> = Vec::new(alloc);
     for letter in letters {
         let t = one(alloc, *letter, &mut stack)?;
@@ -106,7 +106,7 @@ fn term(alloc: Global, letters: &[u8]) -> Result<Term, TermFault> {
     pop(alloc, &mut stack)
 }
 
-fn equations(alloc: Global, facts: &[(&[u8], &[u8])]) -> Result<Vec<Equation>, TermFault> {
+pub fn equations(alloc: Global, facts: &[(&[u8], &[u8])]) -> Result<Vec<Equation>, TermFault> {
     let mut list = Vec::new(alloc);
     for fact in facts {
         let left = term(alloc, fact.0)?;
@@ -271,5 +271,38 @@ fn a_scan_finds_both_sides(rt: HostRuntime) -> Result<(), Fail> {
     }
     assert!(rt; scan.pair(1).is_some());
     assert!(rt; scan.pair(2).is_none());
+    Ok(())
+}
+
+// m(m(X,Y),X) = Y, with a repeated variable on the left, and m(Y,m(X,Y)) = X, whose variables don't come by their numbers
+const REPEATS: &[(&[u8], &[u8])] = &[(b"XYmXm", b"Y"), (b"YXYmm", b"X")];
+
+fn sides_found(
+    alloc: Global,
+    facts: &[(&[u8], &[u8])],
+    start: &[u8],
+) -> Result<Vec<(u32, Side)>, Fail> {
+    let facts = equations(alloc, facts)?;
+    if facts.len() > 9 {
+        return Err(Fail::from("too many facts"));
+    }
+    let start = term(alloc, start)?;
+    let found = Scan::new(facts.as_slice()).generalisations(alloc, start.as_nodes())?;
+    let mut sides = Vec::new(alloc);
+    for one in found.as_slice() {
+        sides.push((one.fact, one.side))?;
+    }
+    Ok(sides)
+}
+
+#[test]
+fn a_repeated_variable_is_one_term(rt: HostRuntime) -> Result<(), Fail> {
+    let g = rt.alloc();
+    let left = [(0, Side::Left), (0, Side::Right), (1, Side::Right)];
+    assert!(rt; sides_found(g, REPEATS, b"abmam")?.as_slice() == left.as_slice());
+    let right = [(0, Side::Right), (1, Side::Left), (1, Side::Right)];
+    assert!(rt; sides_found(g, REPEATS, b"babmm")?.as_slice() == right.as_slice());
+    let neither = [(0, Side::Right), (1, Side::Right)];
+    assert!(rt; sides_found(g, REPEATS, b"abmbm")?.as_slice() == neither.as_slice());
     Ok(())
 }
