@@ -7,15 +7,20 @@ use Rattle.uc_term.specs.declared.equation.Equation.{Equation}
 use Rattle.uc_term.specs.declared.equation.Side.{Side}
 use Rattle.uc_term.specs.declared.equation.Side.TheVariants.{Left, Right}
 use Rattle.uc_term.specs.Tree.{Tree}
+use Rattle.uc_term.specs.Equations.{side_of}
 use Rattle.uc_unify.specs.Matching.{IsMatch, HasNoMatch}
 use Rattle.uc_fact.specs.declared.fact.Fact.{Fact}
 use Rattle.uc_fact.specs.declared.index.Found.{Found}
-use Rattle.uc_fact.specs.Live.{Live, Rule, fact_at, numbered_from, rule_of, rules_of}
+use Rattle.uc_fact.specs.Live.{Live, Rule, fact_at, numbered_from, rule_of, rules_of, equation_of}
 use Rattle.uc_fact.specs.Retrieval.{Generalises, no_rules, is_instance, is_no_instance, IsFound, by_first, by_later, FirstThat, no_rule_left, accepted, not_accepted}
 use Rattle.uc_shelf.specs.declared.entry.Entry.{Entry}
 use Rattle.uc_shelf.specs.declared.entry.Entry.TheVariants.{Born, Dies}
-use Rattle.uc_shelf.specs.Entries.{born, is_dead, equation_of, equations, living, live}
-use Rattle.uc_shelf.specs.Viewing.{Adds, rule_if_lives}
+use Rattle.uc_shelf.specs.Entries.{born, is_dead, equations, living, live}
+use Rattle.uc_shelf.specs.Viewing.{Adds, FindsOnly, rule_if_lives}
+use Rattle.std.specs.Prelude.{Result, Ok, Err, OnErr}
+use Rattle.uc_term.specs.Subst.{image}
+use Rattle.uc_fact.specs.Against.{HasMatch}
+use Rattle.uc_fact.proofs.Matched.{one_match}
 
 -- the entry of a number and what stands behind it
 pub drop_at : (es : List Entry) (k : ℕ) (e : Entry) → Some e ≡ slice_get es k → drop k es ≡ e ∷ drop (k + 1) es
@@ -132,6 +137,10 @@ pub match_none : (p q t : Tree) (o : Option (List (ℕ × Tree))) → MatchOptio
 match_none p q t None m e f = subst (λ z. HasNoMatch z t) f m
 match_none p q t (Some ps) m e f = absurd cc
 
+pub err_of : {T E : Type 0} (r : Result T E) (P : Type 0) → P → OnErr r P
+err_of (Ok x) P p = tt
+err_of (Err e) P p = p
+
 pub answered : (Accepted : Found → Type 0) (t : Tree) (rules : List Rule) (a b : Option Found) → a ≡ b → FirstThat Accepted t rules a → FirstThat Accepted t rules b
 answered Accepted t rules a b e f = subst (FirstThat Accepted t rules) e f
 
@@ -151,17 +160,72 @@ module _ (t : Tree) where
     generalises = joined xs ys a.list b.list a.generalises b.generalises;
   }
 
-  -- the list so far, before what the rest of the rules gives, is what all give
-  abbrev pub Ahead : List Rule → List Rule → List Found → Type 0
-  Ahead all left list = (rest : List Found) → Generalises t left rest → Generalises t all (list ++ rest)
+  -- nothing is found by a part of the rules, where nothing is found by all
+
+  pub nothing_left : (xs ys : List Rule) → Generalises t (xs ++ ys) [] → Generalises t xs []
+  nothing_left [] ys g = no_rules
+  nothing_left (x ∷ xs) ys (is_no_instance n g) = is_no_instance n (nothing_left xs ys g)
+
+  pub nothing_right : (xs ys : List Rule) → Generalises t (xs ++ ys) [] → Generalises t ys []
+  nothing_right [] ys g = g
+  nothing_right (x ∷ xs) ys (is_no_instance n g) = nothing_right xs ys g
+
+  pub not_nothing : (rules : List Rule) (found : Found) (list : List Found) → Generalises t rules (found ∷ list) → Generalises t rules [] → ⊥
+  not_nothing [] found list g n = elim g [ ]
+  not_nothing (x ∷ xs) _ list (is_instance {pairs = pairs} m g) (is_no_instance n h) = n (image pairs) m.gives
+  not_nothing (x ∷ xs) found list (is_no_instance m g) (is_no_instance n h) = not_nothing xs found list g h
+
+  -- the list so far, before what the rest of the rules gives, is what all give; and where all give nothing, so does the rest
+  pub record Ahead (all left : List Rule) (list : List Found) : Type 0 where
+    pub gives : (rest : List Found) → Generalises t left rest → Generalises t all (list ++ rest)
+    pub nothing : Generalises t all [] → Generalises t left []
 
   pub ahead_on : (all left these later : List Rule) (old new : List Found) → left ≡ these ++ later → Adds t these old new → Ahead all left old → Ahead all later new
-  ahead_on all left these later old new at a s rest g =
-      let more : Generalises t all (old ++ (a.list ++ rest)) = s (a.list ++ rest) (subst (λ r. Generalises t r (a.list ++ rest)) (sym at) (joined these later a.list rest a.generalises g)) in
-      subst (Generalises t all) (sym (append_assoc old a.list rest) ∙ ap (λ l. l ++ rest) (sym a.new_is)) more
+  ahead_on all left these later old new at a s = record {
+    gives = λ rest g. (
+      let more : Generalises t all (old ++ (a.list ++ rest)) = s.gives (a.list ++ rest) (subst (λ r. Generalises t r (a.list ++ rest)) (sym at) (joined these later a.list rest a.generalises g)) in
+      subst (Generalises t all) (sym (append_assoc old a.list rest) ∙ ap (λ l. l ++ rest) (sym a.new_is)) more);
+    nothing = λ g. nothing_right these later (subst (λ r. Generalises t r []) at (s.nothing g));
+  }
+
+  pub nothing_now : (all left these later : List Rule) (list : List Found) → left ≡ these ++ later → Ahead all left list → Generalises t all [] → Generalises t these []
+  nothing_now all left these later list at s g = nothing_left these later (subst (λ r. Generalises t r []) at (s.nothing g))
 
   pub all_found : (all left : List Rule) (list : List Found) → left ≡ [] → Ahead all left list → Generalises t all list
-  all_found all left list e s = subst (Generalises t all) (append-nil list) (s [] (subst (λ r. Generalises t r []) (sym e) no_rules))
+  all_found all left list e s = subst (Generalises t all) (append-nil list) (s.gives [] (subst (λ r. Generalises t r []) (sym e) no_rules))
+
+  -- one side of a fact
+
+  pub nothing_of : (all : List Entry) (side : Side) (n : ℕ) (f : Fact) → HasNoMatch (side_of side (equation_of f)) t → Generalises t (rule_if_lives all side n f) []
+  nothing_of all side n f none = elim (cases_Bool (is_dead all n)) as (λ _. Generalises t (rule_if_lives all side n f) []) [
+    | inl b ↦ rw b no_rules
+    | inr b ↦ rw b (is_no_instance none no_rules)
+  ]
+
+  pub nothing_dead : (all : List Entry) (side : Side) (n : ℕ) (f : Fact) → is_dead all n ≡ true → Generalises t (rule_if_lives all side n f) []
+  nothing_dead all side n f b = rw b no_rules
+
+  pub only_alive : (all : List Entry) (side : Side) (n : ℕ) (f : Fact) (pairs : List (ℕ × Tree)) → is_dead all n ≡ false → IsMatch (side_of side (equation_of f)) t pairs → FindsOnly t (rule_if_lives all side n f) n side pairs
+  only_alive all side n f pairs b m = rw b (is_instance m no_rules)
+
+  pub something_alive : (all : List Entry) (side : Side) (n : ℕ) (f : Fact) → is_dead all n ≡ false → HasMatch (side_of side (equation_of f)) t → Generalises t (rule_if_lives all side n f) [] → ⊥
+  something_alive all side n f b m g = found_none (rule_of side (record { number = n; equation = equation_of f })) m (subst (λ r. Generalises t r []) (let e : rule_if_lives all side n f ≡ rule_of side (record { number = n; equation = equation_of f }) ∷ [] = rw b refl in e) g)
+    where
+      found_none : (rule : Rule) → HasMatch rule.from t → Generalises t (rule ∷ []) [] → ⊥
+      found_none rule m (is_no_instance n g) = n m.σ m.gives
+
+  pub found_side : (all : List Entry) (side : Side) (n : ℕ) (f : Fact) (found : Found) → IsFound t (rule_if_lives all side n f) found → (found.fact ≡ n) × (found.side ≡ side)
+  found_side all side n f found i = by_dead (is_dead all n) i
+    where
+      by_dead : (b : Bool) → IsFound t (cond b [] (rule_of side (record { number = n; equation = equation_of f }) ∷ [])) found → (found.fact ≡ n) × (found.side ≡ side)
+      by_dead true i = elim i [ ]
+      by_dead false (by_first m) = (refl, refl)
+      by_dead false (by_later i) = elim i [ ]
+
+  pub found_only : (rules : List Rule) (found : Found) → Generalises t rules (found ∷ []) → IsFound t rules found
+  found_only [] found g = elim g [ ]
+  found_only (x ∷ xs) _ (is_instance m g) = by_first m
+  found_only (x ∷ xs) found (is_no_instance n g) = by_later (found_only xs found g)
 
   -- what some of the rules find, all find
   pub found_before : (xs ys : List Rule) (found : Found) → IsFound t xs found → IsFound t (xs ++ ys) found
@@ -183,13 +247,33 @@ module _ (t : Tree) where
     first_here (x ∷ xs) ys _ (accepted m a) = accepted m a
     first_here (x ∷ xs) ys found (not_accepted n f) = not_accepted n (first_here xs ys found f)
 
-    -- what the rest of the rules comes to, all come to; and what the rest finds, all find
+    pub none_of_nothing : (rules : List Rule) → Generalises t rules [] → FirstThat Accepted t rules None
+    none_of_nothing [] no_rules = no_rule_left
+    none_of_nothing (x ∷ xs) (is_no_instance n g) = not_accepted (λ pairs m a. n (image pairs) m.gives) (none_of_nothing xs g)
+
+    pub none_ruled_out : (rules : List Rule) → ((found : Found) → IsFound t rules found → Accepted found → ⊥) → FirstThat Accepted t rules None
+    none_ruled_out [] f = no_rule_left
+    none_ruled_out (x ∷ xs) f = not_accepted (λ pairs m a. f _ (by_first m) a) (none_ruled_out xs (λ found i a. f found (by_later i) a))
+
+    pub first_only : (rules : List Rule) (found : Found) → Generalises t rules (found ∷ []) → Accepted found → FirstThat Accepted t rules (Some found)
+    first_only [] found g a = elim g [ ]
+    first_only (x ∷ xs) _ (is_instance m g) a = accepted m a
+    first_only (x ∷ xs) found (is_no_instance n g) a = not_accepted (λ pairs m b. n (image pairs) m.gives) (first_only xs found g a)
+
+    pub none_only : (rules : List Rule) (found : Found) → Generalises t rules (found ∷ []) → (Accepted found → ⊥) → FirstThat Accepted t rules None
+    none_only [] found g a = elim g [ ]
+    none_only (x ∷ xs) _ (is_instance {pairs = pairs} m g) a = not_accepted (λ others n b. a (subst (λ q. Accepted (record { fact = x.number; side = x.side; subst = q })) (one_match x.from t others pairs n m) b)) (none_of_nothing xs g)
+    none_only (x ∷ xs) found (is_no_instance n g) a = not_accepted (λ pairs m b. n (image pairs) m.gives) (none_only xs found g a)
+
+    -- what the rest of the rules comes to, all come to; what the rest finds, all find; and it finds nothing, where all don't
     pub record Passes (all left : List Rule) : Type 0 where
+      pub nothing : Generalises t all [] → Generalises t left []
       pub comes_to : (answer : Option Found) → FirstThat Accepted t left answer → FirstThat Accepted t all answer
       pub finds : (found : Found) → IsFound t left found → IsFound t all found
 
     pub passes_on : (all left these later : List Rule) → left ≡ these ++ later → FirstThat Accepted t these None → Passes all left → Passes all later
     passes_on all left these later at f p = record {
+      nothing = λ g. nothing_right these later (subst (λ r. Generalises t r []) at (p.nothing g));
       comes_to = λ answer h. p.comes_to answer (subst (λ r. FirstThat Accepted t r answer) (sym at) (first_past these later answer f h));
       finds = λ found i. p.finds found (subst (λ r. IsFound t r found) (sym at) (found_behind these later found i));
     }
@@ -200,5 +284,16 @@ module _ (t : Tree) where
     pub found_here : (all left these later : List Rule) (found : Found) → left ≡ these ++ later → Passes all left → IsFound t these found → IsFound t all found
     found_here all left these later found at p i = p.finds found (subst (λ r. IsFound t r found) (sym at) (found_before these later found i))
 
+    pub nothing_here : (all left these later : List Rule) → left ≡ these ++ later → Passes all left → Generalises t all [] → Generalises t these []
+    nothing_here all left these later at p g = nothing_left these later (subst (λ r. Generalises t r []) at (p.nothing g))
+
     pub none_passes : (all left : List Rule) → left ≡ [] → Passes all left → FirstThat Accepted t all None
     none_passes all left e p = p.comes_to None (subst (λ r. FirstThat Accepted t r None) (sym e) no_rule_left)
+
+pub only_some : (t : Tree) (rules : List Rule) (n : ℕ) (side : Side) (o : Option (List (ℕ × Tree))) (pairs : List (ℕ × Tree)) → MatchOption o (Generalises t rules []) (FindsOnly t rules n side) → o ≡ Some pairs → FindsOnly t rules n side pairs
+only_some t rules n side None pairs m e = absurd cc
+only_some t rules n side (Some ps) pairs m e = subst (λ z. FindsOnly t rules n side z) (let h : ps ≡ pairs = cc in h) m
+
+pub only_none : (t : Tree) (rules : List Rule) (n : ℕ) (side : Side) (o : Option (List (ℕ × Tree))) → MatchOption o (Generalises t rules []) (FindsOnly t rules n side) → o ≡ None → Generalises t rules []
+only_none t rules n side None m e = m
+only_none t rules n side (Some ps) m e = absurd cc

@@ -2,7 +2,7 @@
 use Rattle.std.specs.Prelude.{ℕ, ◌==◌, ◌||◌, List, [], ◌∷◌, Bool, false, not, map, filter}
 use Rattle.uc_term.specs.declared.equation.Equation.{Equation}
 use Rattle.uc_fact.specs.declared.fact.Fact.{Fact}
-use Rattle.uc_fact.specs.Live.{Live, numbered_from}
+use Rattle.uc_fact.specs.Live.{Live, numbered_from, equation_of}
 use Rattle.uc_shelf.specs.declared.entry.Entry.{Entry}
 use Rattle.uc_shelf.specs.declared.entry.Entry.TheVariants.{Born, Dies}
 
@@ -17,10 +17,6 @@ abbrev pub is_dead : List Entry → ℕ → Bool
 is_dead [] n = false
 is_dead (Born fact ∷ entries) n = is_dead entries n
 is_dead (Dies fact killer ∷ entries) n = (fact == n) || is_dead entries n
-
--- the two sides of a fact
-abbrev pub equation_of : Fact → Equation
-equation_of fact = record { left = fact.left; right = fact.right }
 
 -- the two sides of each fact that is born
 abbrev pub equations : List Entry → List Equation

@@ -6,16 +6,20 @@ use Rattle.uc_term.specs.declared.equation.Equation.{Equation}
 use Rattle.uc_term.specs.declared.equation.Side.{Side}
 use Rattle.uc_fact.specs.declared.fact.Fact.{Fact}
 use Rattle.uc_fact.specs.declared.index.Found.{Found}
-use Rattle.uc_fact.specs.Live.{Live, Rule, RiseFrom, AreRising, numbered_from, rule_of}
+use Rattle.uc_fact.specs.Live.{Live, Rule, RiseFrom, AreRising, numbered_from, rule_of, equation_of}
 use Rattle.uc_fact.specs.Retrieval.{Generalises}
 use Rattle.uc_shelf.specs.declared.entry.Entry.{Entry}
-use Rattle.uc_shelf.specs.Entries.{equation_of, equations, is_dead, live}
+use Rattle.uc_shelf.specs.Entries.{equations, is_dead, live}
 
 -- what the rules give stands behind the old list
 pub record Adds (t : Tree) (rules : List Rule) (old new : List Found) : Type 0 where
   pub list : List Found
   pub new_is : new ≡ old ++ list
   pub generalises : Generalises t rules list
+
+-- the rules give this alone: that side of that fact, with these pairs
+abbrev pub FindsOnly : Tree → List Rule → ℕ → Side → List (ℕ × Tree) → Type 0
+FindsOnly t rules n side pairs = Generalises t rules (record { fact = n; side = side; subst = pairs } ∷ [])
 
 -- a fact of a number, read from one side, where no entry says that it dies
 abbrev pub rule_if_lives : List Entry → Side → ℕ → Fact → List Rule

@@ -1,21 +1,20 @@
 //! An index of the facts that live in a front.
 
-ghost use Rattle.std.specs.Prelude.{◌≡◌, ◌≤◌, ◌∷◌, [], length, Some, None, IfOk, MatchOption};
+ghost use Rattle.std.specs.Prelude.{◌≡◌, ◌≤◌, ◌∷◌, [], length, Some, None, IfOk, OnErr, MatchOption};
 ghost use Rattle.uc_term.specs.Flat.{tree_of, IsWhole};
 ghost use Rattle.uc_term.specs.Equations.{side_of};
 ghost use Rattle.uc_fact.specs.declared.index.Found.{Found as AnyFound};
-ghost use Rattle.uc_fact.specs.Live.{rules_of, fact_at, numbered_from};
-ghost use Rattle.uc_fact.specs.Retrieval.{IsFound, FirstThat};
-ghost use Rattle.uc_shelf.specs.Entries.{born, equation_of, equations, is_dead, living};
+ghost use Rattle.uc_fact.specs.Live.{rules_of, fact_at, numbered_from, equation_of};
+ghost use Rattle.uc_fact.specs.Retrieval.{IsFound, FirstThat, FindsNothing};
+ghost use Rattle.uc_shelf.specs.Entries.{born, equations, is_dead, living};
 ghost use Rattle.uc_shelf.specs.Fronts.{IsOf};
-ghost use Rattle.uc_shelf.specs.Viewing.{Adds, rule_if_lives};
+ghost use Rattle.uc_shelf.specs.Viewing.{Adds, FindsOnly, rule_if_lives};
 
 use crate::{Entry, Front, Shelf};
 use std::alloc::{AllocError, Global};
 use std::marker::Model;
-use uc_fact::{Fact, Found, Index, Side, Test};
-use uc_term::{MAX_NODES, Node, Seq, Term};
-use uc_unify::matches;
+use uc_fact::{Fact, Found, Index, Side, Test, matching};
+use uc_term::{MAX_NODES, Node, Seq, Subst, Term};
 
 /// An index of the facts that are born and not dead in a front. A contract sees the front's entries.
 #[derive(Drop)]
@@ -126,7 +125,8 @@ impl<'a> View<'a> {
     ) -> Result<(), AllocError>
         requires whole { IsWhole term.now }
         requires small { length term.now ≤ MAX_NODES }
-        ensures { IfOk result (λ _. Adds (tree_of term.now) (rules_of (living self.now number (entry.now ∷ []))) list.old.items list.new.items) }
+        ensures value { IfOk result (λ _. Adds (tree_of term.now) (rules_of (living self.now number (entry.now ∷ []))) list.old.items list.new.items) }
+        ensures memory { OnErr result (FindsNothing (tree_of term.now) (rules_of (living self.now number (entry.now ∷ []))) → ⊥) }
     {
         match entry {
             Entry::Born(fact) => {
@@ -149,13 +149,11 @@ impl<'a> View<'a> {
     ) -> Result<(), AllocError>
         requires whole { IsWhole term.now }
         requires small { length term.now ≤ MAX_NODES }
-        ensures { IfOk result (λ _. Adds (tree_of term.now) (rule_if_lives self.now side number fact.now) list.old.items list.new.items) }
+        ensures value { IfOk result (λ _. Adds (tree_of term.now) (rule_if_lives self.now side number fact.now) list.old.items list.new.items) }
+        ensures memory { OnErr result (FindsNothing (tree_of term.now) (rule_if_lives self.now side number fact.now) → ⊥) }
     {
-        match matches(alloc, side_term(fact, side).as_nodes(), term)? {
+        match self.match_if_alive(alloc, fact, number, side, term)? {
             Some(subst) => {
-                if self.is_dead(number) {
-                    return Ok(());
-                }
                 list.push(Found {
                     fact: number,
                     side,
@@ -164,6 +162,40 @@ impl<'a> View<'a> {
                 Ok(())
             }
             None => Ok(()),
+        }
+    }
+
+    /// The substitution that makes a side of a fact the term, where the fact lives. None, where there is none or the fact is
+    /// dead, takes no memory.
+    fn match_if_alive(
+        &self,
+        alloc: Global,
+        fact: &Fact,
+        number: u32,
+        side: Side,
+        term: &[Node],
+    ) -> Result<Option<Subst>, AllocError>
+        requires whole { IsWhole term.now }
+        requires small { length term.now ≤ MAX_NODES }
+        ensures value { IfOk result (λ found. MatchOption found (FindsNothing (tree_of term.now) (rule_if_lives self.now side number fact.now)) (FindsOnly (tree_of term.now) (rule_if_lives self.now side number fact.now) number side)) }
+        ensures memory { OnErr result (FindsNothing (tree_of term.now) (rule_if_lives self.now side number fact.now) → ⊥) }
+    {
+        match matching(alloc, side_term(fact, side).as_nodes(), term) {
+            Ok(Some(subst)) => {
+                if self.is_dead(number) {
+                    Ok(None)
+                } else {
+                    Ok(Some(subst))
+                }
+            }
+            Ok(None) => Ok(None),
+            Err(fault) => {
+                if self.is_dead(number) {
+                    Ok(None)
+                } else {
+                    Err(fault)
+                }
+            }
         }
     }
 
@@ -179,7 +211,8 @@ impl<'a> View<'a> {
         requires whole { IsWhole term.now }
         requires small { length term.now ≤ MAX_NODES }
         requires can { (found : AnyFound) → IsFound (tree_of term.now) (rules_of (living self.now number (entry.now ∷ []))) found → T.can_test test.now found }
-        ensures { IfOk result (FirstThat (T.accepts test.now) (tree_of term.now) (rules_of (living self.now number (entry.now ∷ [])))) }
+        ensures value { IfOk result (FirstThat (T.accepts test.now) (tree_of term.now) (rules_of (living self.now number (entry.now ∷ [])))) }
+        ensures memory { OnErr result (FindsNothing (tree_of term.now) (rules_of (living self.now number (entry.now ∷ []))) → ⊥) }
     {
         match entry {
             Entry::Born(fact) => {
@@ -205,16 +238,14 @@ impl<'a> View<'a> {
         requires whole { IsWhole term.now }
         requires small { length term.now ≤ MAX_NODES }
         requires can { (found : AnyFound) → IsFound (tree_of term.now) (rule_if_lives self.now side number fact.now) found → T.can_test test.now found }
-        ensures { IfOk result (FirstThat (T.accepts test.now) (tree_of term.now) (rule_if_lives self.now side number fact.now)) }
+        ensures value { IfOk result (FirstThat (T.accepts test.now) (tree_of term.now) (rule_if_lives self.now side number fact.now)) }
+        ensures memory { OnErr result (FindsNothing (tree_of term.now) (rule_if_lives self.now side number fact.now) → ⊥) }
     {
         if test.rules_out(number, side) {
             return Ok(None);
         }
-        match matches(alloc, side_term(fact, side).as_nodes(), term)? {
+        match self.match_if_alive(alloc, fact, number, side, term)? {
             Some(subst) => {
-                if self.is_dead(number) {
-                    return Ok(None);
-                }
                 let found = Found {
                     fact: number,
                     side,

@@ -1,28 +1,23 @@
-use Rattle.std.proofs.Common.{sym, ◌∙◌, ◌∷◌, [], append-nil}
-use Rattle.uc_term.specs.Equations.{side_of}
+use Rattle.std.proofs.Common.{◌≡◌, sym, ◌∙◌, ◌∷◌, [], append-nil, Some, None, subst}
 use Rattle.uc_term.specs.Flat.{tree_of}
-use Rattle.uc_fact.specs.Retrieval.{no_rules, is_instance, is_no_instance}
-use Rattle.std.proofs.lemmas.Bool.{cases_Bool}
-use Rattle.std.proofs.Common.{inl, inr}
-use Rattle.uc_shelf.specs.Entries.{equation_of, is_dead}
-use Rattle.uc_shelf.specs.Viewing.{Adds, rule_if_lives}
-use Rattle.uc_shelf.proofs.Viewed.{match_some, match_none, no_rule, one_rule, adds_nothing}
+use Rattle.uc_fact.specs.Retrieval.{FindsNothing}
+use Rattle.uc_shelf.specs.Viewing.{FindsOnly, rule_if_lives}
+use Rattle.uc_shelf.proofs.Viewed.{err_of, not_nothing, only_some, only_none}
 use Rattle.uc_shelf.proofs.view.View.add_side.Goals as goal
 
-pub returns-then-is_dead : goal.returns-then-is_dead
-returns-then-is_dead c = rw (no_rule c.args.self.now c.args.side c.args.number c.args.fact.now (sym c.is_dead.ensures ∙ c.if-is_dead.true)) (adds_nothing (tree_of c.args.term.now) c.args.list.now.items)
-
-pub returns-in_ok-push-in-Some : goal.returns-in_ok-push-in-Some
-returns-in_ok-push-in-Some c = rw (one_rule c.args.self.now c.args.side c.args.number c.args.fact.now (sym c.is_dead.ensures ∙ c.if-is_dead.false)) (record {
+pub returns-in_ok-push-in-Some-clause-value : goal.returns-in_ok-push-in-Some-clause-value
+returns-in_ok-push-in-Some-clause-value c = record {
   list = record { fact = c.args.number; side = c.args.side; subst = c.in-Some.subst } ∷ [];
   new_is = c.in_ok-push-in-Some.ensures.items;
-  generalises = is_instance (match_some (tree_of c.as_nodes.result.now) (side_of c.args.side (equation_of c.args.fact.now)) (tree_of c.args.term.now) c.in_ok-subst.field-0 c.in-Some.subst c.in_ok-subst.ensures c.in-Some.is (c.as_nodes.ensures.tree ∙ c.side_term.ensures)) no_rules;
-})
+  generalises = only_some (tree_of c.args.term.now) (rule_if_lives c.args.self.now c.args.side c.args.number c.args.fact.now) c.args.number c.args.side c.in_ok-subst.field-0 c.in-Some.subst c.in_ok-subst.ensures.value c.in-Some.is;
+}
 
-pub returns-in-None : goal.returns-in-None
-returns-in-None c =
-    let none = match_none (tree_of c.as_nodes.result.now) (side_of c.args.side (equation_of c.args.fact.now)) (tree_of c.args.term.now) c.in_ok-subst.field-0 c.in_ok-subst.ensures c.in-None.is (c.as_nodes.ensures.tree ∙ c.side_term.ensures) in
-    elim (cases_Bool (is_dead c.args.self.now c.args.number)) [
-      | inl b ↦ rw (no_rule c.args.self.now c.args.side c.args.number c.args.fact.now b) (adds_nothing (tree_of c.args.term.now) c.args.list.now.items)
-      | inr b ↦ rw (one_rule c.args.self.now c.args.side c.args.number c.args.fact.now b) (record { list = []; new_is = sym (append-nil c.args.list.now.items); generalises = is_no_instance none no_rules })
-    ]
+pub returns-in-None-clause-value : goal.returns-in-None-clause-value
+returns-in-None-clause-value c = record {
+  list = [];
+  new_is = sym (append-nil c.args.list.now.items);
+  generalises = only_none (tree_of c.args.term.now) (rule_if_lives c.args.self.now c.args.side c.args.number c.args.fact.now) c.args.number c.args.side c.in_ok-subst.field-0 c.in_ok-subst.ensures.value c.in-None.is;
+}
+
+pub returns-in_err-push-in-Some-clause-memory : goal.returns-in_err-push-in-Some-clause-memory
+returns-in_err-push-in-Some-clause-memory c = err_of c.from_residual-in_err-push-in-Some.result (FindsNothing (tree_of c.args.term.now) (rule_if_lives c.args.self.now c.args.side c.args.number c.args.fact.now) → ⊥) (not_nothing (tree_of c.args.term.now) (rule_if_lives c.args.self.now c.args.side c.args.number c.args.fact.now) (record { fact = c.args.number; side = c.args.side; subst = c.in-Some.subst }) [] (only_some (tree_of c.args.term.now) (rule_if_lives c.args.self.now c.args.side c.args.number c.args.fact.now) c.args.number c.args.side c.in_ok-subst.field-0 c.in-Some.subst c.in_ok-subst.ensures.value c.in-Some.is))
