@@ -7,10 +7,12 @@
 mod chain;
 mod fact;
 mod index;
+mod joinable;
 mod laws;
 
 pub use chain::{By, Chain, Step};
 pub use fact::{Fact, Origin, Overlap, Stop, System};
 pub use index::{Found, Index, Test, first_of};
+pub use joinable::{Joinable, Reason};
 pub use laws::{first_of_the_list, one_list};
 pub use uc_term::{Equation, Side};

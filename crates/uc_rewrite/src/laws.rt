@@ -13,3 +13,8 @@ use uc_order::Order;
 pub fn one_normal_form<O: Order>(order: &O)
     ensures { (live : List Live) (limit : ℕ) (t : Tree) (a b : Normal) → IsNormalOf (O.meaning order.now).greater (O.meaning order.now).least live limit t a → IsNormalOf (O.meaning order.now).greater (O.meaning order.now).least live limit t b → a ≡ b }
 {}
+
+/// What normalising under an order of variables comes to is a function of the same, of it and of the term's representative.
+pub fn one_normal_form_under<O: Order>(order: &O)
+    ensures { (cases : Classes) (live : List Live) (limit : ℕ) (t : Tree) (a b : Normal) → IsNormalOf ((O.meaning order.now).under cases) (O.meaning order.now).least live limit t a → IsNormalOf ((O.meaning order.now).under cases) (O.meaning order.now).least live limit t b → a ≡ b }
+{}

@@ -12,8 +12,8 @@ mod replaying;
 mod scan;
 mod walk;
 
-pub use laws::one_normal_form;
-pub use normal::{Normal, normalise};
+pub use laws::{one_normal_form, one_normal_form_under};
+pub use normal::{Normal, normalise, normalise_under};
 pub use replaying::replay;
 pub use scan::Scan;
 

@@ -6,6 +6,7 @@ ghost use Rattle.uc_fact.specs.declared.fact.Stop.TheVariants.{Full};
 ghost use Rattle.uc_fact.specs.Live.{equations_of};
 ghost use Rattle.uc_fact.specs.Ordered.{OStep, IsIrreducible};
 ghost use Rattle.uc_fact.specs.Chains.{Links};
+ghost use Rattle.uc_order.specs.VarOrders.{HasOnly, represented};
 ghost use Rattle.uc_rewrite.specs.Normalising.{IsNormalOf};
 ghost use Rattle.uc_rewrite.specs.Walking.{Walks};
 ghost use Rattle.uc_rewrite.specs.Ends.{IsNext, IsLast, end_of_steps, normal_by};
@@ -15,7 +16,7 @@ use crate::walk::Walk;
 use std::alloc::{AllocError, Global};
 use uc_fact::{Chain, Index, Step, Stop};
 use uc_order::Order;
-use uc_term::{Seq, Term};
+use uc_term::{Seq, Term, VarOrder};
 
 /// What normalising comes to: the term at its end, the chain that leads there, and why it stopped.
 #[derive(Debug, Drop)]
@@ -58,6 +59,26 @@ pub fn normalise<O: Order, I: Index>(
     let last = last_term(term, steps.as_slice());
     let stop = last_stop(alloc, &mut walk, last, &rules)?;
     ended(alloc, term, steps, stop)
+}
+
+/// Normalises a term as `normalise` does, but under an order of its variables. The term is first replaced by its
+/// representative, in which each variable is the first one of its class, and the chain begins there. A step is possible
+/// where the one instance is greater than the other under that order of variables.
+pub fn normalise_under<O: Order, I: Index>(
+    alloc: Global,
+    cases: &VarOrder,
+    term: &Term,
+    index: &I,
+    order: &O,
+    limit: u32,
+) -> Result<Normal, AllocError>
+    requires { HasOnly cases.now term.now }
+    ensures normal { IfOk result (IsNormalOf ((O.meaning order.now).under cases.now) (O.meaning order.now).least (I.live index.now) limit (represented cases.now term.now)) }
+    // what follows: neighbours in the chain are ordered steps under that order of variables, and with `Full` none leads on
+    ensures steps { IfOk result (λ normal. Links (OStep ((O.meaning order.now).under cases.now) (O.meaning order.now).least (equations_of (I.live index.now))) (represented cases.now term.now) normal.chain.steps normal.term) }
+    ensures full { IfOk result (λ normal. normal.stop ≡ Full → IsIrreducible ((O.meaning order.now).under cases.now) (O.meaning order.now).least (equations_of (I.live index.now)) normal.term) }
+{
+    Err(AllocError)
 }
 
 /// What comes next: a step, or the end, since no step is possible or the next one leads to a term of more than 4,096 nodes.

@@ -1,0 +1,30 @@
+//! What a test of ground joinability answers.
+
+use uc_term::{Term, VarOrder};
+
+/// Why two terms are joinable.
+#[derive(Clone, Copy, PartialEq, Eq, Debug)]
+pub enum Reason {
+    /// They are equal.
+    Same,
+    /// They are, either way round, the two sides of one instance of the fact of this number.
+    Instance(u32),
+    /// Under each order of their variables they have the same normal form.
+    Orders,
+}
+
+/// Whether each ground instance of two terms is joined by ground steps. `Joined` is sure; the other two say that the test
+/// doesn't show it.
+#[derive(Debug, Drop)]
+pub enum Joinable {
+    /// It is so, for this reason.
+    Joined(Reason),
+    /// Under the order `cases` of their variables normalising leads them to two different terms.
+    Apart {
+        cases: VarOrder,
+        left: Term,
+        right: Term,
+    },
+    /// They have so many variables, which is more than are tried.
+    TooManyVariables(u32),
+}

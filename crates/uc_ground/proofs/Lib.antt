@@ -1,0 +1,3 @@
+pub mod Unique
+pub mod Grounded
+pub mod Joins

@@ -1,0 +1,7 @@
+//! Ground joinability: whether each ground instance of two terms is joined by ground steps, by trying all orders of their
+//! variables (Martin and Nipkow, Ordered rewriting and confluence).
+#![tactic(auto)]
+
+mod laws;
+
+pub use laws::{joined_is_joinable, one_answer};
