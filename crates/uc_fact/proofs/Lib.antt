@@ -1,3 +1,4 @@
 pub mod Occurring
 pub mod Matched
 pub mod Lists
+pub mod NewVariables

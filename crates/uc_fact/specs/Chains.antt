@@ -7,3 +7,8 @@ use Rattle.uc_fact.specs.declared.chain.Step.{Step}
 abbrev pub Links : (Tree → Tree → Type 0) → Tree → List Step → Tree → Type 0
 Links R u [] v = u ≡ v
 Links R u (step ∷ steps) v = R u step.to × Links R step.to steps v
+
+-- the term to which the steps lead: that behind the last of them; the one before them, where there are none
+abbrev pub last_term : Tree → List Step → Tree
+last_term before [] = before
+last_term before (step ∷ steps) = last_term step.to steps

@@ -4,6 +4,7 @@ use Rattle.uc_term.specs.declared.node.Node.{Node}
 use Rattle.uc_term.specs.declared.node.Node.TheVariants.{Var}
 use Rattle.uc_term.specs.declared.node.Sym.{Sym}
 use Rattle.uc_term.specs.Tree.{Tree, var, app, list_of, of_list, nodes, nodes_all}
+use Rattle.uc_term.specs.Variables.{Occurs, in_args, OccursIn, in_first, in_later}
 use Rattle.uc_term.specs.Flat.{flat, tree_of, IsWhole}
 use Rattle.uc_term.specs.Code.{of_list-list_of, list_of-of_list, tree_of-flat}
 use Rattle.uc_term.proofs.Terms.{length-flat}
@@ -44,6 +45,15 @@ no_elements (x ∷ xs) e = absurd (omega arith)
 each_more : {A : Type 0} (P : A → Type 0) (xs : List A) (x : A) → Each P xs → P x → Each P (xs ++ x ∷ [])
 each_more P [] x e p = (p, tt)
 each_more P (y ∷ xs) x e p = (e.0, each_more P xs x e.1 p)
+
+among_args : (x : ℕ) (before after : List Tree) (u : Tree) → Occurs x u → OccursIn x (of_list (before ++ u ∷ after))
+among_args x [] after u o = in_first o
+among_args x (t ∷ before) after u o = in_later (among_args x before after u o)
+
+-- what occurs in a term occurs in it in frames
+in_plug : (x : ℕ) (frames : List Frame) (u : Tree) → Occurs x u → Occurs x (plug frames u)
+in_plug x [] u o = o
+in_plug x (frame ∷ frames) u o = in_plug x frames (app frame.head (of_list (frame.before ++ u ∷ frame.after))) (in_args (among_args x frame.before frame.after u o))
 
 abbrev node_at : List Node → ℕ → Node
 node_at list n = get_or list n (Var 0)
@@ -142,6 +152,7 @@ module _ (Greater : Tree → Tree → Type 0) (least : Sym) (live : List Live) (
       pub within : place ≤ length list
       pub whole : IsWhole part
       pub few : length part ≤ length list
+      pub none_new : (x : ℕ) → Occurs x (tree_of part) → Occurs x (tree_of list)
       pub leaves : FirstThat (LeadsDown Greater least live (tree_of part)) (tree_of part) (rules_of live) None → Over front place
       pub stops : (found : Found) → FirstThat (LeadsDown Greater least live (tree_of part)) (tree_of part) (rules_of live) (Some found) → Stops Greater least live (tree_of list) front (record { from = top.place; to = place; found = found })
 
@@ -162,7 +173,7 @@ module _ (Greater : Tree → Tree → Type 0) (least : Sym) (live : List Live) (
         })
 
     pub complete : AreRising live → top.pending ≡ 0 → Over (front ++ top ∷ []) place → Complete
-    complete rising none over = record { order = order; within = within; whole = whole; few = few; leaves = leaves; stops = stops }
+    complete rising none over = record { order = order; within = within; whole = whole; few = few; none_new = none_new; leaves = leaves; stops = stops }
       where
         s : Stands Greater least live (tree_of list) (front ++ top ∷ []) place
         s = stands over
@@ -199,6 +210,9 @@ module _ (Greater : Tree → Tree → Type 0) (least : Sym) (live : List Live) (
 
         few : length part ≤ length list
         few = omega (arith, ap length part_flat, length-flat s.u, length_is list w s.frames s.u s.t_is)
+
+        none_new : (x : ℕ) → Occurs x (tree_of part) → Occurs x (tree_of list)
+        none_new x o = subst (Occurs x) (sym s.t_is) (in_plug x s.frames s.u (subst (Occurs x) tree o))
 
         behind : AreNormal Greater least live (arguments s.u)
         behind = subst (AreNormal Greater least live) (sym args) s.behind

@@ -5,7 +5,8 @@ use Rattle.uc_term.specs.declared.equation.Equation.{Equation}
 use Rattle.uc_term.specs.Tree.{Tree}
 use Rattle.uc_fact.specs.declared.chain.Step.{Step}
 use Rattle.uc_fact.specs.declared.fact.Fact.{Fact}
-use Rattle.uc_rewrite.specs.Replay.{IsReplacement, AreReplacements, last_term}
+use Rattle.uc_fact.specs.Chains.{last_term}
+use Rattle.uc_rewrite.specs.Replay.{IsReplacement, AreReplacements}
 
 module _ (axioms : List Equation) (facts : List Fact) where
   -- the steps from a term on are replacements exactly where the rest from another one on are, and they lead to the same term

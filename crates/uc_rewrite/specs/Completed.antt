@@ -1,5 +1,5 @@
 -- Substitutions in which the variables without a pair are the least constant.
-use Rattle.std.specs.Prelude.{◌⊎◌, ℕ, ◌≡◌, List, Some, unwrap_or}
+use Rattle.std.specs.Prelude.{ℕ, ◌≡◌, List, Some, unwrap_or}
 use Rattle.uc_term.specs.declared.node.Sym.{Sym}
 use Rattle.uc_term.specs.declared.equation.Equation.{Equation}
 use Rattle.uc_term.specs.Tree.{Tree, app, none, apply}
@@ -25,7 +25,3 @@ pub record LeadsDown (Greater : Tree → Tree → Type 0) (least : Sym) (live : 
   pub to : Tree
   pub sides : AreSides live found from to
   pub greater : Greater t (apply (completed least found.subst) to)
-
--- s is t, or smaller
-abbrev pub IsUpward : (Tree → Tree → Type 0) → Tree → Tree → Type 0
-IsUpward Greater s t = Greater t s ⊎ (s ≡ t)

@@ -1,11 +1,12 @@
 -- What comes next in normalising, and where its steps lead.
-use Rattle.std.specs.Prelude.{ℕ, List, [], ◌∷◌}
+use Rattle.std.specs.Prelude.{ℕ, List}
 use Rattle.uc_term.specs.declared.node.Sym.{Sym}
 use Rattle.uc_term.specs.Tree.{Tree}
 use Rattle.uc_fact.specs.declared.chain.Step.{Step}
 use Rattle.uc_fact.specs.declared.fact.Stop.{Stop}
 use Rattle.uc_fact.specs.declared.fact.Stop.TheVariants.{Full, Steps, Size}
 use Rattle.uc_fact.specs.Live.{Live, Rule, equations_of}
+use Rattle.uc_fact.specs.Chains.{last_term}
 use Rattle.uc_fact.specs.Ordered.{IsIrreducible}
 use Rattle.uc_rewrite.specs.declared.normal.Next.{Next}
 use Rattle.uc_rewrite.specs.declared.normal.Next.TheVariants.{Made, Irreducible, TooLarge}
@@ -33,11 +34,6 @@ IsLast Greater least live t Full = IsIrreducible Greater least (equations_of liv
 IsLast Greater least live t Steps = CanStep Greater least live t
 IsLast Greater least live t Size = ⊥
 
--- the term to which the steps lead
-abbrev pub end_of_steps : Tree → List Step → Tree
-end_of_steps t [] = t
-end_of_steps t (step ∷ steps) = end_of_steps step.to steps
-
 -- the steps from a term, with the term to which they lead, and why there are no more
 abbrev pub normal_by : Tree → List Step → Stop → Normal
-normal_by t steps stop = record { term = end_of_steps t steps; chain = record { start = t; steps = steps }; stop = stop }
+normal_by t steps stop = record { term = last_term t steps; chain = record { start = t; steps = steps }; stop = stop }

@@ -1,4 +1,5 @@
 pub mod Normalising
+pub mod Comparing
 pub mod Completed
 pub mod Walking
 pub mod Ends

@@ -11,6 +11,7 @@ use Rattle.uc_fact.specs.declared.chain.By.TheVariants.{Axiom, Fact as FactOf}
 use Rattle.uc_fact.specs.declared.chain.Step.{Step}
 use Rattle.uc_fact.specs.declared.chain.Chain.{Chain}
 use Rattle.uc_fact.specs.declared.fact.Fact.{Fact}
+use Rattle.uc_fact.specs.Chains.{last_term}
 
 -- the two sides of a fact
 abbrev pub equation_of : Fact → Equation
@@ -52,11 +53,6 @@ module _ (axioms : List Equation) (facts : List Fact) where
 
   abbrev pub Replays : Chain → Type 0
   Replays chain = AreReplacements chain.start chain.steps
-
--- the term behind the last of the steps; the one before them, where there are none
-abbrev pub last_term : Tree → List Step → Tree
-last_term before [] = before
-last_term before (step ∷ steps) = last_term step.to steps
 
 -- the terms from which and to which a chain leads
 abbrev pub ends : Chain → Tree × Tree

@@ -1,57 +1,61 @@
 //! Whether a step is possible.
 
-ghost use Rattle.std.specs.Prelude.{◌≡◌, ◌≤◌, ◌↔◌, length, MatchOption, None, IsTrue};
+ghost use Rattle.std.specs.Prelude.{◌≡◌, ◌≤◌, length, MatchOption, None, IsTrue};
 ghost use Rattle.uc_term.specs.Flat.{tree_of, IsWhole};
 ghost use Rattle.uc_term.specs.Equations.{side_of, other_side_of};
 ghost use Rattle.uc_fact.specs.Live.{rules_of, fact_at};
 ghost use Rattle.uc_fact.specs.Retrieval.{IsFound};
-ghost use Rattle.uc_rewrite.specs.Completed.{AreSides, LeadsDown, IsUpward};
+ghost use Rattle.uc_rewrite.specs.Comparing.{VariablesAre, Tells};
+ghost use Rattle.uc_rewrite.specs.Completed.{AreSides, LeadsDown};
+ghost use Rattle.uc_rewrite.specs.declared.comparison.Falling.TheVariants.{Never};
 
+use crate::comparison::{Comparison, Falling};
 use crate::completed::completed_instance;
 use std::alloc::{AllocError, Global};
 use uc_fact::{Found, Index, Side, Test};
-use uc_order::{Cmp, Order};
 use uc_term::{MAX_NODES, Node, Term};
 
-/// The facts of an index, and an order by which they are used.
+/// The facts of an index, and a comparison by which they are used.
 #[derive(Drop)]
-pub struct Rules<'a, O, I> {
+pub struct Rules<'a, C, I> {
     pub index: &'a I,
-    pub order: &'a O,
+    pub comparison: &'a C,
 }
 
 /// The test whether the step from a term by what is found for it is possible: whether it leads to a smaller term.
 #[derive(Drop)]
-pub struct Falls<'a, O, I> {
-    pub rules: &'a Rules<'a, O, I>,
+pub struct Falls<'a, C, I> {
+    pub rules: &'a Rules<'a, C, I>,
     pub term: &'a [Node],
 }
 
-impl<'a, O: Order, I: Index> Test for Falls<'a, O, I> {
-    ghost can_test = { λ s found. IsWhole s.term.now × (length s.term.now ≤ 4096) × IsFound (tree_of s.term.now) (rules_of (I.live s.rules.now.index.now)) found };
+impl<'a, C: Comparison, I: Index> Test for Falls<'a, C, I> {
+    ghost can_test = { λ s found. IsWhole s.term.now × (length s.term.now ≤ 4096) × VariablesAre (C.knows s.rules.now.comparison.now) (tree_of s.term.now) × IsFound (tree_of s.term.now) (rules_of (I.live s.rules.now.index.now)) found };
 
-    ghost accepts = { λ s found. LeadsDown (O.meaning s.rules.now.order.now).greater (O.meaning s.rules.now.order.now).least (I.live s.rules.now.index.now) (tree_of s.term.now) found };
+    ghost accepts = { λ s found. LeadsDown (C.greater s.rules.now.comparison.now) (C.constant s.rules.now.comparison.now) (I.live s.rules.now.index.now) (tree_of s.term.now) found };
 
     fn rules_out(&self, fact: u32, side: Side) -> bool {
         match self.rules.index.pair(fact) {
-            Some((left, right)) => is_upward(self.rules.order, side, left, right),
+            Some((left, right)) => never_falls(self.rules.comparison, side, left, right),
             None => false,
         }
     }
 
     fn passes(&self, alloc: Global, found: &Found) -> Result<bool, AllocError> {
         let Some((from, to)) = sides(self.rules.index, found) else {
-            return Ok(false);
+            unreachable!()
         };
-        match self.rules.order.compare(from.as_nodes(), to.as_nodes()) {
-            Cmp::Greater => Ok(true),
-            Cmp::Less => Ok(false),
-            Cmp::Equal => Ok(false),
-            Cmp::Unknown => {
-                let least = self.rules.order.least();
+        match self.rules.comparison.of_sides(from, to) {
+            Falling::Always => Ok(true),
+            Falling::Never => Ok(false),
+            Falling::Unclear => {
+                let least = self.rules.comparison.least();
                 let smaller = completed_instance(alloc, to.as_nodes(), &found.subst, least)?;
-                let compared = self.rules.order.compare(self.term, smaller.as_slice());
-                Ok(is_greater(compared))
+                let falls = self
+                    .rules
+                    .comparison
+                    .is_greater(self.term, smaller.as_slice());
+                Ok(falls)
             }
         }
     }
@@ -68,29 +72,22 @@ pub fn sides<'a, I: Index>(index: &'a I, found: &Found) -> Option<(&'a Term, &'a
     }
 }
 
-fn is_greater(compared: Cmp) -> bool
-    ensures { IsTrue result ↔ (compared ≡ Cmp.Greater) }
-{
-    compared == Cmp::Greater
-}
-
-/// Whether a side of an equation is the other one, or smaller; so are its instances then.
-fn is_upward<O: Order>(order: &O, side: Side, left: &Term, right: &Term) -> bool
-    ensures { IsTrue result → IsUpward (O.meaning order.now).greater (side_of side (record { left = left.now; right = right.now })) (other_side_of side (record { left = left.now; right = right.now })) }
+/// Whether no instance of a side of an equation is greater than that of the other one, as far as the sides tell.
+fn never_falls<C: Comparison>(comparison: &C, side: Side, left: &Term, right: &Term) -> bool
+    ensures { IsTrue result → Tells (C.greater comparison.now) (side_of side (record { left = left.now; right = right.now })) (other_side_of side (record { left = left.now; right = right.now })) Never }
 {
     match side {
-        Side::Left => is_less_or_equal(order, left, right),
-        Side::Right => is_less_or_equal(order, right, left),
+        Side::Left => never_falls_from(comparison, left, right),
+        Side::Right => never_falls_from(comparison, right, left),
     }
 }
 
-fn is_less_or_equal<O: Order>(order: &O, s: &Term, t: &Term) -> bool
-    ensures { IsTrue result → IsUpward (O.meaning order.now).greater s.now t.now }
+fn never_falls_from<C: Comparison>(comparison: &C, from: &Term, to: &Term) -> bool
+    ensures { IsTrue result → Tells (C.greater comparison.now) from.now to.now Never }
 {
-    match order.compare(s.as_nodes(), t.as_nodes()) {
-        Cmp::Less => true,
-        Cmp::Equal => true,
-        Cmp::Greater => false,
-        Cmp::Unknown => false,
+    match comparison.of_sides(from, to) {
+        Falling::Never => true,
+        Falling::Always => false,
+        Falling::Unclear => false,
     }
 }

@@ -3,6 +3,7 @@
 //! failure).
 #![tactic(auto)]
 
+mod comparison;
 mod completed;
 mod falls;
 mod laws;
@@ -21,3 +22,5 @@ pub use scan::Scan;
 mod replaying_tests;
 #[cfg(test)]
 mod tests;
+#[cfg(test)]
+mod under_tests;

@@ -5,17 +5,19 @@ ghost use Rattle.uc_term.specs.Flat.{tree_of};
 ghost use Rattle.uc_fact.specs.declared.fact.Stop.TheVariants.{Full};
 ghost use Rattle.uc_fact.specs.Live.{equations_of};
 ghost use Rattle.uc_fact.specs.Ordered.{OStep, IsIrreducible};
-ghost use Rattle.uc_fact.specs.Chains.{Links};
+ghost use Rattle.uc_fact.specs.Chains.{Links, last_term};
 ghost use Rattle.uc_order.specs.VarOrders.{HasOnly, represented};
+ghost use Rattle.uc_rewrite.specs.Comparing.{VariablesAre};
 ghost use Rattle.uc_rewrite.specs.Normalising.{IsNormalOf};
 ghost use Rattle.uc_rewrite.specs.Walking.{Walks};
-ghost use Rattle.uc_rewrite.specs.Ends.{IsNext, IsLast, end_of_steps, normal_by};
+ghost use Rattle.uc_rewrite.specs.Ends.{IsNext, IsLast, normal_by};
 
+use crate::comparison::{ByOrder, Comparison, UnderCases};
 use crate::falls::Rules;
 use crate::walk::Walk;
 use std::alloc::{AllocError, Global};
 use uc_fact::{Chain, Index, Step, Stop};
-use uc_order::Order;
+use uc_order::{Order, represent};
 use uc_term::{Seq, Term, VarOrder};
 
 /// What normalising comes to: the term at its end, the chain that leads there, and why it stopped.
@@ -46,19 +48,7 @@ pub fn normalise<O: Order, I: Index>(
     ensures steps { IfOk result (λ normal. Links (OStep (O.meaning order.now).greater (O.meaning order.now).least (equations_of (I.live index.now))) term.now normal.chain.steps normal.term) }
     ensures full { IfOk result (λ normal. normal.stop ≡ Full → IsIrreducible (O.meaning order.now).greater (O.meaning order.now).least (equations_of (I.live index.now)) normal.term) }
 {
-    let rules = Rules { index, order };
-    let mut walk = Walk::new(alloc, term.as_nodes(), &rules)?;
-    let mut steps = Vec::new(alloc);
-    for _ in 0..limit {
-        match next_step(alloc, &mut walk, last_term(term, steps.as_slice()), &rules)? {
-            Next::Made(step) => steps.push(step)?,
-            Next::Irreducible => return ended(alloc, term, steps, Stop::Full),
-            Next::TooLarge => return ended(alloc, term, steps, Stop::Size),
-        }
-    }
-    let last = last_term(term, steps.as_slice());
-    let stop = last_stop(alloc, &mut walk, last, &rules)?;
-    ended(alloc, term, steps, stop)
+    normalise_by(alloc, term, index, &ByOrder { order }, limit)
 }
 
 /// Normalises a term as `normalise` does, but under an order of its variables. The term is first replaced by its
@@ -78,7 +68,34 @@ pub fn normalise_under<O: Order, I: Index>(
     ensures steps { IfOk result (λ normal. Links (OStep ((O.meaning order.now).under cases.now) (O.meaning order.now).least (equations_of (I.live index.now))) (represented cases.now term.now) normal.chain.steps normal.term) }
     ensures full { IfOk result (λ normal. normal.stop ≡ Full → IsIrreducible ((O.meaning order.now).under cases.now) (O.meaning order.now).least (equations_of (I.live index.now)) normal.term) }
 {
-    Err(AllocError)
+    let start = represent(alloc, cases, term)?;
+    normalise_by(alloc, &start, index, &UnderCases { order, cases }, limit)
+}
+
+/// Normalises a term by a comparison.
+fn normalise_by<C: Comparison, I: Index>(
+    alloc: Global,
+    term: &Term,
+    index: &I,
+    comparison: &C,
+    limit: u32,
+) -> Result<Normal, AllocError>
+    requires { VariablesAre (C.knows comparison.now) term.now }
+    ensures { IfOk result (IsNormalOf (C.greater comparison.now) (C.constant comparison.now) (I.live index.now) limit term.now) }
+{
+    let rules = Rules { index, comparison };
+    let mut walk = Walk::new(alloc, term.as_nodes(), &rules)?;
+    let mut steps = Vec::new(alloc);
+    for _ in 0..limit {
+        match next_step(alloc, &mut walk, last_term(term, steps.as_slice()), &rules)? {
+            Next::Made(step) => steps.push(step)?,
+            Next::Irreducible => return ended(alloc, term, steps, Stop::Full),
+            Next::TooLarge => return ended(alloc, term, steps, Stop::Size),
+        }
+    }
+    let last = last_term(term, steps.as_slice());
+    let stop = last_stop(alloc, &mut walk, last, &rules)?;
+    ended(alloc, term, steps, stop)
 }
 
 /// What comes next: a step, or the end, since no step is possible or the next one leads to a term of more than 4,096 nodes.
@@ -90,14 +107,15 @@ enum Next {
 }
 
 /// The first possible step of a term over which a walk goes.
-fn next_step<O: Order, I: Index>(
+fn next_step<C: Comparison, I: Index>(
     alloc: Global,
     walk: &mut Walk,
     term: &Term,
-    rules: &Rules<O, I>,
+    rules: &Rules<C, I>,
 ) -> Result<Next, AllocError>
-    requires { Walks (O.meaning rules.now.order.now).greater (O.meaning rules.now.order.now).least (I.live rules.now.index.now) term.now walk.old.opened.items walk.old.place }
-    ensures { IfOk result (IsNext (O.meaning rules.now.order.now).greater (O.meaning rules.now.order.now).least (I.live rules.now.index.now) term.now walk.new.opened.items walk.new.place) }
+    requires known { VariablesAre (C.knows rules.now.comparison.now) term.now }
+    requires walks { Walks (C.greater rules.now.comparison.now) (C.constant rules.now.comparison.now) (I.live rules.now.index.now) term.now walk.old.opened.items walk.old.place }
+    ensures { IfOk result (IsNext (C.greater rules.now.comparison.now) (C.constant rules.now.comparison.now) (I.live rules.now.index.now) term.now walk.new.opened.items walk.new.place) }
 {
     let list = term.as_nodes();
     let Some(redex) = walk.next(alloc, list, rules)? else {
@@ -110,14 +128,15 @@ fn next_step<O: Order, I: Index>(
 }
 
 /// Why there is no step where none may be made any more: a further one is possible, or none is.
-fn last_stop<O: Order, I: Index>(
+fn last_stop<C: Comparison, I: Index>(
     alloc: Global,
     walk: &mut Walk,
     term: &Term,
-    rules: &Rules<O, I>,
+    rules: &Rules<C, I>,
 ) -> Result<Stop, AllocError>
-    requires { Walks (O.meaning rules.now.order.now).greater (O.meaning rules.now.order.now).least (I.live rules.now.index.now) term.now walk.old.opened.items walk.old.place }
-    ensures { IfOk result (IsLast (O.meaning rules.now.order.now).greater (O.meaning rules.now.order.now).least (I.live rules.now.index.now) term.now) }
+    requires known { VariablesAre (C.knows rules.now.comparison.now) term.now }
+    requires walks { Walks (C.greater rules.now.comparison.now) (C.constant rules.now.comparison.now) (I.live rules.now.index.now) term.now walk.old.opened.items walk.old.place }
+    ensures { IfOk result (IsLast (C.greater rules.now.comparison.now) (C.constant rules.now.comparison.now) (I.live rules.now.index.now) term.now) }
 {
     let Some(_redex) = walk.next(alloc, term.as_nodes(), rules)? else {
         return Ok(Stop::Full);
@@ -127,7 +146,7 @@ fn last_stop<O: Order, I: Index>(
 
 /// The term to which the steps lead.
 fn last_term<'a>(start: &'a Term, steps: &'a [Step]) -> &'a Term
-    ensures { result.now ≡ end_of_steps start.now steps.now }
+    ensures { result.now ≡ last_term start.now steps.now }
 {
     match steps.last() {
         Some(step) => &step.to,

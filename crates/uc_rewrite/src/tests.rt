@@ -58,7 +58,7 @@ fn has_constant(symbols: &Symbols, list: &[Sym]) -> bool
     false
 }
 
-fn order(alloc: Global) -> Result<Lpo, Fail> {
+pub fn order(alloc: Global) -> Result<Lpo, Fail> {
     let symbols = symbols(alloc)?;
     if !are_known(&symbols, PRECEDENCE) || !has_constant(&symbols, PRECEDENCE) {
         return Err(Fail::from("no constant"));
@@ -97,7 +97,7 @@ fn one(alloc: Global, letter: u8, stack: &mut Vec<Term>) -> Result<Term, TermFau
 }
 
 // The term that the letters spell in postfix order.
-fn term(alloc: Global, letters: &[u8]) -> Result<Term, TermFault> {
+pub fn term(alloc: Global, letters: &[u8]) -> Result<Term, TermFault> {
     let mut stack: Vec<Term> = Vec::new(alloc);
     for letter in letters {
         let t = one(alloc, *letter, &mut stack)?;
@@ -106,7 +106,7 @@ fn term(alloc: Global, letters: &[u8]) -> Result<Term, TermFault> {
     pop(alloc, &mut stack)
 }
 
-fn equations(alloc: Global, facts: &[(&[u8], &[u8])]) -> Result<Vec<Equation>, TermFault> {
+pub fn equations(alloc: Global, facts: &[(&[u8], &[u8])]) -> Result<Vec<Equation>, TermFault> {
     let mut list = Vec::new(alloc);
     for fact in facts {
         let left = term(alloc, fact.0)?;

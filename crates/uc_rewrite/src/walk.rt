@@ -8,14 +8,15 @@ ghost use Rattle.uc_fact.specs.Live.{rules_of, equations_of};
 ghost use Rattle.uc_fact.specs.Retrieval.{FirstThat};
 ghost use Rattle.uc_fact.specs.Ordered.{IsIrreducible};
 ghost use Rattle.uc_rewrite.specs.Normalising.{is_left};
+ghost use Rattle.uc_rewrite.specs.Comparing.{VariablesAre};
 ghost use Rattle.uc_rewrite.specs.Completed.{LeadsDown};
 ghost use Rattle.uc_rewrite.specs.Walking.{arguments_of, Walks, Advances, Stops, Steps, IsLarge};
 
+use crate::comparison::Comparison;
 use crate::completed::completed_instance;
 use crate::falls::{Falls, Rules, sides};
 use std::alloc::{AllocError, Global};
 use uc_fact::{By, Found, Index, Side, Step};
-use uc_order::Order;
 use uc_term::{MAX_NODES, Node, Pos, Term};
 
 /// A subterm that is gone through: its place, and how many of its arguments are still to come.
@@ -43,13 +44,13 @@ pub struct Walk {
 
 impl Walk {
     /// A walk at the beginning of a term.
-    pub fn new<O: Order, I: Index>(
+    pub fn new<C: Comparison, I: Index>(
         alloc: Global,
         list: &[Node],
-        rules: &Rules<O, I>,
+        rules: &Rules<C, I>,
     ) -> Result<Walk, AllocError>
         requires whole { IsWhole list.now }
-        ensures { IfOk result (λ walk. Walks (O.meaning rules.now.order.now).greater (O.meaning rules.now.order.now).least (I.live rules.now.index.now) (tree_of list.now) walk.opened.items walk.place) }
+        ensures { IfOk result (λ walk. Walks (C.greater rules.now.comparison.now) (C.constant rules.now.comparison.now) (I.live rules.now.index.now) (tree_of list.now) walk.opened.items walk.place) }
     {
         let mut walk = Walk {
             opened: Vec::new(alloc),
@@ -79,16 +80,17 @@ impl Walk {
 
     /// Goes on to the first subterm from which a step is possible. None exactly where there is none, so that the term is
     /// irreducible.
-    pub fn next<O: Order, I: Index>(
+    pub fn next<C: Comparison, I: Index>(
         &mut self,
         alloc: Global,
         list: &[Node],
-        rules: &Rules<O, I>,
+        rules: &Rules<C, I>,
     ) -> Result<Option<Redex>, AllocError>
         requires whole { IsWhole list.now }
         requires small { length list.now ≤ MAX_NODES }
-        requires walks { Walks (O.meaning rules.now.order.now).greater (O.meaning rules.now.order.now).least (I.live rules.now.index.now) (tree_of list.now) self.old.opened.items self.old.place }
-        ensures { IfOk result (λ redex. MatchOption redex (IsIrreducible (O.meaning rules.now.order.now).greater (O.meaning rules.now.order.now).least (equations_of (I.live rules.now.index.now)) (tree_of list.now)) (Stops (O.meaning rules.now.order.now).greater (O.meaning rules.now.order.now).least (I.live rules.now.index.now) (tree_of list.now) self.new.opened.items)) }
+        requires known { VariablesAre (C.knows rules.now.comparison.now) (tree_of list.now) }
+        requires walks { Walks (C.greater rules.now.comparison.now) (C.constant rules.now.comparison.now) (I.live rules.now.index.now) (tree_of list.now) self.old.opened.items self.old.place }
+        ensures { IfOk result (λ redex. MatchOption redex (IsIrreducible (C.greater rules.now.comparison.now) (C.constant rules.now.comparison.now) (equations_of (I.live rules.now.index.now)) (tree_of list.now)) (Stops (C.greater rules.now.comparison.now) (C.constant rules.now.comparison.now) (I.live rules.now.index.now) (tree_of list.now) self.new.opened.items)) }
     {
         while let Some(top) = self.opened.pop() {
             if let Some(redex) = self.advance(alloc, list, rules, top)? {
@@ -100,17 +102,18 @@ impl Walk {
 
     /// Enters the next argument of the innermost subterm; or leaves that subterm behind, where it has no further one and no
     /// step from it is possible.
-    fn advance<O: Order, I: Index>(
+    fn advance<C: Comparison, I: Index>(
         &mut self,
         alloc: Global,
         list: &[Node],
-        rules: &Rules<O, I>,
+        rules: &Rules<C, I>,
         top: Open,
     ) -> Result<Option<Redex>, AllocError>
         requires whole { IsWhole list.now }
         requires small { length list.now ≤ MAX_NODES }
-        requires walks { Walks (O.meaning rules.now.order.now).greater (O.meaning rules.now.order.now).least (I.live rules.now.index.now) (tree_of list.now) (self.old.opened.items ++ top ∷ []) self.old.place }
-        ensures { IfOk result (λ redex. MatchOption redex (Advances (O.meaning rules.now.order.now).greater (O.meaning rules.now.order.now).least (I.live rules.now.index.now) list.now self.old.opened.items self.old.place self.new.opened.items self.new.place) (Stops (O.meaning rules.now.order.now).greater (O.meaning rules.now.order.now).least (I.live rules.now.index.now) (tree_of list.now) self.new.opened.items)) }
+        requires known { VariablesAre (C.knows rules.now.comparison.now) (tree_of list.now) }
+        requires walks { Walks (C.greater rules.now.comparison.now) (C.constant rules.now.comparison.now) (I.live rules.now.index.now) (tree_of list.now) (self.old.opened.items ++ top ∷ []) self.old.place }
+        ensures { IfOk result (λ redex. MatchOption redex (Advances (C.greater rules.now.comparison.now) (C.constant rules.now.comparison.now) (I.live rules.now.index.now) list.now self.old.opened.items self.old.place self.new.opened.items self.new.place) (Stops (C.greater rules.now.comparison.now) (C.constant rules.now.comparison.now) (I.live rules.now.index.now) (tree_of list.now) self.new.opened.items)) }
     {
         if top.pending > 0 {
             self.descend(list, top)?;
@@ -135,18 +138,19 @@ impl Walk {
     }
 
     /// Leaves the innermost subterm behind, where no step from it is possible.
-    fn leave<O: Order, I: Index>(
+    fn leave<C: Comparison, I: Index>(
         &self,
         alloc: Global,
         list: &[Node],
-        rules: &Rules<O, I>,
+        rules: &Rules<C, I>,
         top: Open,
     ) -> Result<Option<Redex>, AllocError>
         requires whole { IsWhole list.now }
         requires small { length list.now ≤ MAX_NODES }
+        requires known { VariablesAre (C.knows rules.now.comparison.now) (tree_of list.now) }
         requires none { top.pending ≡ 0 }
-        requires walks { Walks (O.meaning rules.now.order.now).greater (O.meaning rules.now.order.now).least (I.live rules.now.index.now) (tree_of list.now) (self.now.opened.items ++ top ∷ []) self.now.place }
-        ensures { IfOk result (λ redex. MatchOption redex (Walks (O.meaning rules.now.order.now).greater (O.meaning rules.now.order.now).least (I.live rules.now.index.now) (tree_of list.now) self.now.opened.items self.now.place) (Stops (O.meaning rules.now.order.now).greater (O.meaning rules.now.order.now).least (I.live rules.now.index.now) (tree_of list.now) self.now.opened.items)) }
+        requires walks { Walks (C.greater rules.now.comparison.now) (C.constant rules.now.comparison.now) (I.live rules.now.index.now) (tree_of list.now) (self.now.opened.items ++ top ∷ []) self.now.place }
+        ensures { IfOk result (λ redex. MatchOption redex (Walks (C.greater rules.now.comparison.now) (C.constant rules.now.comparison.now) (I.live rules.now.index.now) (tree_of list.now) self.now.opened.items self.now.place) (Stops (C.greater rules.now.comparison.now) (C.constant rules.now.comparison.now) (I.live rules.now.index.now) (tree_of list.now) self.now.opened.items)) }
     {
         let term = part(list, top.place, self.place);
         match first_possible(alloc, term, rules)? {
@@ -161,22 +165,22 @@ impl Walk {
 
     /// The step from the subterm at which the walk stopped; the walk then stands at the beginning of the new subterm. None
     /// exactly where the step leads to a term of more than 4,096 nodes.
-    pub fn step<O: Order, I: Index>(
+    pub fn step<C: Comparison, I: Index>(
         &mut self,
         alloc: Global,
         list: &[Node],
-        rules: &Rules<O, I>,
+        rules: &Rules<C, I>,
         redex: &Redex,
     ) -> Result<Option<Step>, AllocError>
         requires whole { IsWhole list.now }
         requires small { length list.now ≤ MAX_NODES }
-        requires stops { Stops (O.meaning rules.now.order.now).greater (O.meaning rules.now.order.now).least (I.live rules.now.index.now) (tree_of list.now) self.old.opened.items redex.now }
-        ensures { IfOk result (λ step. MatchOption step (IsLarge (O.meaning rules.now.order.now).greater (O.meaning rules.now.order.now).least (I.live rules.now.index.now) (tree_of list.now)) (λ step. Steps (O.meaning rules.now.order.now).greater (O.meaning rules.now.order.now).least (I.live rules.now.index.now) (tree_of list.now) step self.new.opened.items self.new.place)) }
+        requires stops { Stops (C.greater rules.now.comparison.now) (C.constant rules.now.comparison.now) (I.live rules.now.index.now) (tree_of list.now) self.old.opened.items redex.now }
+        ensures { IfOk result (λ step. MatchOption step (IsLarge (C.greater rules.now.comparison.now) (C.constant rules.now.comparison.now) (I.live rules.now.index.now) (tree_of list.now)) (λ step. Steps (C.greater rules.now.comparison.now) (C.constant rules.now.comparison.now) (I.live rules.now.index.now) (tree_of list.now) step self.new.opened.items self.new.place)) }
     {
         let Some((_, to)) = sides(rules.index, &redex.found) else {
-            return Ok(None);
+            unreachable!()
         };
-        let least = rules.order.least();
+        let least = rules.comparison.least();
         let part = completed_instance(alloc, to.as_nodes(), &redex.found.subst, least)?;
         if list.len() - (redex.to - redex.from) + part.len() > MAX_NODES {
             return Ok(None);
@@ -213,14 +217,15 @@ fn part(list: &[Node], from: usize, to: usize) -> &[Node]
 }
 
 /// The first by which a step from the term is possible.
-fn first_possible<O: Order, I: Index>(
+fn first_possible<C: Comparison, I: Index>(
     alloc: Global,
     term: &[Node],
-    rules: &Rules<O, I>,
+    rules: &Rules<C, I>,
 ) -> Result<Option<Found>, AllocError>
     requires whole { IsWhole term.now }
     requires small { length term.now ≤ MAX_NODES }
-    ensures { IfOk result (FirstThat (LeadsDown (O.meaning rules.now.order.now).greater (O.meaning rules.now.order.now).least (I.live rules.now.index.now) (tree_of term.now)) (tree_of term.now) (rules_of (I.live rules.now.index.now))) }
+    requires known { VariablesAre (C.knows rules.now.comparison.now) (tree_of term.now) }
+    ensures { IfOk result (FirstThat (LeadsDown (C.greater rules.now.comparison.now) (C.constant rules.now.comparison.now) (I.live rules.now.index.now) (tree_of term.now)) (tree_of term.now) (rules_of (I.live rules.now.index.now))) }
 {
     rules.index.first_that(alloc, term, &Falls { rules, term })
 }

@@ -6,14 +6,14 @@ use Rattle.uc_rewrite.proofs.Advancing.{descent, descended, changed}
 use Rattle.uc_rewrite.proofs.walk.Walk.advance.Goals as goal
 
 pub descend-requires-clause-within : goal.descend-requires-clause-within
-descend-requires-clause-within g c = (descent (g.O.Order.meaning c.args.rules.now.order.now).greater (g.O.Order.meaning c.args.rules.now.order.now).least (g.I.Index.live c.args.rules.now.index.now) c.args.list.now c.requires.whole c.args.self.now.opened.items c.args.top c.args.self.now.place c.if-top-gt0.true c.requires.walks).within
+descend-requires-clause-within g c = (descent (g.C.Comparison.greater c.args.rules.now.comparison.now) (g.C.Comparison.constant c.args.rules.now.comparison.now) (g.I.Index.live c.args.rules.now.index.now) c.args.list.now c.requires.whole c.args.self.now.opened.items c.args.top c.args.self.now.place c.if-top-gt0.true c.requires.walks).within
 
 pub returns-in_ok-descend : goal.returns-in_ok-descend
-returns-in_ok-descend g c = descended (g.O.Order.meaning c.args.rules.now.order.now).greater (g.O.Order.meaning c.args.rules.now.order.now).least (g.I.Index.live c.args.rules.now.index.now) c.args.list.now c.requires.whole c.args.self.now.opened.items c.args.top c.args.self.now.place (descent (g.O.Order.meaning c.args.rules.now.order.now).greater (g.O.Order.meaning c.args.rules.now.order.now).least (g.I.Index.live c.args.rules.now.index.now) c.args.list.now c.requires.whole c.args.self.now.opened.items c.args.top c.args.self.now.place c.if-top-gt0.true c.requires.walks) c.descend.new.self.opened.items c.descend.new.self.place c.in_ok-descend.ensures.opened c.in_ok-descend.ensures.place
+returns-in_ok-descend g c = descended (g.C.Comparison.greater c.args.rules.now.comparison.now) (g.C.Comparison.constant c.args.rules.now.comparison.now) (g.I.Index.live c.args.rules.now.index.now) c.args.list.now c.requires.whole c.args.self.now.opened.items c.args.top c.args.self.now.place (descent (g.C.Comparison.greater c.args.rules.now.comparison.now) (g.C.Comparison.constant c.args.rules.now.comparison.now) (g.I.Index.live c.args.rules.now.index.now) c.args.list.now c.requires.whole c.args.self.now.opened.items c.args.top c.args.self.now.place c.if-top-gt0.true c.requires.walks) c.descend.new.self.opened.items c.descend.new.self.place c.in_ok-descend.ensures.opened c.in_ok-descend.ensures.place
 
 pub leave-requires-clause-none : goal.leave-requires-clause-none
 leave-requires-clause-none g c = let h = c.if-top-gt0.false in omega arith
 
 pub returns-else-top-gt0 : goal.returns-else-top-gt0
 returns-else-top-gt0 g c =
-    IfOk-weaker c.leave.result (λ redex. MatchOption redex (Walks (g.O.Order.meaning c.args.rules.now.order.now).greater (g.O.Order.meaning c.args.rules.now.order.now).least (g.I.Index.live c.args.rules.now.index.now) (tree_of c.args.list.now) c.args.self.now.opened.items c.args.self.now.place) (Stops (g.O.Order.meaning c.args.rules.now.order.now).greater (g.O.Order.meaning c.args.rules.now.order.now).least (g.I.Index.live c.args.rules.now.index.now) (tree_of c.args.list.now) c.args.self.now.opened.items)) (λ redex. MatchOption redex (Advances (g.O.Order.meaning c.args.rules.now.order.now).greater (g.O.Order.meaning c.args.rules.now.order.now).least (g.I.Index.live c.args.rules.now.index.now) c.args.list.now c.args.self.now.opened.items c.args.self.now.place c.args.self.now.opened.items c.args.self.now.place) (Stops (g.O.Order.meaning c.args.rules.now.order.now).greater (g.O.Order.meaning c.args.rules.now.order.now).least (g.I.Index.live c.args.rules.now.index.now) (tree_of c.args.list.now) c.args.self.now.opened.items)) (λ redex m. changed (Walks (g.O.Order.meaning c.args.rules.now.order.now).greater (g.O.Order.meaning c.args.rules.now.order.now).least (g.I.Index.live c.args.rules.now.index.now) (tree_of c.args.list.now) c.args.self.now.opened.items c.args.self.now.place) (Advances (g.O.Order.meaning c.args.rules.now.order.now).greater (g.O.Order.meaning c.args.rules.now.order.now).least (g.I.Index.live c.args.rules.now.index.now) c.args.list.now c.args.self.now.opened.items c.args.self.now.place c.args.self.now.opened.items c.args.self.now.place) (Stops (g.O.Order.meaning c.args.rules.now.order.now).greater (g.O.Order.meaning c.args.rules.now.order.now).least (g.I.Index.live c.args.rules.now.index.now) (tree_of c.args.list.now) c.args.self.now.opened.items) redex (λ walks. (walks, omega arith)) m) c.leave.ensures
+    IfOk-weaker c.leave.result (λ redex. MatchOption redex (Walks (g.C.Comparison.greater c.args.rules.now.comparison.now) (g.C.Comparison.constant c.args.rules.now.comparison.now) (g.I.Index.live c.args.rules.now.index.now) (tree_of c.args.list.now) c.args.self.now.opened.items c.args.self.now.place) (Stops (g.C.Comparison.greater c.args.rules.now.comparison.now) (g.C.Comparison.constant c.args.rules.now.comparison.now) (g.I.Index.live c.args.rules.now.index.now) (tree_of c.args.list.now) c.args.self.now.opened.items)) (λ redex. MatchOption redex (Advances (g.C.Comparison.greater c.args.rules.now.comparison.now) (g.C.Comparison.constant c.args.rules.now.comparison.now) (g.I.Index.live c.args.rules.now.index.now) c.args.list.now c.args.self.now.opened.items c.args.self.now.place c.args.self.now.opened.items c.args.self.now.place) (Stops (g.C.Comparison.greater c.args.rules.now.comparison.now) (g.C.Comparison.constant c.args.rules.now.comparison.now) (g.I.Index.live c.args.rules.now.index.now) (tree_of c.args.list.now) c.args.self.now.opened.items)) (λ redex m. changed (Walks (g.C.Comparison.greater c.args.rules.now.comparison.now) (g.C.Comparison.constant c.args.rules.now.comparison.now) (g.I.Index.live c.args.rules.now.index.now) (tree_of c.args.list.now) c.args.self.now.opened.items c.args.self.now.place) (Advances (g.C.Comparison.greater c.args.rules.now.comparison.now) (g.C.Comparison.constant c.args.rules.now.comparison.now) (g.I.Index.live c.args.rules.now.index.now) c.args.list.now c.args.self.now.opened.items c.args.self.now.place c.args.self.now.opened.items c.args.self.now.place) (Stops (g.C.Comparison.greater c.args.rules.now.comparison.now) (g.C.Comparison.constant c.args.rules.now.comparison.now) (g.I.Index.live c.args.rules.now.index.now) (tree_of c.args.list.now) c.args.self.now.opened.items) redex (λ walks. (walks, omega arith)) m) c.leave.ensures

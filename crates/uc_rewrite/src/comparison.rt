@@ -1,0 +1,113 @@
+//! How terms are compared where facts are used: by an order, or by it under an order of variables.
+
+ghost use Rattle.std.specs.Prelude.{◌≡◌};
+
+use uc_order::{Cmp, Order};
+use uc_term::{MAX_INSTANCE, Node, Sym, Term, VarOrder};
+
+/// What the two sides of a fact tell of their instances: that of the one is always greater, it never is, or this depends on
+/// the instance.
+#[derive(Clone, Copy, PartialEq, Eq)]
+pub enum Falling {
+    Always,
+    Never,
+    Unclear,
+}
+
+/// A comparison of terms by which facts are used.
+pub trait Comparison {
+    ghost use Rattle.std.specs.Prelude.{ℕ, ◌≡◌, ◌≤◌, ◌↔◌, length, IsTrue};
+    ghost use Rattle.uc_term.specs.Tree.{Tree};
+    ghost use Rattle.uc_term.specs.Flat.{tree_of, IsWhole};
+    ghost use Rattle.uc_term.specs.declared.node.Sym.{Sym as AnySym};
+    ghost use Rattle.uc_rewrite.specs.Comparing.{VariablesAre, Tells};
+
+    /// What is greater.
+    ghost greater: { Self → Tree → Tree → Type 0 };
+
+    /// What stands for the variables that only one side of a fact has.
+    ghost constant: { Self → AnySym };
+
+    /// The variables that may occur in terms that are compared.
+    ghost knows: { Self → ℕ → Type 0 };
+
+    /// Whether the first term is greater. It takes no memory.
+    fn is_greater(&self, s: &[Node], t: &[Node]) -> bool
+        requires s_whole { IsWhole s.now }
+        requires t_whole { IsWhole t.now }
+        requires s_small { length s.now ≤ MAX_INSTANCE }
+        requires t_small { length t.now ≤ MAX_INSTANCE }
+        requires s_known { VariablesAre (knows self.now) (tree_of s.now) }
+        requires t_known { VariablesAre (knows self.now) (tree_of t.now) }
+        ensures { IsTrue result ↔ greater self.now (tree_of s.now) (tree_of t.now) };
+
+    /// What the two sides of a fact tell of their instances. It takes no memory.
+    fn of_sides(&self, from: &Term, to: &Term) -> Falling
+        ensures { Tells (greater self.now) from.now to.now result };
+
+    /// The constant that stands for the variables that only one side of a fact has.
+    fn least(&self) -> Sym
+        ensures { result ≡ constant self.now };
+}
+
+/// The comparison by an order.
+#[derive(Drop)]
+pub struct ByOrder<'a, O> {
+    pub order: &'a O,
+}
+
+impl<'a, O: Order> Comparison for ByOrder<'a, O> {
+    ghost greater = { λ s. (O.meaning s.order.now).greater };
+
+    ghost constant = { λ s. (O.meaning s.order.now).least };
+
+    ghost knows = { λ s x. Unit {0} };
+
+    fn is_greater(&self, s: &[Node], t: &[Node]) -> bool {
+        self.order.compare(s, t) == Cmp::Greater
+    }
+
+    // An order keeps to instances, so what it says of the sides holds of all of them.
+    fn of_sides(&self, from: &Term, to: &Term) -> Falling {
+        match self.order.compare(from.as_nodes(), to.as_nodes()) {
+            Cmp::Greater => Falling::Always,
+            Cmp::Less => Falling::Never,
+            Cmp::Equal => Falling::Never,
+            Cmp::Unknown => Falling::Unclear,
+        }
+    }
+
+    fn least(&self) -> Sym {
+        self.order.least()
+    }
+}
+
+/// The comparison by an order, under an order of the variables.
+#[derive(Drop)]
+pub struct UnderCases<'a, O> {
+    pub order: &'a O,
+    pub cases: &'a VarOrder,
+}
+
+impl<'a, O: Order> Comparison for UnderCases<'a, O> {
+    ghost use Rattle.uc_order.specs.VarOrders.{Among};
+
+    ghost greater = { λ s. (O.meaning s.order.now).under s.cases.now };
+
+    ghost constant = { λ s. (O.meaning s.order.now).least };
+
+    ghost knows = { λ s. Among s.cases.now };
+
+    fn is_greater(&self, s: &[Node], t: &[Node]) -> bool {
+        self.order.compare_under(self.cases, s, t) == Cmp::Greater
+    }
+
+    // The order of the variables says nothing of those of a fact.
+    fn of_sides(&self, _from: &Term, _to: &Term) -> Falling {
+        Falling::Unclear
+    }
+
+    fn least(&self) -> Sym {
+        self.order.least()
+    }
+}
