@@ -42,6 +42,19 @@ fn is_instance(pattern: &[Node], term: &[Node]) -> bool
     }
 }
 
+/// Whether the first symbols are different, so that the term is no instance of the pattern. It takes no memory and looks at
+/// one node of each.
+pub fn heads_differ(pattern: &[Node], term: &[Node]) -> bool
+    requires whole_pattern { IsWhole pattern.now }
+    requires whole_term { IsWhole term.now }
+    ensures { IsTrue result → HasNoMatch (tree_of pattern.now) (tree_of term.now) }
+{
+    match pattern[0] {
+        Node::Var(_) => false,
+        Node::App(f, n) => !is_head(term[0], f, n),
+    }
+}
+
 /// Whether the term has the pattern's symbols where the pattern has them.
 fn fits(pattern: &[Node], term: &[Node]) -> bool
     requires whole_pattern { IsWhole pattern.now }

@@ -9,7 +9,7 @@ ghost use Rattle.uc_fact.specs.Retrieval.{FindsNothing, IsFound, FirstThat};
 ghost use Rattle.uc_rewrite.specs.Scanning.{live_fact, Adds};
 
 use std::alloc::{AllocError, Global};
-use uc_fact::{Equation, Found, Index, Side, Test, matching};
+use uc_fact::{Equation, Found, Index, Side, Test, heads_differ, matching};
 use uc_term::{MAX_NODES, Node, Seq, Term};
 
 /// An index of equations, numbered by their places, that looks through the list of them. It takes no
@@ -143,10 +143,14 @@ fn first_of_side<T: Test>(
     ensures value { IfOk result (FirstThat (T.accepts test.now) (tree_of term.now) (rule_of side (live_fact number fact.now) ∷ [])) }
     ensures memory { OnErr result (FindsNothing (tree_of term.now) (rule_of side (live_fact number fact.now) ∷ []) → ⊥) }
 {
+    let pattern = side_term(fact, side).as_nodes();
+    if heads_differ(pattern, term) {
+        return Ok(None);
+    }
     if test.rules_out(number, side) {
         return Ok(None);
     }
-    match matching(alloc, side_term(fact, side).as_nodes(), term)? {
+    match matching(alloc, pattern, term)? {
         Some(subst) => {
             let found = Found {
                 fact: number,
