@@ -183,8 +183,8 @@ module _ (t : Tree) where
   pub ahead_on : (all left these later : List Rule) (old new : List Found) → left ≡ these ++ later → Adds t these old new → Ahead all left old → Ahead all later new
   ahead_on all left these later old new at a s = record {
     gives = λ rest g. (
-      let more : Generalises t all (old ++ (a.list ++ rest)) = s.gives (a.list ++ rest) (subst (λ r. Generalises t r (a.list ++ rest)) (sym at) (joined these later a.list rest a.generalises g)) in
-      subst (Generalises t all) (sym (append_assoc old a.list rest) ∙ ap (λ l. l ++ rest) (sym a.new_is)) more);
+        let more : Generalises t all (old ++ (a.list ++ rest)) = s.gives (a.list ++ rest) (subst (λ r. Generalises t r (a.list ++ rest)) (sym at) (joined these later a.list rest a.generalises g)) in
+        subst (Generalises t all) (sym (append_assoc old a.list rest) ∙ ap (λ l. l ++ rest) (sym a.new_is)) more);
     nothing = λ g. nothing_right these later (subst (λ r. Generalises t r []) at (s.nothing g));
   }
 
@@ -214,13 +214,16 @@ module _ (t : Tree) where
       found_none : (rule : Rule) → HasMatch rule.from t → Generalises t (rule ∷ []) [] → ⊥
       found_none rule m (is_no_instance n g) = n m.σ m.gives
 
+  found_one : (rule : Rule) (found : Found) → IsFound t (rule ∷ []) found → (found.fact ≡ rule.number) × (found.side ≡ rule.side)
+  found_one rule _ (by_first m) = (refl, refl)
+  found_one rule found (by_later i) = elim i [ ]
+
   pub found_side : (all : List Entry) (side : Side) (n : ℕ) (f : Fact) (found : Found) → IsFound t (rule_if_lives all side n f) found → (found.fact ≡ n) × (found.side ≡ side)
-  found_side all side n f found i = by_dead (is_dead all n) i
+  found_side all side n f found i = by_dead (is_dead all n) found i
     where
-      by_dead : (b : Bool) → IsFound t (cond b [] (rule_of side (record { number = n; equation = equation_of f }) ∷ [])) found → (found.fact ≡ n) × (found.side ≡ side)
-      by_dead true i = elim i [ ]
-      by_dead false (by_first m) = (refl, refl)
-      by_dead false (by_later i) = elim i [ ]
+      by_dead : (b : Bool) (found : Found) → IsFound t (cond b [] (rule_of side (record { number = n; equation = equation_of f }) ∷ [])) found → (found.fact ≡ n) × (found.side ≡ side)
+      by_dead true found i = elim i [ ]
+      by_dead false found i = found_one (rule_of side (record { number = n; equation = equation_of f })) found i
 
   pub found_only : (rules : List Rule) (found : Found) → Generalises t rules (found ∷ []) → IsFound t rules found
   found_only [] found g = elim g [ ]
