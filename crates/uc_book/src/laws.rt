@@ -10,7 +10,7 @@ ghost use Rattle.uc_book.specs.Effects.{reclaims, recalls};
 ghost use Rattle.uc_book.specs.Draws.{Reply, Draws};
 ghost use Rattle.uc_book.specs.Commits.{Commits};
 ghost use Rattle.uc_book.specs.Runs.{Reaches, AuditReply, Audits, Closes};
-ghost use Rattle.uc_book.specs.Promises.{Grew, FrontsArePrefixes, FrontsAreEarlier, TicketsDiffer, OneState, EndsPairsOnce, CountsUnits, CountsWorkers, DiesOnce};
+ghost use Rattle.uc_book.specs.Promises.{Grew, FrontsArePrefixes, FrontsAreEarlier, GoalsAtRest, TicketsDiffer, OneState, EndsPairsOnce, CountsUnits, CountsWorkers, DiesOnce};
 
 use uc_order::Order;
 
@@ -64,4 +64,10 @@ pub fn dies_once<O: Order>(order: &O)
 /// by the facts that live in that front.
 pub fn fronts_are_earlier<O: Order>(order: &O)
     ensures { (o : Opening) (s : State) → Reaches (O.meaning order.now) o s → FrontsAreEarlier (O.meaning order.now) s }
+{}
+
+/// A Settled goal's ends have no ordered step by the facts that live now, and a Stuck goal has an end whose next ordered step
+/// by these facts leads to a term that is too large.
+pub fn goals_at_rest<O: Order>(order: &O)
+    ensures { (o : Opening) (s : State) → Reaches (O.meaning order.now) o s → GoalsAtRest (O.meaning order.now) s }
 {}
