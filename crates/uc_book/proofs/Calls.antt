@@ -51,7 +51,7 @@ use Rattle.uc_book.specs.declared.task.Outcome.{Outcome}
 use Rattle.uc_book.specs.Chains.{end_of}
 use Rattle.uc_book.specs.Draws.{Reply, NoneDue, NoneUnmet, IsLate, Waits, NothingWaits, Draws, verdict_stands, goal_is_due, fact_is_unmet, orphan_is_dropped, goal_is_continued, pair_is_drawn, budget_is_out, budget_is_spent, all_is_out, all_is_done}
 use Rattle.uc_book.specs.Commits.{GoalEnds, ends_meet, ends_differ, StageAfter, Meets, within_limit, past_limit, deaths, newly_waiting, stays, steps_of, end_word, Commits, is_late, goal_ends, more_ends, pair_joins, fact_is_kept, fact_is_stale, fact_is_dead, fact_meets}
-use Rattle.uc_book.specs.Runs.{axiom_pairs, opened, Starts, axioms_wait, too_many_axioms, Audits, is_closed, is_spent, is_kept, Closes, converges, has_large, has_stuck, IsDrained, IsAudited, not_yet, once_more, MayAudit}
+use Rattle.uc_book.specs.Runs.{AuditReply, axiom_pairs, opened, Starts, axioms_wait, too_many_axioms, Audits, is_closed, is_spent, is_kept, Closes, converges, has_large, has_stuck, IsDrained, IsAudited, not_yet, once_more, MayAudit}
 use Rattle.uc_book.proofs.Kept.{Facts, IsBusy, is_same, Tasks, to_end, EndsOnce, Numbered, Accounts, Kept}
 use Rattle.uc_book.proofs.Lists.{get-append, below, get-change_same, get-change_other, Each-map}
 use Rattle.uc_book.proofs.Found.{IsFound, first_is, IsPlace, peek_is}
@@ -60,7 +60,7 @@ use Rattle.uc_book.proofs.Steps.{tasks_stay, kept_goal, kept_more, kept_meet, ke
 
 -- draw
 
-waits_is : (c : Condition) → is_waiting c ≡ true → c ≡ Waiting
+pub waits_is : (c : Condition) → is_waiting c ≡ true → c ≡ Waiting
 waits_is Waiting e = refl
 waits_is (OutTo w) e = absurd (false≢true e)
 waits_is Done e = absurd (false≢true e)
@@ -197,68 +197,65 @@ pub record MeetsRightly (i n : ℕ) (ks : List ℕ) (fs : List Formed) : Type 0 
   pub later_is : Each (λ (f : Formed). later_fact f.overlap ≡ i) fs
   pub differ : AllDiffer fs
 
-kept_meets : (o : Opening) (s u : State) (n w i f pairs : ℕ) (does : State → State) → (let t : Out = record { ticket = n; worker = w; job = Meet i; front = f } in Kept o s → out_at n s.out ≡ Some t
-    → ((c d : ℕ) → Kept o (is_met i (accepts t (CommitMeet i c d) s)) → Kept o (does (is_met i (accepts t (CommitMeet i c d) s)))) → Meets o t i pairs does s u → Kept o u)
-kept_meets o s _ n w i f pairs does k at g (within_limit died a b) =
-    g pairs died (kept_met o s n w i f (CommitMeet i pairs died) k at (record { no_draw = refl; commit = refl; no_reclaim = refl; unit = refl }) (λ q. refl))
-kept_meets o s _ n w i f pairs does k at g (past_limit more a b) =
-    kept_close o (is_met i (accepts (record { ticket = n; worker = w; job = Meet i; front = f }) (CommitMeet i 0 0) s)) w (PairsOut (length (queue s)) more)
-    (kept_met o s n w i f (CommitMeet i 0 0) k at (record { no_draw = refl; commit = refl; no_reclaim = refl; unit = refl }) (λ q. refl))
+kept_meets : (o : Opening) (s : State) (t : Out) (i pairs : ℕ) (does : State → State) (u : State) → ((c d : ℕ) → Kept o (is_met i (accepts t (CommitMeet i c d) s)))
+    → ((c d : ℕ) → Kept o (is_met i (accepts t (CommitMeet i c d) s)) → Kept o (does (is_met i (accepts t (CommitMeet i c d) s)))) → Meets o t i pairs does s u → Kept o u
+kept_meets o s t i pairs does _ m g (within_limit died a b) = g pairs died (m pairs died)
+kept_meets o s t i pairs does _ m g (past_limit more a b) = kept_close o (is_met i (accepts t (CommitMeet i 0 0) s)) t.worker (PairsOut (length (queue s)) more) (m 0 0)
 
-kept_goal_ends : (o : Opening) (s u : State) (n w fr : ℕ) (j : Job) (g : ℕ) (kind : ℕ → ℕ → GoalEnd → Happening) (c d : Chain) (stop : Stop) → (let t : Out = record { ticket = n; worker = w; job = j; front = fr } in
-    Kept o s → out_at n s.out ≡ Some t → ((k : ℕ) (e : GoalEnd) → IsCommitOf (draws_in s.history) t (kind g k e)) → ((k : ℕ) (e : GoalEnd) (q : ℕ) → ends_pair q (kind g k e) ≡ false)
-    → ((gs : List Target) (h : Target → Target) (v : ℕ) (i : Job) → is_same j i ≡ false → IsBusy s.pairs gs s.meetings v i → IsBusy s.pairs (change h gs g) s.meetings v i)
-    → GoalEnds kind t g c d stop s u → Kept o u)
-kept_goal_ends o s _ n w fr j g kind c d stop k at is never stay (ends_meet e) =
-    let t : Out = record { ticket = n; worker = w; job = j; front = fr } in
-    kept_close o (takes_ends g c d (accepts t (kind g (steps_of c d) EndsMet) s)) w (Proved g) (kept_ends o s n w fr j _ (kind g (steps_of c d) EndsMet) k at (is _ _) (never _ _) (λ v i x b. stay s.goals (goes_on c d) v i x b))
-kept_goal_ends o s _ n w fr j g kind c d stop k at is never stay (ends_differ x e a) =
-    kept_ends o s n w fr j _ (kind g (steps_of c d) (end_word stop)) k at (is _ _) (never _ _)
-    (λ v i y b. stay (change (goes_on c d) s.goals g) _ v i y (stay s.goals (goes_on c d) v i y b))
+kept_goal_ends : (o : Opening) (s : State) (t : Out) (g : ℕ) (kind : ℕ → ℕ → GoalEnd → Happening) (c d : Chain) (stop : Stop) (u : State)
+    → Kept o (takes_ends g c d (accepts t (kind g (steps_of c d) EndsMet) s)) → ((x : Stage) → Kept o (stages x g (takes_ends g c d (accepts t (kind g (steps_of c d) (end_word stop)) s))))
+    → GoalEnds kind t g c d stop s u → Kept o u
+kept_goal_ends o s t g kind c d stop _ met differ (ends_meet e) = kept_close o (takes_ends g c d (accepts t (kind g (steps_of c d) EndsMet) s)) t.worker (Proved g) met
+kept_goal_ends o s t g kind c d stop _ met differ (ends_differ x e a) = differ x
 
-commits_by_job : (o : Opening) (s u : State) (n w fr : ℕ) (j : Job) (f : Finding) → (let t : Out = record { ticket = n; worker = w; job = j; front = fr } in
-    Kept o s → out_at n s.out ≡ Some t → ((i : ℕ) (ks : List ℕ) (fs : List Formed) → j ≡ Meet i → f ≡ Visited ks fs → MeetsRightly i (length (born (take fr s.entries))) ks fs) → Commits o t f s u → Kept o u)
-commits_by_job o s _ n w fr j f k at right (is_late v e) = kept_late o s (record { ticket = n; worker = w; job = j; front = fr }) k at
-commits_by_job o s u n w fr j _ k at right (goal_ends {l = c} {r = d} {stop = stop} g a b e is ends_) =
-    let at2 : out_at n s.out ≡ Some (record { ticket = n; worker = w; job = Goal g a b; front = fr }) = subst (λ x. out_at n s.out ≡ Some (record { ticket = n; worker = w; job = x; front = fr })) is at in
-    kept_goal_ends o s u n w fr (Goal g a b) g CommitGoal c d stop k at2 (λ x y. record { no_draw = refl; commit = refl; no_reclaim = refl; unit = refl }) (λ x y q. refl) (λ gs h v i x y. busy-goal s.pairs gs s.meetings h g a b v i x y)
-    (subst (λ x. GoalEnds CommitGoal (record { ticket = n; worker = w; job = x; front = fr }) g c d stop s u) is ends_)
-commits_by_job o s u n w fr j _ k at right (more_ends {l = c} {r = d} {stop = stop} g a b e is ends_) =
-    let at2 : out_at n s.out ≡ Some (record { ticket = n; worker = w; job = More g a b; front = fr }) = subst (λ x. out_at n s.out ≡ Some (record { ticket = n; worker = w; job = x; front = fr })) is at in
-    kept_goal_ends o s u n w fr (More g a b) g CommitMore c d stop k at2 (λ x y. record { no_draw = refl; commit = refl; no_reclaim = refl; unit = refl }) (λ x y q. refl) (λ gs h v i x y. busy-more s.pairs gs s.meetings h g a b v i x y)
-    (subst (λ x. GoalEnds CommitMore (record { ticket = n; worker = w; job = x; front = fr }) g c d stop s u) is ends_)
-commits_by_job o s _ n w fr j _ k at right (pair_joins p a e is) =
-    let at2 : out_at n s.out ≡ Some (record { ticket = n; worker = w; job = Join p a; front = fr }) = subst (λ x. out_at n s.out ≡ Some (record { ticket = n; worker = w; job = x; front = fr })) is at in
-    subst (λ x. Kept o (turns Done p (accepts (record { ticket = n; worker = w; job = x; front = fr }) (CommitJoined p) s))) (sym is)
-    (kept_done o s n w p fr a (CommitJoined p) k at2 (record { no_draw = refl; commit = refl; no_reclaim = refl; unit = refl }) (λ q. refl))
-commits_by_job o s _ n w fr j _ k at right (fact_is_kept {f = f} p a e is) =
-    let at2 : out_at n s.out ≡ Some (record { ticket = n; worker = w; job = Join p a; front = fr }) = subst (λ x. out_at n s.out ≡ Some (record { ticket = n; worker = w; job = x; front = fr })) is at in
-    subst (λ x. Kept o (publishes f (turns Done p (accepts (record { ticket = n; worker = w; job = x; front = fr }) (CommitKept p (length (born s.entries))) s)))) (sym is)
-    (kept_publish o _ f (kept_done o s n w p fr a (CommitKept p (length (born s.entries))) k at2 (record { no_draw = refl; commit = refl; no_reclaim = refl; unit = refl }) (λ q. refl)))
-commits_by_job o s u n w fr j _ k at right (fact_is_stale {k = c} i e is m) =
-    let at2 : out_at n s.out ≡ Some (record { ticket = n; worker = w; job = Meet i; front = fr }) = subst (λ x. out_at n s.out ≡ Some (record { ticket = n; worker = w; job = x; front = fr })) is at in
-    let b : i < length s.meetings = below s.meetings i Visiting (at_task o s (record { ticket = n; worker = w; job = Meet i; front = fr }) k at2) in
-    let q : length s.meetings ≡ length (born s.entries) = k.facts.each_meets in
-    kept_meets o s u n w i fr 0 (λ v. kills c i v) k at2 (λ x y h. kept_kills o (is_met i (accepts (record { ticket = n; worker = w; job = Meet i; front = fr }) (CommitMeet i x y) s)) c i (omega arith) h)
-    (subst (λ x. Meets o (record { ticket = n; worker = w; job = x; front = fr }) i 0 (λ v. kills c i v) s u) is m)
-commits_by_job o s u n w fr j _ k at right (fact_is_dead i e is dead m) =
-    let at2 : out_at n s.out ≡ Some (record { ticket = n; worker = w; job = Meet i; front = fr }) = subst (λ x. out_at n s.out ≡ Some (record { ticket = n; worker = w; job = x; front = fr })) is at in
-    kept_meets o s u n w i fr 0 stays k at2 (λ x y h. h) (subst (λ x. Meets o (record { ticket = n; worker = w; job = x; front = fr }) i 0 stays s u) is m)
-commits_by_job o s u n w fr j _ k at right (fact_meets {ks = ks} {fs = fs} i e is alive m) =
-    let t : Out = record { ticket = n; worker = w; job = Meet i; front = fr } in
-    let at2 : out_at n s.out ≡ Some t = subst (λ x. out_at n s.out ≡ Some (record { ticket = n; worker = w; job = x; front = fr })) is at in
-    let v : slice_get s.meetings i ≡ Some Visiting = at_task o s t k at2 in
-    let r = right i ks fs is refl in
-    kept_meets o s u n w i fr _ (λ x. visits i ks fs x) k at2 (λ x y h.
-    kept_visits o i ks fs (length (born s.entries)) (is_met i (accepts t (CommitMeet i x y) s))
-    (Each-map (λ (c : ℕ) (l : c < length (born (take fr s.entries))). (let b = born-take fr s.entries in let q : c < length (born s.entries) = omega arith in q)) ks r.kills_born)
-    r.later_is r.differ
-    (record { kept = h; met = get-change_same (λ (z : Meeting). Met) s.meetings i Visiting v; new = new_for s.pairs s.meetings i fs k.numbered v r.later_is; born = refl }))
-    (subst (λ x. Meets o (record { ticket = n; worker = w; job = x; front = fr }) i (newly_waiting fs (each (λ c. kills i c) ks s)) (λ y. visits i ks fs y) s u) is m)
+-- a task with another job of the same value
+abbrev with_job : Out → Job → Out
+with_job t j = record { ticket = t.ticket; worker = t.worker; job = j; front = t.front }
 
-pub kept_commits : (o : Opening) (s u : State) (t : Out) (f : Finding) → Kept o s → out_at t.ticket s.out ≡ Some t
+at_job : (t : Out) (out : List Out) (j : Job) → t.job ≡ j → out_at t.ticket out ≡ Some t → out_at t.ticket out ≡ Some (with_job t j)
+at_job t out j is at = subst (λ x. out_at t.ticket out ≡ Some (with_job t x)) is at
+
+met_by_job : (o : Opening) (s : State) (t : Out) (i : ℕ) → Kept o s → out_at t.ticket s.out ≡ Some t → t.job ≡ Meet i → (c d : ℕ) → Kept o (is_met i (accepts t (CommitMeet i c d) s))
+met_by_job o s t i k at is c d = subst (λ x. Kept o (is_met i (accepts (with_job t x) (CommitMeet i c d) s))) (sym is)
+    (kept_met o s t.ticket t.worker i t.front (CommitMeet i c d) k (at_job t s.out (Meet i) is at) (record { no_draw = refl; commit = refl; no_reclaim = refl; unit = refl }) (λ q. refl))
+
+done_by_job : (o : Opening) (s : State) (t : Out) (p : ℕ) (a : Origin) (h : Happening) → Kept o s → out_at t.ticket s.out ≡ Some t → t.job ≡ Join p a → IsCommitOf (draws_in s.history) (with_job t (Join p a)) h → ((q : ℕ) → ends_pair q h ≡ (p == q)) → Kept o (turns Done p (accepts t h s))
+done_by_job o s t p a h k at is of never = subst (λ x. Kept o (turns Done p (accepts (with_job t x) h s))) (sym is) (kept_done o s t.ticket t.worker p t.front a h k (at_job t s.out (Join p a) is at) of never)
+
+goal_by_job : (o : Opening) (s : State) (t : Out) (j : Job) (gs : List Target) (h : Happening) → Kept o s → out_at t.ticket s.out ≡ Some t → t.job ≡ j → IsCommitOf (draws_in s.history) (with_job t j) h → ((q : ℕ) → ends_pair q h ≡ false)
+    → ((v : ℕ) (i : Job) → is_same j i ≡ false → IsBusy s.pairs s.goals s.meetings v i → IsBusy s.pairs gs s.meetings v i) → Kept o (record (accepts t h s) { goals = gs })
+goal_by_job o s t j gs h k at is of never stay = subst (λ x. Kept o (record (accepts (with_job t x) h s) { goals = gs })) (sym is) (kept_ends o s t.ticket t.worker t.front j gs h k (at_job t s.out j is at) of never stay)
+
+pub kept_commits : (o : Opening) (s : State) (t : Out) (f : Finding) (u : State) → Kept o s → out_at t.ticket s.out ≡ Some t
     → ((i : ℕ) (ks : List ℕ) (fs : List Formed) → t.job ≡ Meet i → f ≡ Visited ks fs → MeetsRightly i (length (born (take t.front s.entries))) ks fs) → Commits o t f s u → Kept o u
-kept_commits o s u t f k at right c = commits_by_job o s u t.ticket t.worker t.front t.job f k at right c
+kept_commits o s t f _ k at right (is_late v e) = kept_late o s t k at
+kept_commits o s t _ u k at right (goal_ends {l = c} {r = d} {stop = stop} g a b e is ends_) =
+    kept_goal_ends o s t g CommitGoal c d stop u
+    (goal_by_job o s t (Goal g a b) (change (goes_on c d) s.goals g) (CommitGoal g (steps_of c d) EndsMet) k at is (record { no_draw = refl; commit = refl; no_reclaim = refl; unit = refl }) (λ q. refl) (λ v i x y. busy-goal s.pairs s.goals s.meetings (goes_on c d) g a b v i x y))
+    (λ z. goal_by_job o s t (Goal g a b) (change (λ (x : Target). record x { stage = z }) (change (goes_on c d) s.goals g) g) (CommitGoal g (steps_of c d) (end_word stop)) k at is (record { no_draw = refl; commit = refl; no_reclaim = refl; unit = refl }) (λ q. refl)
+      (λ v i x y. busy-goal s.pairs (change (goes_on c d) s.goals g) s.meetings (λ (w : Target). record w { stage = z }) g a b v i x (busy-goal s.pairs s.goals s.meetings (goes_on c d) g a b v i x y)))
+    ends_
+kept_commits o s t _ u k at right (more_ends {l = c} {r = d} {stop = stop} g a b e is ends_) =
+    kept_goal_ends o s t g CommitMore c d stop u
+    (goal_by_job o s t (More g a b) (change (goes_on c d) s.goals g) (CommitMore g (steps_of c d) EndsMet) k at is (record { no_draw = refl; commit = refl; no_reclaim = refl; unit = refl }) (λ q. refl) (λ v i x y. busy-more s.pairs s.goals s.meetings (goes_on c d) g a b v i x y))
+    (λ z. goal_by_job o s t (More g a b) (change (λ (x : Target). record x { stage = z }) (change (goes_on c d) s.goals g) g) (CommitMore g (steps_of c d) (end_word stop)) k at is (record { no_draw = refl; commit = refl; no_reclaim = refl; unit = refl }) (λ q. refl)
+      (λ v i x y. busy-more s.pairs (change (goes_on c d) s.goals g) s.meetings (λ (w : Target). record w { stage = z }) g a b v i x (busy-more s.pairs s.goals s.meetings (goes_on c d) g a b v i x y)))
+    ends_
+kept_commits o s t _ _ k at right (pair_joins p a e is) = done_by_job o s t p a (CommitJoined p) k at is (record { no_draw = refl; commit = refl; no_reclaim = refl; unit = refl }) (λ q. refl)
+kept_commits o s t _ _ k at right (fact_is_kept {f = f} p a e is) =
+    kept_publish o (turns Done p (accepts t (CommitKept p (length (born s.entries))) s)) f (done_by_job o s t p a (CommitKept p (length (born s.entries))) k at is (record { no_draw = refl; commit = refl; no_reclaim = refl; unit = refl }) (λ q. refl))
+kept_commits o s t _ u k at right (fact_is_stale {k = c} i e is m) =
+    let b : i < length s.meetings = below s.meetings i Visiting (at_task o s (with_job t (Meet i)) k (at_job t s.out (Meet i) is at)) in
+    let q : length s.meetings ≡ length (born s.entries) = k.facts.each_meets in
+    kept_meets o s t i 0 (λ v. kills c i v) u (met_by_job o s t i k at is) (λ x y h. kept_kills o (is_met i (accepts t (CommitMeet i x y) s)) c i (omega arith) h) m
+kept_commits o s t _ u k at right (fact_is_dead i e is dead m) = kept_meets o s t i 0 stays u (met_by_job o s t i k at is) (λ x y h. h) m
+kept_commits o s t _ u k at right (fact_meets {ks = ks} {fs = fs} i e is alive m) =
+    let v : slice_get s.meetings i ≡ Some Visiting = at_task o s (with_job t (Meet i)) k (at_job t s.out (Meet i) is at) in
+    let r = right i ks fs is refl in
+    let low : Each (λ c. c < length (born s.entries)) ks = Each-map (λ (c : ℕ) (l : c < length (born (take t.front s.entries))). (let b = born-take t.front s.entries in let q : c < length (born s.entries) = omega arith in q)) ks r.kills_born in
+    kept_meets o s t i (newly_waiting fs (each (λ c. kills i c) ks s)) (λ x. visits i ks fs x) u (met_by_job o s t i k at is)
+    (λ x y h. kept_visits o i ks fs (length (born s.entries)) (is_met i (accepts t (CommitMeet i x y) s)) low r.later_is r.differ
+      (record { kept = h; met = get-change_same (λ (z : Meeting). Met) s.meetings i Visiting v; new = new_for s.pairs s.meetings i fs k.numbered v r.later_is; born = refl })) m
 
 -- recall
 
@@ -281,33 +278,33 @@ kept_recalls o s k = kept_each o s.out s refl k
 
 -- audit and close
 
-out_audited : (o : Opening) (f : Fact) (s u : State) → Audits o f s u → u.out ≡ s.out
-out_audited o f s _ (is_closed v e) = refl
-out_audited o f s _ (is_spent e c) = refl
-out_audited o f s _ (is_kept e c) = refl
+out_audited : (o : Opening) (f : Fact) (s : State) (r : AuditReply) (u : State) → Audits o f s r u → u.out ≡ s.out
+out_audited o f s _ _ (is_closed v e) = refl
+out_audited o f s _ _ (is_spent e c) = refl
+out_audited o f s _ _ (is_kept e c) = refl
 
 audits_out : (o : Opening) (ms : List Missing) (d s : State) → IsAudited o ms d s → s.out ≡ d.out
 audits_out o ms d _ not_yet = refl
-audits_out o ms d u (once_more {s = s} x c a b) = out_audited o x.fact s u b ∙ audits_out o ms d s a
+audits_out o ms d u (once_more {s = s} {answer = r} x c a b) = out_audited o x.fact s r u b ∙ audits_out o ms d s a
 
 below_budget : (c r b : ℕ) → r ≡ 0 → c + r ≤ b → (c ≡ b → ⊥) → c + r < b
 below_budget c r b z l ne = elim (cases_order c b) [ inl q ↦ absurd (ne q) | inr h ↦ elim h [ inl l2 ↦ omega arith | inr g ↦ absurd (omega arith) ] ]
 
-kept_audits : (o : Opening) (f : Fact) (s u : State) → s.out ≡ [] → Kept o s → Audits o f s u → Kept o u
-kept_audits o f s _ e k (is_closed v c) = k
-kept_audits o f s _ e k (is_spent c b) = kept_close o s 0 (BudgetOut s.counted) k
-kept_audits o f s _ e k (is_kept c ne) =
+kept_audits : (o : Opening) (f : Fact) (s : State) (r : AuditReply) (u : State) → s.out ≡ [] → Kept o s → Audits o f s r u → Kept o u
+kept_audits o f s _ _ e k (is_closed v c) = k
+kept_audits o f s _ _ e k (is_spent c b) = kept_close o s 0 (BudgetOut s.counted) k
+kept_audits o f s _ _ e k (is_kept c ne) =
     let zero_out : s.reserved ≡ 0 = k.accounts.reserved_is ∙ ap (λ ts. sum_by (λ (t : Out). unit_of t.job) ts) e in
     let w : s.counted + s.reserved ≤ o.budget = k.accounts.within in
     kept_audit o s f k (below_budget s.counted s.reserved o.budget zero_out w ne)
 
-pub kept_audited : (m : Meaning) (o : Opening) (s u : State) (x : Missing) → MayAudit m o s x → Kept o s → Audits o x.fact s u → Kept o u
-kept_audited m o s u x a k b = kept_audits o x.fact s u (audits_out o a.all a.drained s a.audited ∙ a.is_drained.none_out) k b
+pub kept_audited : (m : Meaning) (o : Opening) (s u : State) (x : Missing) (r : AuditReply) → MayAudit m o s x → Kept o s → Audits o x.fact s r u → Kept o u
+kept_audited m o s u x r a k b = kept_audits o x.fact s r u (audits_out o a.all a.drained s a.audited ∙ a.is_drained.none_out) k b
 
-pub kept_closes : (o : Opening) (s u : State) (answer : Outcome) → Kept o s → Closes s answer u → Kept o u
-kept_closes o s _ _ k converges = kept_close o s 0 _ k
-kept_closes o s _ _ k has_large = kept_close o s 0 _ k
-kept_closes o s _ _ k has_stuck = kept_close o s 0 _ k
+pub kept_closes : (o : Opening) (s u : State) (outcome : Outcome) (v : Verdict) → Kept o s → Closes s outcome v u → Kept o u
+kept_closes o s _ _ _ k converges = kept_close o s 0 _ k
+kept_closes o s _ _ _ k has_large = kept_close o s 0 _ k
+kept_closes o s _ _ _ k has_stuck = kept_close o s 0 _ k
 
 -- the start
 

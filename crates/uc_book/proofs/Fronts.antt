@@ -40,7 +40,8 @@ use Rattle.uc_book.specs.Effects.{records, closes, ending_of, publishes, enters,
 use Rattle.uc_book.specs.Events.{units, units_after, unit_in, unit_draw, is_unit_draw, draw_in, draws_by, commits_by, reclaims_by, out_to, numbers_of, is_commit_what, is_reclaim_what, ends_pair, ended_by}
 use Rattle.uc_book.specs.Promises.{Rising, WasDrawn, later_fact, IsOf}
 use Rattle.std.specs.Prelude.{get_or, if◌then◌else◌}
-use Rattle.std.proofs.Common.{take-append-le}
+use Rattle.std.proofs.lemmas.List.{take-append-le, length-take-le, length-append}
+use Rattle.std.proofs.Math.Seq.{take-length}
 use Rattle.uc_term.specs.Tree.{var, app, Trees, none, more, apply, apply_all}
 use Rattle.uc_term.specs.Variables.{variables, variables_all, is_among as is_name, firsts, firsts_after, place_of, renumbered_by}
 use Rattle.uc_term.specs.Within.{Within}
@@ -59,10 +60,12 @@ use Rattle.uc_shelf.specs.Entries.{live}
 use Rattle.uc_book.specs.declared.task.Finding.{Finding}
 use Rattle.uc_book.specs.declared.task.Finding.TheVariants.{Kept as KeptFact}
 use Rattle.uc_book.specs.declared.task.Missing.{Missing}
+use Rattle.uc_book.specs.declared.task.Outcome.{Outcome}
 use Rattle.uc_book.specs.declared.task.Outcome.TheVariants.{Missing as Lacks}
-use Rattle.uc_book.specs.Chains.{variables_of_chain}
-use Rattle.uc_book.specs.Results.{Trial, names_of, made, IsTrial, GivesFact, left_is_greater, right_is_greater, none_is_greater, IsResult, pair_is_kept}
-use Rattle.uc_book.specs.Finals.{Tests, all_tested, is_joined, is_missing, IsFinal, some_missing}
+use Rattle.uc_book.specs.Chains.{variables_of_chain, reversed}
+use Rattle.uc_book.specs.Results.{Trial, way, names_of, made, IsTrial, GivesFact, left_is_greater, right_is_greater, none_is_greater, IsResult, goal_comes_to, more_comes_to, pair_is_joined, pair_is_kept, fact_is_stale, fact_meets}
+use Rattle.uc_book.specs.Finals.{Tests, all_tested, is_joined, is_missing, IsFinal, some_missing, some_large, some_stuck, all_converges}
+use Rattle.uc_book.proofs.Lists.{Each-map}
 use Rattle.uc_book.specs.Promises.{IsNormalIn, IsKeptOver, FrontsAreEarlier, Grew}
 
 -- a term renumbered by names that it has gives it back
@@ -91,7 +94,7 @@ mutual
       each_split [] ys h = (tt, h)
       each_split (x ∷ xs) ys h = let r = each_split xs ys h.1 in ((h.0, r.0), r.1)
 
-      both : {a b : Tree} {as bs : Trees} → a ≡ b → as ≡ bs → more a as ≡ more b bs
+      both : {a b : Tree} {us vs : Trees} → a ≡ b → us ≡ vs → more a us ≡ more b vs
       both p q = cc
 
 -- the first occurrences have each number
@@ -172,6 +175,65 @@ module _ (m : Meaning) (laws : Laws m) where
   }
 
   trial_over : (axioms : List Equation) (es : List Entry) (n : ℕ) → n ≤ length es → (origin : Origin) (t : Trial) (f : Fact) → IsTrial m axioms (take n es) origin t → GivesFact m origin n t f → IsKeptOver m es f
-  trial_over axioms es n low origin t _ i (left_is_greater q) = made_over es n low true origin _ _ _ _ _ (normal_full (live (take n es)) 4096 _ _ _ _ i.left_is.normalises) (normal_full (live (take n es)) 4096 _ _ _ _ i.right_is.normalises)
-  trial_over axioms es n low origin t _ i (right_is_greater q) = made_over es n low true origin _ _ _ _ _ (normal_full (live (take n es)) 4096 _ _ _ _ i.right_is.normalises) (normal_full (live (take n es)) 4096 _ _ _ _ i.left_is.normalises)
-  trial_over axioms es n low origin t _ i (none_is_greater p q) = made_over es n low false origin _ _ _ _ _ (normal_full (live (take n es)) 4096 _ _ _ _ i.left_is.normalises) (normal_full (live (take n es)) 4096 _ _ _ _ i.right_is.normalises)
+  trial_over axioms es n low origin t _ i (left_is_greater q) = made_over es n low true origin t.left.term t.right.term (way t) t.left.stop t.right.stop (normal_full (live (take n es)) 4096 t.equation.left t.left.term t.left.chain.steps t.left.stop i.left_is.normalises) (normal_full (live (take n es)) 4096 t.equation.right t.right.term t.right.chain.steps t.right.stop i.right_is.normalises)
+  trial_over axioms es n low origin t _ i (right_is_greater q) = made_over es n low true origin t.right.term t.left.term (reversed (way t)) t.right.stop t.left.stop (normal_full (live (take n es)) 4096 t.equation.right t.right.term t.right.chain.steps t.right.stop i.right_is.normalises) (normal_full (live (take n es)) 4096 t.equation.left t.left.term t.left.chain.steps t.left.stop i.left_is.normalises)
+  trial_over axioms es n low origin t _ i (none_is_greater p q) = made_over es n low false origin t.left.term t.right.term (way t) t.left.stop t.right.stop (normal_full (live (take n es)) 4096 t.equation.left t.left.term t.left.chain.steps t.left.stop i.left_is.normalises) (normal_full (live (take n es)) 4096 t.equation.right t.right.term t.right.chain.steps t.right.stop i.right_is.normalises)
+
+  -- so it is for each fact that is born among these entries
+  abbrev pub EarlierIn : List Entry → Type 0
+  EarlierIn es = (n : ℕ) (f : Fact) → slice_get es n ≡ Some (Born f) → IsKeptOver m (take n es) f
+
+  entry_push : (es : List Entry) (e : Entry) (n : ℕ) (x : Entry) → slice_get (es ++ e ∷ []) n ≡ Some x → ((n < length es) × (slice_get es n ≡ Some x)) ⊎ ((n ≡ length es) × (e ≡ x))
+  entry_push [] e zero x h = inr (refl, (cc))
+  entry_push [] e (suc n) x h = absurd (cc)
+  entry_push (y ∷ es) e zero x h = inl ((let l : 0 < suc (length es) = omega arith in l), h)
+  entry_push (y ∷ es) e (suc n) x h = elim (entry_push es e n x h) [
+    | inl a ↦ inl ((let l : n < length es = a.0 in let k : suc n < suc (length es) = omega arith in k), a.1)
+    | inr a ↦ inr (ap suc a.0, a.1)
+  ]
+
+  earlier_push : (es : List Entry) (e : Entry) → ((f : Fact) → e ≡ Born f → IsKeptOver m es f) → EarlierIn es → EarlierIn (es ++ e ∷ [])
+  earlier_push es e new old n f h = elim (entry_push es e n (Born f) h) [
+    | inl a ↦ (let l : n < length es = a.0 in let low : n ≤ length es = omega arith in let q : take n (es ++ e ∷ []) ≡ take n es = take-append-le n es (e ∷ []) low in subst (λ z. IsKeptOver m z f) (sym q) (old n f a.1))
+    | inr a ↦ (let q : take n (es ++ e ∷ []) ≡ es = ap (λ k. take k (es ++ e ∷ [])) a.0 ∙ take-append-le (length es) es (e ∷ []) (omega arith) ∙ take-length es in subst (λ z. IsKeptOver m z f) (sym q) (new f a.1))
+  ]
+
+  pub earlier_born : (es : List Entry) (f : Fact) → IsKeptOver m es f → EarlierIn es → EarlierIn (es ++ Born f ∷ [])
+  earlier_born es f k old = earlier_push es (Born f) (λ g e. subst (λ z. IsKeptOver m es z) (let same : f ≡ g = cc in same) k) old
+
+  pub earlier_dies : (es : List Entry) (i k : ℕ) → EarlierIn es → EarlierIn (es ++ Dies i k ∷ [])
+  earlier_dies es i k old = earlier_push es (Dies i k) (λ g e. cc) old
+
+  -- what a Join that keeps a fact, and an audit, publish
+
+  kept_pair : (axioms : List Equation) (es : List Entry) (n : ℕ) → n ≤ length es → (j : Job) (f : Fact) (found : Finding) → IsResult m axioms (take n es) j found → found ≡ KeptFact f → IsKeptOver m es f
+  kept_pair axioms es n low j f _ (pair_is_kept {origin = origin} {t = t} {f = g} trial apart gives) e =
+      let same : g ≡ f = cc in
+      let len : length (take n es) ≡ n = length-take-le n es low in
+      subst (λ z. IsKeptOver m es z) same (trial_over axioms es n low origin t g trial (subst (λ z. GivesFact m origin z t g) len gives))
+  kept_pair axioms es n low j f _ (goal_comes_to a) e = absurd (cc)
+  kept_pair axioms es n low j f _ (more_comes_to a) e = absurd (cc)
+  kept_pair axioms es n low j f _ (pair_is_joined a b) e = absurd (cc)
+  kept_pair axioms es n low j f _ (fact_is_stale a b) e = absurd (cc)
+  kept_pair axioms es n low j f _ (fact_meets a b c d) e = absurd (cc)
+
+  pub kept_by_join : (axioms : List Equation) (es : List Entry) (n : ℕ) → n ≤ length es → (j : Job) (f : Fact) → IsResult m axioms (take n es) j (KeptFact f) → IsKeptOver m es f
+  kept_by_join axioms es n low j f r = kept_pair axioms es n low j f (KeptFact f) r refl
+
+  missing_over : (axioms : List Equation) (es more : List Entry) (os : List Origin) (ms : List Missing) → Tests m axioms es os ms → (x : Missing) → In ms x → IsKeptOver m (es ++ more) x.fact
+  missing_over axioms es more _ _ all_tested x i = elim i [ ]
+  missing_over axioms es more _ ms (is_joined {os = os} t a b rest) x i = missing_over axioms es more os ms rest x i
+  missing_over axioms es more _ _ (is_missing {o = o} {os = os} {ms = ms} {f = f} t a b g rest) x in_front =
+      let low : length es ≤ length (es ++ more) = (let l = length-append es more in omega arith) in
+      let q : take (length es) (es ++ more) ≡ es = take-append-le (length es) es more (omega arith) ∙ take-length es in
+      trial_over axioms (es ++ more) (length es) low o t f (subst (λ z. IsTrial m axioms z o t) (sym q) a) g
+  missing_over axioms es more _ _ (is_missing {o = o} {os = os} {ms = ms} {f = f} t a b g rest) x (in_rest i) = missing_over axioms es more os ms rest x i
+
+  final_over : (axioms : List Equation) (s : State) (more : List Entry) (ms : List Missing) (x : Missing) (outcome : Outcome) → IsFinal m axioms s outcome → outcome ≡ Lacks ms → In ms x → IsKeptOver m (s.entries ++ more) x.fact
+  final_over axioms s more ms x _ (some_missing {ms = ns} a tests ne) e i = (let same : ns ≡ ms = cc in missing_over axioms s.entries more _ ns tests x (subst (λ z. In z x) (sym same) i))
+  final_over axioms s more ms x _ (some_large a b c) e i = absurd (cc)
+  final_over axioms s more ms x _ (some_stuck g a b c d) e i = absurd (cc)
+  final_over axioms s more ms x _ (all_converges a b c d) e i = absurd (cc)
+
+  pub kept_by_audit : (axioms : List Equation) (s : State) (es : List Entry) (ms : List Missing) (x : Missing) → Grew s.entries es → IsFinal m axioms s (Lacks ms) → In ms x → IsKeptOver m es x.fact
+  kept_by_audit axioms s es ms x g f i = subst (λ z. IsKeptOver m z x.fact) (sym g.is) (final_over axioms s g.more ms x (Lacks ms) f refl i)

@@ -44,13 +44,13 @@ use Rattle.uc_book.specs.declared.task.Finding.{Finding}
 use Rattle.uc_book.specs.declared.task.Outcome.{Outcome}
 use Rattle.uc_book.specs.Draws.{Reply, Draws, verdict_stands, goal_is_due, fact_is_unmet, orphan_is_dropped, goal_is_continued, pair_is_drawn, budget_is_out, budget_is_spent, all_is_out, all_is_done}
 use Rattle.uc_book.specs.Commits.{GoalEnds, ends_meet, ends_differ, Meets, within_limit, past_limit, newly_waiting, stays, Commits, is_late, goal_ends, more_ends, pair_joins, fact_is_kept, fact_is_stale, fact_is_dead, fact_meets}
-use Rattle.uc_book.specs.Runs.{Audits, is_closed, is_spent, is_kept, Closes, converges, has_large, has_stuck}
+use Rattle.uc_book.specs.Runs.{AuditReply, Audits, is_closed, is_spent, is_kept, Closes, converges, has_large, has_stuck}
 use Rattle.uc_book.specs.Promises.{Grew}
 
-same : (es : List Entry) → Grew es es
+pub same : (es : List Entry) → Grew es es
 same es = record { more = []; is = sym (append-nil es) }
 
-further : (es fs gs : List Entry) → Grew es fs → Grew fs gs → Grew es gs
+pub further : (es fs gs : List Entry) → Grew es fs → Grew fs gs → Grew es gs
 further es fs gs a b = record { more = a.more ++ b.more; is = b.is ∙ ap (λ z. z ++ b.more) a.is ∙ append_assoc es a.more b.more }
 
 pub draws_grew : (o : Opening) (w : ℕ) (s : State) (r : Reply) (u : State) → Draws o w s r u → Grew s.entries u.entries
@@ -93,7 +93,7 @@ commits_grew o t _ s u (fact_is_stale {k = k} i e is m) = meets_grew o t i 0 (λ
 commits_grew o t _ s u (fact_is_dead i e is d m) = meets_grew o t i 0 stays s u (λ x. same x.entries) m
 commits_grew o t _ s u (fact_meets {ks = ks} {fs = fs} i e is d m) = meets_grew o t i (newly_waiting fs (each (λ c. kills i c) ks s)) (λ x. visits i ks fs x) s u (λ x. each_grew i ks x) m
 
-reclaim_same : (n w f : ℕ) (j : Job) (s : State) → (let t : Out = record { ticket = n; worker = w; job = j; front = f } in (reclaims t s).entries ≡ s.entries)
+pub reclaim_same : (n w f : ℕ) (j : Job) (s : State) → (let t : Out = record { ticket = n; worker = w; job = j; front = f } in (reclaims t s).entries ≡ s.entries)
 reclaim_same n w f (Goal g l r) s = refl
 reclaim_same n w f (More g l r) s = refl
 reclaim_same n w f (Meet i) s = refl
@@ -105,19 +105,19 @@ unchanged es fs e = record { more = []; is = e ∙ sym (append-nil es) }
 pub reclaims_grew : (t : Out) (s : State) → Grew s.entries ((reclaims t s).entries)
 reclaims_grew t s = unchanged _ _ (reclaim_same t.ticket t.worker t.front t.job s)
 
-recall_same : (ts : List Out) (s : State) → (each reclaims ts s).entries ≡ s.entries
+pub recall_same : (ts : List Out) (s : State) → (each reclaims ts s).entries ≡ s.entries
 recall_same [] s = refl
 recall_same (t ∷ ts) s = recall_same ts (reclaims t s) ∙ reclaim_same t.ticket t.worker t.front t.job s
 
 pub recalls_grew : (s : State) → Grew s.entries ((recalls s).entries)
 recalls_grew s = unchanged _ _ (recall_same s.out s)
 
-pub audits_grew : (o : Opening) (f : Fact) (s u : State) → Audits o f s u → Grew s.entries u.entries
-audits_grew o f s _ (is_closed v e) = same s.entries
-audits_grew o f s _ (is_spent e c) = same s.entries
-audits_grew o f s _ (is_kept e c) = record { more = Born f ∷ []; is = refl }
+pub audits_grew : (o : Opening) (f : Fact) (s u : State) (r : AuditReply) → Audits o f s r u → Grew s.entries u.entries
+audits_grew o f s _ _ (is_closed v e) = same s.entries
+audits_grew o f s _ _ (is_spent e c) = same s.entries
+audits_grew o f s _ _ (is_kept e c) = record { more = Born f ∷ []; is = refl }
 
-pub closes_grew : (s u : State) (answer : Outcome) → Closes s answer u → Grew s.entries u.entries
-closes_grew s _ _ converges = same s.entries
-closes_grew s _ _ has_large = same s.entries
-closes_grew s _ _ has_stuck = same s.entries
+pub closes_grew : (s u : State) (outcome : Outcome) (v : Verdict) → Closes s outcome v u → Grew s.entries u.entries
+closes_grew s _ _ _ converges = same s.entries
+closes_grew s _ _ _ has_large = same s.entries
+closes_grew s _ _ _ has_stuck = same s.entries

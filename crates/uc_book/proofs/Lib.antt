@@ -8,4 +8,7 @@ pub mod Calls
 pub mod Meetings
 pub mod Grows
 pub mod Promises
+pub mod Fronts
 pub mod Runs
+pub mod Earlier
+pub mod AtRest

@@ -44,7 +44,7 @@ use Rattle.std.specs.Prelude.{not, filter}
 use Rattle.std.proofs.lemmas.Bool.{ltb-true, ltb-false}
 use Rattle.uc_order.specs.Laws.{Meaning}
 use Rattle.uc_fact.specs.Live.{Live, Rule, RiseFrom, numbered_from}
-use Rattle.uc_pair.specs.Overlapping.{read_from}
+use Rattle.uc_pair.specs.Overlapping.{read_from, overlap_at}
 use Rattle.uc_pair.specs.Listing.{Lists, no_more_places, at_variable, no_unifier, repeats, goes_nowhere, leads_up, is_listed, ListsEach, no_rules, next_rules, AreOverlaps}
 use Rattle.uc_shelf.specs.Entries.{equations, live}
 use Rattle.uc_shelf.specs.Viewing.{live_rise}
@@ -98,6 +98,10 @@ from_later outer inner place g a = let h : place + 1 ≤ g.overlap.position.0 = 
 all_later : (outer inner : Rule) (place : ℕ) (fs : List Formed) → Each (IsOfRules outer inner (place + 1)) fs → Each (IsOfRules outer inner place) fs
 all_later outer inner place fs a = Each-map (from_later outer inner place) fs a
 
+no_earlier : (outer inner : Rule) (place : ℕ) (fs : List Formed) → Each (IsOfRules outer inner (place + 1)) fs → Each (λ (g : Formed). overlap_at outer inner place ≡ g.overlap → ⊥) fs
+no_earlier outer inner place [] a = tt
+no_earlier outer inner place (g ∷ gs) a = ((λ q. (let h : place + 1 ≤ g.overlap.position.0 = a.0.from in let same : place ≡ g.overlap.position.0 = ap (λ (v : Overlap). v.position.0) q in absurd (omega arith))), no_earlier outer inner place gs a.1)
+
 module _ (m : Meaning) where
   lists_of : (outer inner : Rule) (place : ℕ) (fs : List Formed) → Lists m.greater outer inner place fs → Each (IsOfRules outer inner place) fs
   lists_of outer inner place _ (no_more_places l) = tt
@@ -115,10 +119,7 @@ module _ (m : Meaning) where
   lists_differ outer inner place fs (repeats l a b) = lists_differ outer inner (place + 1) fs b
   lists_differ outer inner place fs (goes_nowhere l a b) = lists_differ outer inner (place + 1) fs b
   lists_differ outer inner place fs (leads_up o a b) = lists_differ outer inner (place + 1) fs b
-  lists_differ outer inner place _ (is_listed {list = fs} o a b c d) = (
-    Each-map (λ (g : Formed) (x : IsOfRules outer inner (place + 1) g) q. (let h : place + 1 ≤ g.overlap.position.0 = x.from in let same : place ≡ g.overlap.position.0 = ap (λ (v : Overlap). v.position.0) q in absurd (omega arith))) fs (lists_of outer inner (place + 1) fs d),
-    lists_differ outer inner (place + 1) fs d,
-  )
+  lists_differ outer inner place _ (is_listed {list = fs} o a b c d) = (no_earlier outer inner place fs (lists_of outer inner (place + 1) fs d), lists_differ outer inner (place + 1) fs d)
 
 -- lists put together
 

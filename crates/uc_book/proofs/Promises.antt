@@ -99,7 +99,7 @@ once_at i (Dies f k ∷ es) d =
 pub dies_once : (o : Opening) (s : State) → Kept o s → DiesOnce s
 dies_once o s k = record { dead = λ i. (named i s.entries, dead_if i s.entries); once = λ i. once_at i s.entries k.facts.once }
 
-pub one_state : (o : Opening) (s : State) → Kept o s → OneState s
+one_at_most : (o : Opening) (s : State) → Kept o s → (v : Overlap) (a b : OverlapState) → StandsAs s v a → StandsAs s v b → a ≡ b
 one_at_most o s k v _ _ (not_met a) (not_met b) = refl
 one_at_most o s k v _ _ (not_met a) (meeting b) = refl
 one_at_most o s k v _ _ (not_met a) (numbered q y at b) = let m = k.numbered.met q v b in absurd (cc)
@@ -230,7 +230,7 @@ one_time n (suc p) (y ∷ ps) x at w =
 
 pub one_state : (o : Opening) (s : State) → Kept o s → OneState s
 one_state o s k = record {
-  some = some_state s;
+  some = λ v l. some_state s v (let e : length s.meetings ≡ length (born s.entries) = k.facts.each_meets in omega arith);
   once = one_at_most o s k;
   queued = Each-map (queued_at s) (queue s) (places 0 s.pairs);
   all_queued = λ p x at w. subst (λ n. times n (queue s) ≡ 1) (let e : 0 + p ≡ p = omega arith in e) (one_time 0 p s.pairs x at w);

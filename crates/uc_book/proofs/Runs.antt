@@ -27,8 +27,8 @@ result_meets m axioms es j f r i ks fs e q = meets_so m axioms es i ks fs (subst
 pub kept_reaches : (m : Meaning) (o : Opening) (s : State) → Reaches m o s → Kept o s
 kept_reaches m o s (starts a) = kept_starts o s a
 kept_reaches m o u (draws_on {s = s} {r = r} w l a d) = kept_draws o w s r u d (kept_reaches m o s a)
-kept_reaches m o u (commits_on {s = s} {f = f} t at right a c) = kept_commits o s u t f (kept_reaches m o s a) at (result_meets m o.axioms (take t.front s.entries) t.job f right) c
+kept_reaches m o u (commits_on {s = s} {f = f} t at right a c) = kept_commits o s t f u (kept_reaches m o s a) at (result_meets m o.axioms (take t.front s.entries) t.job f right) c
 kept_reaches m o _ (reclaims_on {s = s} t at a) = kept_reclaim o s t (kept_reaches m o s a) at
 kept_reaches m o _ (recalls_on {s = s} a) = kept_recalls o s (kept_reaches m o s a)
-kept_reaches m o u (audits_on {s = s} x may a b) = kept_audited m o s u x may (kept_reaches m o s a) b
-kept_reaches m o u (closes_on {s = s} {answer = answer} d f a c) = kept_closes o s u answer (kept_reaches m o s a) c
+kept_reaches m o u (audits_on {s = s} {answer = r} x may a b) = kept_audited m o s u x r may (kept_reaches m o s a) b
+kept_reaches m o u (closes_on {s = s} {outcome = outcome} {v = v} d f a c) = kept_closes o s u outcome v (kept_reaches m o s a) c

@@ -28,6 +28,10 @@ use Rattle.uc_book.specs.Chains.{end_of}
 use Rattle.uc_book.specs.State.{Opening, State, Out, Pair, dead_of, is_waiting, waiting, out_at}
 use Rattle.uc_book.specs.Effects.{accepts, closes, takes_ends, stages, turns, publishes, kills, visits, is_met, pair_by}
 
+-- the number of the event that is recorded next; the first is 1
+abbrev pub next_event : State → ℕ
+next_event s = length s.history + 1
+
 -- a task with this ticket, this job and this list of entries is out to this worker
 pub record IsOutTo (s : State) (w ticket : ℕ) (job : Job) (front : List Entry) (t : Out) : Type 0 where
   pub at : out_at ticket s.out ≡ Some t

@@ -75,6 +75,7 @@ pub record GoalReplays (o : Opening) (s : State) (goal : Equation) (g : Target) 
 
 pub record ChainsReplay (o : Opening) (s : State) : Type 0 where
   pub facts : FactsReplay o s
+  pub as_many : length s.goals ≡ length o.goals
   pub goals : (n : ℕ) (g : Target) → slice_get s.goals n ≡ Some g → (goal : Equation) → slice_get o.goals n ≡ Some goal → GoalReplays o s goal g
 
 -- THE FRONTS OF KEPT FACTS
@@ -133,7 +134,7 @@ pub record IsQueued (s : State) (q : Place) : Type 0 where
 
 -- each overlap of two facts that are born is in exactly one state, and the queue holds exactly the pairs that are Waiting
 pub record OneState (s : State) : Type 0 where
-  pub some : (o : Overlap) → later_fact o < length s.meetings → HasState s o
+  pub some : (o : Overlap) → later_fact o < length (born s.entries) → HasState s o
   pub once : (o : Overlap) (a b : OverlapState) → StandsAs s o a → StandsAs s o b → a ≡ b
   pub queued : Each (IsQueued s) (queue s)
   pub all_queued : (p : ℕ) (x : Pair) → slice_get s.pairs p ≡ Some x → x.condition ≡ Waiting → count_by (λ (q : Place). q.number == p) (queue s) ≡ 1

@@ -56,18 +56,24 @@ pub data Starts (o : Opening) : State → Type 0 where
   axioms_wait : length o.axioms ≤ o.limit → Starts o (opened o (axiom_pairs 0 o.axioms))
   too_many_axioms : o.limit < length o.axioms → Starts o (closes 0 (PairsOut 0 (length o.axioms)) (opened o []))
 
--- An audit of a missing fact. Where a verdict stands, nothing changes; where none stands and `counted` is the budget, the
--- verdict is BudgetOut; otherwise the fact is published as by a Join, `counted` rises, and the event is recorded for worker 0.
-pub data Audits (o : Opening) (f : Fact) (s : State) : State → Type 0 where
-  is_closed : (v : Verdict) → s.verdict ≡ Some v → Audits o f s s
-  is_spent : s.verdict ≡ None → s.counted ≡ o.budget → Audits o f s (closes 0 (BudgetOut s.counted) s)
-  is_kept : s.verdict ≡ None → s.counted ≢ o.budget → Audits o f s (keeps f (AuditKept (length (born s.entries))) s)
+-- what an audit answers: the number of the fact that was kept, or the verdict
+pub data AuditReply : Type 0 where
+  KeptAs : ℕ → AuditReply
+  ClosedBy : Verdict → AuditReply
 
--- A close: Convergent gives Saturated, Large gives LargeOverlap, GoalUnsettled gives LargeGoal.
-pub data Closes (s : State) : Outcome → State → Type 0 where
-  converges : {facts : System} → Closes s (Convergent facts) (closes 0 Saturated s)
-  has_large : {o : Overlap} → Closes s (Large o) (closes 0 (LargeOverlap o) s)
-  has_stuck : {g : ℕ} → Closes s (GoalUnsettled g) (closes 0 (LargeGoal g) s)
+-- An audit of a missing fact. Where a verdict stands, it is the answer and nothing changes; where none stands and `counted` is
+-- the budget, the verdict is BudgetOut; otherwise the fact is published as by a Join, `counted` rises, and the event is
+-- recorded for worker 0.
+pub data Audits (o : Opening) (f : Fact) (s : State) : AuditReply → State → Type 0 where
+  is_closed : (v : Verdict) → s.verdict ≡ Some v → Audits o f s (ClosedBy v) s
+  is_spent : s.verdict ≡ None → s.counted ≡ o.budget → Audits o f s (ClosedBy (BudgetOut s.counted)) (closes 0 (BudgetOut s.counted) s)
+  is_kept : s.verdict ≡ None → s.counted ≢ o.budget → Audits o f s (KeptAs (length (born s.entries))) (keeps f (AuditKept (length (born s.entries))) s)
+
+-- A close and the verdict that it answers: Convergent gives Saturated, Large gives LargeOverlap, GoalUnsettled gives LargeGoal.
+pub data Closes (s : State) : Outcome → Verdict → State → Type 0 where
+  converges : {facts : System} → Closes s (Convergent facts) Saturated (closes 0 Saturated s)
+  has_large : {o : Overlap} → Closes s (Large o) (LargeOverlap o) (closes 0 (LargeOverlap o) s)
+  has_stuck : {g : ℕ} → Closes s (GoalUnsettled g) (LargeGoal g) (closes 0 (LargeGoal g) s)
 
 -- a draw would answer Drained: no verdict stands, nothing waits and no task is out
 pub record IsDrained (s : State) : Type 0 where
@@ -78,7 +84,7 @@ pub record IsDrained (s : State) : Type 0 where
 -- the state was only audited since it was as it is here, for equations that were missing then
 pub data IsAudited (o : Opening) (ms : List Missing) (drained : State) : State → Type 0 where
   not_yet : IsAudited o ms drained drained
-  once_more : {s u : State} (missing : Missing) → In ms missing → IsAudited o ms drained s → Audits o missing.fact s u → IsAudited o ms drained u
+  once_more : {s u : State} {answer : AuditReply} (missing : Missing) → In ms missing → IsAudited o ms drained s → Audits o missing.fact s answer u → IsAudited o ms drained u
 
 -- the equation stands in the Missing answer of the final pass for the book as it was drained, since when it was only audited
 pub record MayAudit (m : Meaning) (o : Opening) (s : State) (missing : Missing) : Type 0 where
@@ -96,8 +102,8 @@ pub data Reaches (m : Meaning) (o : Opening) : State → Type 0 where
   commits_on : {s u : State} {f : Finding} (t : Out) → out_at t.ticket s.out ≡ Some t → IsResult m o.axioms (take t.front s.entries) t.job f → Reaches m o s → Commits o t f s u → Reaches m o u
   reclaims_on : {s : State} (t : Out) → out_at t.ticket s.out ≡ Some t → Reaches m o s → Reaches m o (reclaims t s)
   recalls_on : {s : State} → Reaches m o s → Reaches m o (recalls s)
-  audits_on : {s u : State} (missing : Missing) → MayAudit m o s missing → Reaches m o s → Audits o missing.fact s u → Reaches m o u
-  closes_on : {s u : State} {answer : Outcome} → IsDrained s → IsFinal m o.axioms s answer → Reaches m o s → Closes s answer u → Reaches m o u
+  audits_on : {s u : State} {answer : AuditReply} (missing : Missing) → MayAudit m o s missing → Reaches m o s → Audits o missing.fact s answer u → Reaches m o u
+  closes_on : {s u : State} {outcome : Outcome} {v : Verdict} → IsDrained s → IsFinal m o.axioms s outcome → Reaches m o s → Closes s outcome v u → Reaches m o u
 
 -- a run with this history
 pub record Run (m : Meaning) (o : Opening) (history : List Event) (s : State) : Type 0 where

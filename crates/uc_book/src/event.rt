@@ -11,7 +11,7 @@ pub enum Verdict {
     Saturated,
     /// So many units were counted, which is the budget, and something waits.
     BudgetOut { counted: u32 },
-    /// So many pairs wait, and these new ones would make them more than the limit.
+    /// So many pairs wait, and with these new ones they are more than the limit.
     PairsOut { waiting: u32, new: u64 },
     /// The first overlap whose pair is too large, where nothing else is open.
     LargeOverlap(Overlap),

@@ -10,8 +10,8 @@ mod task;
 
 pub use event::{Ending, Event, GoalEnd, Happening, Verdict};
 pub use laws::{
-    counts_units, counts_workers, dies_once, ends_pairs_once, entries_grow, fronts_are_prefixes,
-    one_state, tickets_differ,
+    counts_units, counts_workers, dies_once, ends_pairs_once, entries_grow, fronts_are_earlier,
+    fronts_are_prefixes, goals_at_rest, one_state, tickets_differ,
 };
 pub use state::{Meeting, Numbers, Stage};
 pub use task::{Finding, Job, Missing, Outcome};

@@ -1,6 +1,7 @@
 //! The small values of the book's state.
 
-/// Whether a fact's meeting with the earlier facts is to come, is out, or was held.
+/// Whether a fact's meeting with the earlier facts is to come, is out, or was held or won't be held any more, since the fact
+/// died.
 #[derive(Clone, Copy, PartialEq, Eq, Debug)]
 pub enum Meeting {
     Unmet,
