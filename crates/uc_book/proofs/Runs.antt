@@ -4,7 +4,8 @@ use Rattle.uc_term.specs.declared.equation.Equation.{Equation}
 use Rattle.uc_order.specs.Laws.{Meaning}
 use Rattle.uc_pair.specs.declared.formed.Formed.{Formed}
 use Rattle.uc_shelf.specs.declared.entry.Entry.{Entry}
-use Rattle.uc_shelf.specs.Entries.{born, equation_of}
+use Rattle.uc_fact.specs.Live.{equation_of}
+use Rattle.uc_shelf.specs.Entries.{born}
 use Rattle.uc_book.specs.declared.task.Job.{Job}
 use Rattle.uc_book.specs.declared.task.Job.TheVariants.{Meet}
 use Rattle.uc_book.specs.declared.task.Finding.{Finding}

@@ -17,7 +17,7 @@ use Rattle.uc_fact.specs.declared.fact.Stop.TheVariants.{Full, Steps, Size}
 use Rattle.uc_fact.specs.declared.joinable.Joinable.{Joinable}
 use Rattle.uc_fact.specs.declared.joinable.Joinable.TheVariants.{Joined as IsJoinedBy}
 use Rattle.uc_fact.specs.declared.joinable.Reason.{Reason}
-use Rattle.uc_fact.specs.Live.{Live, fact_at}
+use Rattle.uc_fact.specs.Live.{Live, fact_at, equation_of}
 use Rattle.uc_fact.specs.Ordered.{OStep}
 use Rattle.uc_rewrite.specs.declared.normal.Normal.{Normal}
 use Rattle.uc_rewrite.specs.Normalising.{IsNormalOf}
@@ -27,7 +27,7 @@ use Rattle.uc_pair.specs.Listing.{AreOverlaps}
 use Rattle.uc_pair.specs.Pairs.{IsPairOf}
 use Rattle.uc_ground.specs.Joining.{IsAnswer, IsJoined}
 use Rattle.uc_shelf.specs.declared.entry.Entry.{Entry}
-use Rattle.uc_shelf.specs.Entries.{born, equation_of, live}
+use Rattle.uc_shelf.specs.Entries.{born, live}
 use Rattle.uc_book.specs.declared.task.Job.{Job}
 use Rattle.uc_book.specs.declared.task.Job.TheVariants.{Goal, More, Meet, Join}
 use Rattle.uc_book.specs.declared.task.Finding.{Finding}
