@@ -1,5 +1,5 @@
 -- What the readers of lines answer.
-use Rattle.std.specs.Prelude.{◌≡◌, ◌≤◌, ℕ, Bool, true, List, drop, Result, Ok, Err}
+use Rattle.std.specs.Prelude.{◌≡◌, ◌<◌, ◌≤◌, ◌^◌, ℕ, Bool, true, List, drop, Result, Ok, Err}
 use Rattle.uc_term.specs.declared.node.Sym.{Sym}
 use Rattle.uc_term.specs.declared.node.Node.{Node}
 use Rattle.uc_term.specs.declared.node.Node.TheVariants.{Var, App}
@@ -87,6 +87,12 @@ IsLargeIn text unread.NoMemory = Unit {0}
 abbrev pub is_known : List Sym → Node → Bool
 is_known fs (Var x) = true
 is_known fs (App f n) = is_one_of f fs
+
+-- it is so near that a column can say where
+abbrev pub IsShort : Unread → Type 0
+IsShort unread.Departs = Unit {0}
+IsShort (unread.Large from) = from < 2 ^ 31
+IsShort unread.NoMemory = Unit {0}
 
 -- the fault of the line of this number
 abbrev pub line_fault : ℕ → Unread → SystemFault

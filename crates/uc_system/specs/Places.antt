@@ -12,4 +12,5 @@ pub record IsAt (bytes : List ℕ) (at : Cursor) : Type 0 where
 pub record IsNext (bytes : List ℕ) (at : Cursor) (line : List ℕ) (next : Cursor) : Type 0 where
   pub is : first_line (drop at.from bytes) ≡ Some (record { line = line; rest = drop next.from bytes })
   pub number : next.number ≡ at.number + 1
-  pub at : IsAt bytes next
+  pub short : length line ≤ length bytes
+  pub stands : IsAt bytes next

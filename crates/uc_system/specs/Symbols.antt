@@ -86,14 +86,18 @@ module _ (header : Header) where
 abbrev pub has_constant : Table → List Ranked → Bool
 has_constant table ss = list_any (λ (s : Ranked). arity_of table s.symbol == 0) ss
 
+-- the symbol, or what is wrong with it
+abbrev pub ranked_or : Option SystemFault → Ranked → ℕ → List ℕ → Outcome Ranked
+ranked_or None s n rest = gets s (n + 1) rest
+ranked_or (Some fault) s n rest = fails fault
+
 module _ (table : Table) (header : Header) where
   -- a symbol's line, behind the lines of these
   pub data SymbolAt (earlier : List Sym) (n : ℕ) (text : List ℕ) : Outcome Ranked → Type 0 where
     is_no_whole_line : first_line text ≡ None → SymbolAt earlier n text (fails (departs n))
     is_no_symbol : {c : Cut} → first_line text ≡ Some c → ((p : Parts) → IsSymbolLine header.kind c.line p → ⊥) → SymbolAt earlier n text (fails (departs n))
     has_too_many : {c : Cut} {p : Parts} → first_line text ≡ Some c → IsSymbolLine header.kind c.line p → 255 < value_of p.arity → SymbolAt earlier n text (fails (Limit (place_in n (length (symbol_front p.name)))))
-    is_refused : {c : Cut} {p : Parts} {f : Sym} {fault : SystemFault} → first_line text ≡ Some c → IsSymbolLine header.kind c.line p → value_of p.arity ≤ 255 → IsSymbol table f p.name (value_of p.arity) → symbol_fault header (is_one_of f earlier) (begins_symbol c.rest) n (value_of p.arity) (value_of p.weight) ≡ Some fault → SymbolAt earlier n text (fails fault)
-    is_ranked : {c : Cut} {p : Parts} {f : Sym} → first_line text ≡ Some c → IsSymbolLine header.kind c.line p → value_of p.arity ≤ 255 → IsSymbol table f p.name (value_of p.arity) → symbol_fault header (is_one_of f earlier) (begins_symbol c.rest) n (value_of p.arity) (value_of p.weight) ≡ None → SymbolAt earlier n text (gets (record { symbol = f; weight = value_of p.weight }) (n + 1) c.rest)
+    is_symbol : {c : Cut} {p : Parts} {outcome : Outcome Ranked} (f : Sym) → first_line text ≡ Some c → IsSymbolLine header.kind c.line p → value_of p.arity ≤ 255 → IsSymbol table f p.name (value_of p.arity) → outcome ≡ ranked_or (symbol_fault header (is_one_of f earlier) (begins_symbol c.rest) n (value_of p.arity) (value_of p.weight)) (record { symbol = f; weight = value_of p.weight }) n c.rest → SymbolAt earlier n text outcome
 
   -- all of these lines, behind those of these symbols
   pub data SymbolsAt : List Ranked → ℕ → List ℕ → Outcome (List Ranked) → Type 0 where

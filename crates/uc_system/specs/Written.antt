@@ -1,6 +1,8 @@
 -- What stands in a symbol's line, as its reader takes it apart.
-use Rattle.std.specs.Prelude.{◌≡◌, ℕ, ◌-◌, ◌^◌, ◌==◌, ◌++◌, not, min, true, List, ◌∷◌, codes, Option, Some, None}
+use Rattle.std.specs.Prelude.{◌≡◌, ℕ, ◌-◌, ◌^◌, ◌==◌, ◌++◌, not, min, true, List, [], ◌∷◌, codes, Option, Some, None, if◌then◌else◌}
 use Rattle.std.specs.List.{list_all}
+use Rattle.uc_clause.specs.declared.token.Kind.{Kind as TokenKind}
+use Rattle.uc_clause.specs.declared.token.Kind.TheVariants.{Lower, Quoted}
 use Rattle.uc_clause.specs.Names.{IsSpellable, spelling}
 use Rattle.uc_system.specs.declared.header.Kind.{Kind}
 use Rattle.uc_system.specs.declared.header.Kind.TheVariants.{Weighing, Paths}
@@ -47,6 +49,11 @@ pub record IsNamed (text spelled : List ℕ) (arity : ℕ) : Type 0 where
 
 abbrev pub IsNotNamed : List ℕ → Type 0
 IsNotNamed text = (spelled arity : List ℕ) → is_numeral arity ≡ true → text ≡ spelled ++ codes " " ++ arity → ⊥
+
+-- the kind of the token that a spelling is
+abbrev pub kind_at : List ℕ → TokenKind
+kind_at [] = Lower
+kind_at (b ∷ bs) = if b == 39 then Quoted else Lower
 
 -- the word that is spelled so, if one is
 abbrev pub IsWordOf : List ℕ → Option (List ℕ) → Type 0

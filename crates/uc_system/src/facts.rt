@@ -9,9 +9,10 @@ ghost use Rattle.uc_clause.specs.Reading.{ReadsEquation, Refuses, IsFault};
 ghost use Rattle.uc_clause.specs.Tokens.{AreTokens};
 ghost use Rattle.uc_clause.specs.declared.token.Token.{Token as AnyToken};
 ghost use Rattle.uc_order.specs.Members.{Each};
+ghost use Rattle.uc_system.specs.declared.facts.Unread.TheVariants.{NoMemory};
 ghost use Rattle.uc_system.specs.Places.{IsAt};
 ghost use Rattle.uc_system.specs.Facts.{fact_front, fact_end, fact_lines};
-ghost use Rattle.uc_system.specs.Given.{HasTooManyNodes, GivesIn, IsUnread, ReadsFact, ReadsFactLine, IsChecked, IsLargeIn, is_known, line_fault, IsBounded};
+ghost use Rattle.uc_system.specs.Given.{HasTooManyNodes, GivesIn, IsUnread, ReadsFact, ReadsFactLine, IsChecked, IsLargeIn, is_known, line_fault, IsShort, IsBounded};
 
 use crate::SystemFault;
 use crate::lines::{Cursor, departs, line_at, place_in};
@@ -33,7 +34,7 @@ pub(crate) enum Unread {
 }
 
 impl From<AllocError> for Unread {
-    ghost from_gives = { λ _ e. e ≡ Unread.NoMemory };
+    ghost from_gives = { λ _ e. e ≡ NoMemory };
 
     fn from(_: AllocError) -> Self {
         Unread::NoMemory
@@ -41,7 +42,7 @@ impl From<AllocError> for Unread {
 }
 
 impl<T: Drop> From<AllocFailed<T>> for Unread {
-    ghost from_gives = { λ _ e. e ≡ Unread.NoMemory };
+    ghost from_gives = { λ _ e. e ≡ NoMemory };
 
     fn from(_: AllocFailed<T>) -> Self {
         Unread::NoMemory
@@ -75,12 +76,7 @@ fn equation_in<'a>(front: &[u8], line: &'a [u8]) -> Option<&'a [u8]>
 fn are_known(nodes: &[Node], known: &IndexSet<Sym>) -> bool
     ensures { result ≡ list_all (is_known known.now.keys) nodes.now }
 {
-    for node in nodes {
-        if !is_known(*node, known) {
-            return false;
-        }
-    }
-    true
+    nodes.iter().all(|node| is_known(*node, known))
 }
 
 fn is_known(node: Node, known: &IndexSet<Sym>) -> bool
@@ -106,7 +102,7 @@ fn fact_of(
 {
     match read_equation(alloc, text, symbols) {
         Ok((left, right)) => checked(alloc, text, left, right, known, symbols),
-        Err(fault) => Err(unread(alloc, text, known, fault, symbols)),
+        Err(fault) => Err(why_unread(alloc, text, known, fault, symbols)),
     }
 }
 
@@ -161,7 +157,7 @@ fn checked(
 }
 
 // Why a text with this fault isn't the equation of a fact.
-fn unread(
+fn why_unread(
     alloc: Global,
     text: &[u8],
     known: &IndexSet<Sym>,
@@ -241,6 +237,7 @@ fn fact_in(
 
 // The fault of the line of this number.
 fn line_fault(number: u32, unread: Unread) -> SystemFault
+    requires { IsShort unread }
     ensures { result ≡ line_fault number unread }
 {
     match unread {

@@ -4,6 +4,7 @@
 mod facts;
 mod fault;
 mod header;
+mod laws;
 mod lines;
 mod numerals;
 mod printing;
@@ -14,6 +15,8 @@ mod system;
 mod tests;
 
 pub use fault::SystemFault;
+pub use laws::{one_system, system_stays};
 pub use printing::print_system;
 pub use reading::read_system;
-pub use system::{System, SystemText};
+pub use system::SystemText;
+pub use uc_fact::System;

@@ -1,6 +1,8 @@
 //! The lines of a text, and the places of their bytes.
 
-ghost use Rattle.std.specs.Prelude.{◌≡◌, ◌+◌, ◌<◌, ◌≤◌, ◌^◌, None, Some, drop, length, MatchOption};
+ghost use Rattle.std.specs.Prelude.{◌≡◌, ◌<◌, ◌≤◌, ◌^◌, None, drop, length, MatchOption};
+ghost use Rattle.std.specs.List.{prefix_len};
+ghost use Rattle.uc_clause.specs.Bytes.{in_line};
 ghost use Rattle.uc_system.specs.Lines.{first_line, place_in, departs};
 ghost use Rattle.uc_system.specs.Places.{IsAt, IsNext};
 
@@ -14,14 +16,22 @@ pub(crate) struct Cursor {
     pub(crate) number: u32,
 }
 
+// How many bytes stand before the end of the line.
+fn line_len(bytes: &[u8]) -> usize
+    ensures longest { result ≡ prefix_len in_line bytes.now }
+    ensures within { result ≤ length bytes.now }
+{
+    bytes.iter().take_while(|b| **b != b'\n').count()
+}
+
 // The line that begins here, without its line feed, and where the next one begins; none where no line feed ends it.
 pub(crate) fn line_at(bytes: &[u8], at: Cursor) -> Option<(&[u8], Cursor)>
     requires small { length bytes.now < 2 ^ 31 }
     requires at { IsAt bytes.now at }
     ensures { MatchOption result (first_line (drop at.from bytes.now) ≡ None) (λ r. IsNext bytes.now at r.0.now r.1) }
 {
-    let rest = &bytes[at.from..];
-    let length = rest.iter().take_while(|b| **b != b'\n').count();
+    let (_, rest) = bytes.split_at(at.from);
+    let length = line_len(rest);
     if length >= rest.len() {
         return None;
     }
@@ -29,7 +39,8 @@ pub(crate) fn line_at(bytes: &[u8], at: Cursor) -> Option<(&[u8], Cursor)>
         from: at.from + length + 1,
         number: at.number + 1,
     };
-    Some((&rest[..length], next))
+    let (line, _) = rest.split_at(length);
+    Some((line, next))
 }
 
 // The place behind so many bytes of the line of this number.

@@ -1,6 +1,7 @@
 //! Printing a system.
 
-ghost use Rattle.std.specs.Prelude.{◌≡◌, ◌++◌, length, decimal, Ok, IfOk, OnOk};
+ghost use Rattle.std.specs.List.{list_any};
+ghost use Rattle.std.specs.Prelude.{◌≡◌, ◌==◌, ◌++◌, length, decimal, Ok, IfOk, OnOk};
 ghost use Rattle.uc_term.specs.Table.{Has};
 ghost use Rattle.uc_order.specs.Members.{Each};
 ghost use Rattle.uc_system.specs.Reading.{ReadsSystem};
@@ -8,10 +9,10 @@ ghost use Rattle.uc_system.specs.Printing.{system_text, is_light, heading_line, 
 ghost use Rattle.uc_system.specs.Facts.{fact_line};
 ghost use Rattle.uc_system.specs.Printable.{IsPrintableSystem};
 
-use crate::System;
 use itoa::Buffer;
 use std::alloc::{AllocError, Global};
 use uc_clause::{print_equation, print_word};
+use uc_fact::System;
 use uc_order::OrderSpec;
 use uc_term::{Equation, Sym, Symbols, Text};
 
@@ -50,9 +51,15 @@ fn is_light(spec: &OrderSpec) -> bool
     ensures { result ≡ is_light spec.now }
 {
     match spec {
-        OrderSpec::Kbo { weights, .. } => weights.as_slice().iter().any(|w| *w == 0),
+        OrderSpec::Kbo { weights, .. } => has_zero(weights.as_slice()),
         OrderSpec::Lpo { .. } => false,
     }
+}
+
+fn has_zero(weights: &[u32]) -> bool
+    ensures { result ≡ list_any (λ w. w == 0) weights.now }
+{
+    weights.iter().any(|w| *w == 0)
 }
 
 fn heading_line(light: bool) -> &'static [u8]

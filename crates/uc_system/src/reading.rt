@@ -11,8 +11,9 @@ use crate::facts::facts_at;
 use crate::header::{Header, Kind, header_at};
 use crate::lines::{Cursor, departs};
 use crate::symbols::{Ranked, symbols_at, symbols_fault};
-use crate::{System, SystemFault, SystemText};
+use crate::{SystemFault, SystemText};
 use std::alloc::{AllocError, Global};
+use uc_fact::System;
 use uc_order::OrderSpec;
 use uc_term::{Seq, Symbols};
 

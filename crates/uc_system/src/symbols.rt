@@ -2,11 +2,13 @@
 
 ghost use Rattle.std.specs.Prelude.{◌≡◌, ◌<◌, ◌^◌, length, IsTrue, ◌↔◌, IfOk, IfSome, MatchOption};
 ghost use Rattle.uc_term.specs.Table.{Table, Grows, Has};
-ghost use Rattle.uc_clause.specs.Names.{IsSpellable};
+ghost use Rattle.std.specs.List.{list_all};
+ghost use Rattle.uc_clause.specs.Bytes.{between};
+ghost use Rattle.uc_clause.specs.Names.{IsSpellable, stands_for};
 ghost use Rattle.uc_order.specs.Members.{Each};
 ghost use Rattle.uc_system.specs.Symbols.{begins_symbol, is_bad_weight, weighs_nothing, symbol_fault, symbols_fault, has_light, has_constant, symbols_in, SymbolAt};
 ghost use Rattle.uc_system.specs.Places.{IsAt};
-ghost use Rattle.uc_system.specs.Written.{HasNoSpace, IsSplit, IsWritten, IsNotWritten, IsNamed, IsNotNamed, IsWordOf, AreSame};
+ghost use Rattle.uc_system.specs.Written.{HasNoSpace, IsSplit, IsWritten, IsNotWritten, IsNamed, IsNotNamed, IsWordOf, kind_at, AreSame};
 ghost use Rattle.uc_system.specs.Given.{GivesIn, ReadsSymbols};
 
 use crate::SystemFault;
@@ -53,8 +55,17 @@ fn begins_symbol(text: &[u8]) -> bool
 fn split_last(text: &[u8]) -> Option<(&[u8], &[u8])>
     ensures { MatchOption result (HasNoSpace text.now) (λ r. IsSplit text.now r.0.now r.1.now) }
 {
-    let at = text.iter().rposition(|b| *b == b' ')?;
-    Some((&text[..at], &text[at + 1..]))
+    let mut end = text.len();
+    while end > 0 {
+        let at = end - 1;
+        if text[at] == b' ' {
+            let (front, _) = text.split_at(at);
+            let (_, back) = text.split_at(end);
+            return Some((front, back));
+        }
+        end = at;
+    }
+    None
 }
 
 // What stands in a line, if it can be a symbol's.
@@ -86,11 +97,48 @@ fn named_in(text: &[u8], weight: u32) -> Option<Written<'_>>
     })
 }
 
+fn is_visible(b: u8) -> bool
+    ensures { result ≡ between 32 126 b }
+{
+    32 <= b && b <= 126
+}
+
+fn are_visible(word: &[u8]) -> bool
+    ensures { result ≡ list_all (between 32 126) word.now }
+{
+    word.iter().all(|b| is_visible(*b))
+}
+
 // Whether a token can spell the word, quoted or not: it has one or more bytes, each 32 to 126.
 fn is_spellable(word: &[u8]) -> bool
     ensures { IsTrue result ↔ IsSpellable word.now }
 {
-    !word.is_empty() && word.iter().all(|b| 32 <= *b && *b <= 126)
+    !word.is_empty() && are_visible(word)
+}
+
+// The kind of the token that a spelling is.
+fn kind_at(spelled: &[u8]) -> TokenKind
+    ensures { result ≡ kind_at spelled.now }
+{
+    match spelled {
+        [b'\'', ..] => TokenKind::Quoted,
+        _ => TokenKind::Lower,
+    }
+}
+
+// What one or more bytes say as a token.
+fn said_by(alloc: Global, spelled: &[u8]) -> Result<Text, AllocError>
+    requires some { 0 < length spelled.now }
+    requires small { length spelled.now < 2 ^ 31 }
+    ensures { IfOk result (λ word. word ≡ stands_for (kind_at spelled.now) spelled.now) }
+{
+    let token = Token {
+        kind: kind_at(spelled),
+        from: 0,
+        to: spelled.len() as u32,
+        place: Place { line: 1, column: 1 },
+    };
+    token.word(alloc, spelled)
 }
 
 // The word that is spelled so, if one is.
@@ -101,18 +149,7 @@ fn word_of(alloc: Global, spelled: &[u8]) -> Result<Option<Text>, AllocError>
     if spelled.is_empty() {
         return Ok(None);
     }
-    let kind = if spelled[0] == b'\'' {
-        TokenKind::Quoted
-    } else {
-        TokenKind::Lower
-    };
-    let token = Token {
-        kind,
-        from: 0,
-        to: spelled.len() as u32,
-        place: Place { line: 1, column: 1 },
-    };
-    let word = token.word(alloc, spelled)?;
+    let word = said_by(alloc, spelled)?;
     if !is_spellable(word.as_bytes()) {
         return Ok(None);
     }

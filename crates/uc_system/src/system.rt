@@ -1,15 +1,9 @@
-//! Saturated systems, and the orders that they are saturated under.
+//! What a text of a system says.
 
+use uc_fact::System;
 use uc_order::OrderSpec;
-use uc_term::{Equation, Seq};
 
-/// A saturated system: its facts, in order.
-#[derive(Drop)]
-pub struct System {
-    pub facts: Seq<Equation>,
-}
-
-/// What a text of a system says: the order, and the system.
+/// The description of an order, and the system that is saturated under it.
 #[derive(Drop)]
 pub struct SystemText {
     pub spec: OrderSpec,
