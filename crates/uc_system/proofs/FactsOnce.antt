@@ -16,12 +16,12 @@ use Rattle.uc_system.proofs.LinesOnce.{Once}
 use Rattle.uc_system.proofs.SymbolsOnce.{some_once, some_or_none}
 use Rattle.uc_system.proofs.FactTexts.{fact_again, fact_text_once, large_stops, read_or_large, large_once, between_once}
 
-not_same : 37 ≡ 99 → ⊥
-not_same e = cc
+two_bytes : (n : ℕ) → n ≡ 37 → n ≡ 99 → ⊥
+two_bytes n e f = omega arith
 
 -- the last line is none of a fact
 other_line : (k : ℕ) (text line : List ℕ) → line ≡ end_line → line ≡ fact_front k ++ text ++ fact_end → ⊥
-other_line k text line e f = not_same (ap (λ l. get_or l 0 0) (sym e ∙ f))
+other_line k text line e f = two_bytes (get_or line 0 0) (ap (λ l. get_or l 0 0) e) (ap (λ l. get_or l 0 0) f)
 
 large_is : (k : ℕ) (line : List ℕ) (from : ℕ) → IsLargeLine k line from → (text : List ℕ) × (line ≡ fact_front k ++ text ++ fact_end)
 large_is k line _ (is_large {text = t} e h) = (t, e)

@@ -68,5 +68,6 @@ next_here bytes rest line at next n e m h l f k a =
       is = ap first_line (sym e) ∙ cut ∙ (λ i. Some (record { line = lines i; rest = behind i }));
       number = k;
       short = omega (arith, ap length l, length-take-le n rest (omega arith), long, length-drop at.from bytes);
+      further = omega arith;
       stands = record { within = omega (arith, long, length-drop at.from bytes, a.within); few = omega (arith, a.few) };
     }

@@ -17,3 +17,6 @@ pub mod PrintedSystem
 pub mod LargeTerms
 pub mod Taken
 pub mod FactChecks
+pub mod Causes
+pub mod SymbolReading
+pub mod FactReading

@@ -18,6 +18,7 @@ use Rattle.uc_system.specs.declared.header.Kind.TheVariants.{Weighing, Paths}
 use Rattle.uc_system.specs.declared.header.Header.{Header}
 use Rattle.uc_system.specs.declared.symbols.Ranked.{Ranked}
 use Rattle.uc_system.specs.declared.system.SystemText.{SystemText}
+use Rattle.uc_fact.specs.declared.fact.System.{System}
 use Rattle.uc_system.specs.Numerals.{is_numeral, value_of}
 use Rattle.uc_system.specs.Lines.{Cut, first_line, Outcome, gets, unless, passed_or, goes_on, pick, picked, value_or}
 use Rattle.uc_system.specs.Header.{MOST, weighing_words, paths_line, version_line, version_of, weighing_of, kind_of, kind_fault, header_lines}
@@ -214,3 +215,8 @@ module _ (table : Table) where
   pub system_read : (spec : OrderSpec) (es : List Equation) → length es + 1 < 2 ^ 64 → IsPrintableSystem table spec es → ReadsSystem table (system_text table spec es) (Ok (record { spec = spec; system = record { facts = es } }))
   system_read (Kbo w0 ws fs) es small p = kbo_system w0 ws fs es small p
   system_read (Lpo fs) es small p = lpo_system fs es small p
+
+pub printed_read : (table : Table) (spec : OrderSpec) (system : System) (start text : List ℕ) → start ≡ [] → text ≡ start ++ system_text table spec system.facts → length system.facts + 1 < 2 ^ 64 → IsPrintableSystem table spec system.facts → ReadsSystem table text (Ok (record { spec = spec; system = system }))
+printed_read table spec system start text none_yet e small printable =
+    let same : text ≡ system_text table spec system.facts = e ∙ ap (λ l. l ++ system_text table spec system.facts) none_yet in
+    subst (λ x. ReadsSystem table x (Ok (record { spec = spec; system = system }))) (sym same) (system_read table spec system.facts small printable)

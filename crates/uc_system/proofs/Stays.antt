@@ -20,6 +20,7 @@ use Rattle.uc_system.specs.Lines.{departs, Outcome, gets, passed_or, goes_on, fa
 use Rattle.uc_system.specs.Symbols.{symbols_in, SymbolAt, is_no_whole_line, is_no_symbol, has_too_many, is_symbol, SymbolsAt, no_more_symbols, one_more_symbol, fails_in_symbol, has_light, has_constant, symbols_fault, are_complete}
 use Rattle.uc_system.specs.Facts.{fact_front, fact_end, IsSide, IsFact, IsFactLine, FactsAt, no_more_facts, one_more_fact, has_large_term, is_no_fact}
 use Rattle.uc_system.specs.Facts as facts
+use Rattle.uc_system.specs.Given.{IsFactText}
 use Rattle.uc_system.specs.Reading.{system_body, system_lines, ReadsSystem, reads, goes_further, fails_within}
 use Rattle.uc_system.proofs.Precedence.{each_in, symbols_printable}
 
@@ -85,6 +86,12 @@ module _ (old new : Table) (grows : Grows old new) where
 
   pub facts_stay : (precedence : List Sym) → Each (IsPrintableSymbol old) precedence → {earlier : List Equation} {n : ℕ} {text : List ℕ} {o : Outcome (List Equation)} → FactsAt old precedence earlier n text o → FactsAt new precedence earlier n text o
   facts_stay precedence all x = facts_move old new precedence (agrees precedence all) x
+
+  pub fact_text_stays : (precedence : List Sym) → Each (IsPrintableSymbol old) precedence → (text : List ℕ) (e : Equation) → IsFactText old precedence text e → IsFactText new precedence text e
+  fact_text_stays precedence all text e l = record {
+    is = l.is ∙ ap₂ (λ p q. p ++ sign_text true ++ q) (text_moves old new precedence (agrees precedence all) e.left l.fact.left.over) (text_moves old new precedence (agrees precedence all) e.right l.fact.right.over);
+    fact = fact_moves old new precedence (agrees precedence all) e l.fact;
+  }
 
   pub fact_line_stays : (precedence : List Sym) → Each (IsPrintableSymbol old) precedence → (k : ℕ) (line : List ℕ) (e : Equation) → IsFactLine old precedence k line e → IsFactLine new precedence k line e
   fact_line_stays precedence all k line e l = fact_line_moves old new precedence (agrees precedence all) k line e l

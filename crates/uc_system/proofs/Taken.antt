@@ -33,7 +33,7 @@ space_more text at end e within n none =
     subst HasNoSpace (sym (drop-cons text at 0 (omega arith))) (and_both _ _ (no_space_byte (get_or text at 0) n) rest)
 
 -- a name and an arity
-named_text : (spelled arity : List ℕ) → spelled ++ codes " " ++ arity ≡ spelled ++ 32 ∷ arity
+pub named_text : (spelled arity : List ℕ) → spelled ++ codes " " ++ arity ≡ spelled ++ 32 ∷ arity
 named_text spelled arity = append_assoc spelled (32 ∷ []) arity
 
 pub no_space_not_named : (text : List ℕ) → HasNoSpace text → IsNotNamed text
@@ -51,10 +51,10 @@ pub is_named : (text front back : List ℕ) (n : ℕ) → IsSplit text front bac
 is_named text front back n s h e = record { arity_digits = back; is_arity = h; is = s.is ∙ sym (named_text front back); arity_is = e }
 
 -- and a weight
-weighed_line_is : (w0 : ℕ) (spelled arity weight : List ℕ) → written_line (Weighing w0) spelled arity weight ≡ symbol_words ++ ((spelled ++ codes " " ++ arity) ++ 32 ∷ weight)
+pub weighed_line_is : (w0 : ℕ) (spelled arity weight : List ℕ) → written_line (Weighing w0) spelled arity weight ≡ symbol_words ++ ((spelled ++ codes " " ++ arity) ++ 32 ∷ weight)
 weighed_line_is w0 spelled arity weight = simp append_assoc refl
 
-bare_line_is : (spelled arity weight : List ℕ) → written_line Paths spelled arity weight ≡ symbol_words ++ (spelled ++ codes " " ++ arity)
+pub bare_line_is : (spelled arity weight : List ℕ) → written_line Paths spelled arity weight ≡ symbol_words ++ (spelled ++ codes " " ++ arity)
 bare_line_is spelled arity weight = simp append_assoc refl
 
 pub other_words : (kind : Kind) (line : List ℕ) → ((rest : List ℕ) → line ≡ symbol_words ++ rest → ⊥) → IsNotWritten kind line

@@ -1,5 +1,5 @@
 -- What the readers of lines answer.
-use Rattle.std.specs.Prelude.{◌≡◌, ◌<◌, ◌≤◌, ◌^◌, ℕ, Bool, true, List, drop, Result, Ok, Err}
+use Rattle.std.specs.Prelude.{◌≡◌, ◌+◌, ◌<◌, ◌≤◌, ◌^◌, ℕ, Bool, true, List, drop, Result, Ok, Err}
 use Rattle.uc_term.specs.declared.node.Sym.{Sym}
 use Rattle.uc_term.specs.declared.node.Node.{Node}
 use Rattle.uc_term.specs.declared.node.Node.TheVariants.{Var, App}
@@ -16,6 +16,12 @@ use Rattle.uc_clause.specs.Printing.{equation_text}
 use Rattle.uc_clause.specs.Printable.{AreNumbered}
 use Rattle.uc_system.specs.declared.fault.SystemFault.{SystemFault}
 use Rattle.uc_system.specs.declared.fault.SystemFault.TheVariants.{Limit, NoMemory}
+use Rattle.uc_clause.specs.declared.fault.What.{What}
+use Rattle.uc_clause.specs.declared.fault.What.TheVariants as what
+use Rattle.uc_clause.specs.declared.fault.ClauseFault.{ClauseFault}
+use Rattle.uc_clause.specs.declared.fault.ClauseFault.TheVariants as clause
+use Rattle.uc_system.specs.declared.facts.Cause.{Cause}
+use Rattle.uc_system.specs.declared.facts.Cause.TheVariants.{TooManyNodes, NoRoom, OtherCause}
 use Rattle.uc_system.specs.declared.facts.Unread.{Unread}
 use Rattle.uc_system.specs.declared.facts.Unread.TheVariants as unread
 use Rattle.uc_system.specs.declared.header.Header.{Header}
@@ -94,6 +100,12 @@ IsShort unread.Departs = Unit {0}
 IsShort (unread.Large from) = from < 2 ^ 31
 IsShort unread.NoMemory = Unit {0}
 
+-- the same of a text with so many bytes in front
+abbrev pub further : ℕ → Unread → Unread
+further front unread.Departs = unread.Departs
+further front (unread.Large from) = unread.Large (front + from)
+further front unread.NoMemory = unread.NoMemory
+
 -- the fault of the line of this number
 abbrev pub line_fault : ℕ → Unread → SystemFault
 line_fault n unread.Departs = departs n
@@ -110,3 +122,13 @@ pub record HasTooManyNodes (text : List ℕ) : Type 0 where
   pub k : ℕ
   pub are_tokens : AreTokens text tokens
   pub stops : equals_alone text tokens 0 (stop Nodes k)
+
+-- what kind of refusal of an equation a fault is
+abbrev pub cause_of_limit : What → Cause
+cause_of_limit what.Nodes = TooManyNodes
+cause_of_limit other = OtherCause
+
+abbrev pub cause_of : ClauseFault → Cause
+cause_of (clause.Limit place w) = cause_of_limit w
+cause_of clause.NoMemory = NoRoom
+cause_of other = OtherCause

@@ -1,5 +1,5 @@
 -- Where reading stands in a text.
-use Rattle.std.specs.Prelude.{◌≡◌, ℕ, ◌+◌, ◌≤◌, List, drop, length, Some}
+use Rattle.std.specs.Prelude.{◌≡◌, ℕ, ◌+◌, ◌<◌, ◌≤◌, List, drop, length, Some}
 use Rattle.uc_system.specs.declared.lines.Cursor.{Cursor}
 use Rattle.uc_system.specs.Lines.{first_line}
 
@@ -13,4 +13,5 @@ pub record IsNext (bytes : List ℕ) (at : Cursor) (line : List ℕ) (next : Cur
   pub is : first_line (drop at.from bytes) ≡ Some (record { line = line; rest = drop next.from bytes })
   pub number : next.number ≡ at.number + 1
   pub short : length line ≤ length bytes
+  pub further : at.from < next.from
   pub stands : IsAt bytes next

@@ -12,10 +12,11 @@ ghost use Rattle.uc_order.specs.Members.{Each};
 ghost use Rattle.uc_system.specs.declared.facts.Unread.TheVariants.{NoMemory};
 ghost use Rattle.uc_system.specs.Places.{IsAt};
 ghost use Rattle.uc_system.specs.Facts.{fact_front, fact_end, fact_lines};
-ghost use Rattle.uc_system.specs.Given.{HasTooManyNodes, GivesIn, IsUnread, ReadsFact, ReadsFactLine, IsChecked, IsLargeIn, is_known, line_fault, IsShort, IsBounded};
+ghost use Rattle.uc_system.specs.Given.{HasTooManyNodes, cause_of, cause_of_limit, GivesIn, IsUnread, ReadsFact, ReadsFactLine, IsChecked, IsLargeIn, is_known, line_fault, further, IsShort, IsBounded};
 
 use crate::SystemFault;
 use crate::lines::{Cursor, departs, line_at, place_in};
+use crate::pieces::{before, behind};
 use indexmap::IndexSet;
 use itoa::Buffer;
 use std::alloc::{AllocError, AllocFailed, Global};
@@ -69,7 +70,7 @@ fn fact_front(alloc: Global, number: u64) -> Result<Text, AllocError>
 fn equation_in<'a>(front: &[u8], line: &'a [u8]) -> Option<&'a [u8]>
     ensures { MatchOption result ((text : List ℕ) → line.now ≡ front.now ++ text ++ fact_end → ⊥) (λ text. line.now ≡ front.now ++ text.now ++ fact_end) }
 {
-    line.strip_prefix(front)?.strip_suffix(END)
+    before(END, behind(front, line)?)
 }
 
 // Whether all symbols among the nodes are known.
@@ -156,6 +157,33 @@ fn checked(
     }
 }
 
+/// What kind of refusal of an equation a fault is.
+#[derive(Clone, Copy, PartialEq, Eq, Debug)]
+pub(crate) enum Cause {
+    TooManyNodes,
+    NoRoom,
+    OtherCause,
+}
+
+fn cause_of(fault: &ClauseFault) -> Cause
+    ensures { result ≡ cause_of fault.now }
+{
+    match fault {
+        ClauseFault::Limit(_, what) => cause_of_limit(*what),
+        ClauseFault::NoMemory => Cause::NoRoom,
+        _ => Cause::OtherCause,
+    }
+}
+
+fn cause_of_limit(what: What) -> Cause
+    ensures { result ≡ cause_of_limit what }
+{
+    match what {
+        What::Nodes => Cause::TooManyNodes,
+        _ => Cause::OtherCause,
+    }
+}
+
 // Why a text with this fault isn't the equation of a fact.
 fn why_unread(
     alloc: Global,
@@ -170,10 +198,10 @@ fn why_unread(
     ensures unread { IsUnread symbols.new known.now.keys text.now result }
     ensures grows { Grows symbols.old symbols.new }
 {
-    match fault {
-        ClauseFault::Limit(_, What::Nodes) => large_in(alloc, text, symbols),
-        ClauseFault::NoMemory => Unread::NoMemory,
-        _ => Unread::Departs,
+    match cause_of(&fault) {
+        Cause::TooManyNodes => large_in(alloc, text, symbols),
+        Cause::NoRoom => Unread::NoMemory,
+        Cause::OtherCause => Unread::Departs,
     }
 }
 
@@ -212,6 +240,19 @@ fn large_from(tokens: &[Token], at: usize) -> Unread
     Unread::Large(tokens[at].from as usize)
 }
 
+// The same of a text with so many bytes in front.
+fn further(front: usize, unread: Unread) -> Unread
+    requires front { front < 2 ^ 31 }
+    requires short { IsShort unread }
+    ensures { result ≡ further front unread }
+{
+    match unread {
+        Unread::Departs => Unread::Departs,
+        Unread::Large(from) => Unread::Large(front + from),
+        Unread::NoMemory => Unread::NoMemory,
+    }
+}
+
 // The fact of this number in a line.
 fn fact_in(
     alloc: Global,
@@ -230,8 +271,8 @@ fn fact_in(
         return Err(Unread::Departs);
     };
     match fact_of(alloc, text, known, symbols) {
-        Err(Unread::Large(from)) => Err(Unread::Large(front.len() + from)),
-        answer => answer,
+        Ok(fact) => Ok(fact),
+        Err(unread) => Err(further(front.len(), unread)),
     }
 }
 
@@ -262,10 +303,10 @@ pub(crate) fn facts_at(
     ensures grows { Grows symbols.old symbols.new }
 {
     let mut facts = Vec::new(alloc);
-    let mut at = at;
+    let mut here = at;
     'lines: loop {
-        let Some((line, next)) = line_at(bytes, at) else {
-            return Err(departs(at.number));
+        let Some((line, next)) = line_at(bytes, here) else {
+            return Err(departs(here.number));
         };
         if line == END_LINE {
             return Ok((Seq::from_vec(facts), next));
@@ -273,8 +314,8 @@ pub(crate) fn facts_at(
         let number = facts.len() as u64 + 1;
         match fact_in(alloc, line, number, known, symbols) {
             Ok(fact) => facts.push(fact)?,
-            Err(unread) => return Err(line_fault(at.number, unread)),
+            Err(unread) => return Err(line_fault(here.number, unread)),
         }
-        at = next;
+        here = next;
     }
 }

@@ -7,6 +7,7 @@ mod header;
 mod laws;
 mod lines;
 mod numerals;
+mod pieces;
 mod printing;
 mod reading;
 mod symbols;

@@ -1,7 +1,7 @@
 //! Printing a system.
 
 ghost use Rattle.std.specs.List.{list_any};
-ghost use Rattle.std.specs.Prelude.{◌≡◌, ◌==◌, ◌++◌, length, decimal, Ok, IfOk, OnOk};
+ghost use Rattle.std.specs.Prelude.{◌≡◌, ◌+◌, ◌<◌, ◌^◌, ◌==◌, ◌++◌, length, decimal, Ok, IfOk, OnOk};
 ghost use Rattle.uc_term.specs.Table.{Has};
 ghost use Rattle.uc_order.specs.Members.{Each};
 ghost use Rattle.uc_system.specs.Reading.{ReadsSystem};
@@ -35,15 +35,38 @@ pub fn print_system(
     ensures text { IfOk result (λ text. text ≡ system_text symbols.now spec.now system.now.facts) }
     ensures read_back { IsPrintableSystem symbols.now spec.now system.now.facts → IfOk result (λ text. ReadsSystem symbols.now text (Ok (record { spec = spec.now; system = system.now }))) }
 {
+    let facts = system.facts.as_slice();
+    see_few(facts);
     let mut out = Text::new(alloc);
+    write_system(alloc, &mut out, spec, facts, symbols)?;
+    Ok(out)
+}
+
+// Tells of facts how few they are.
+fn see_few(facts: &[Equation])
+    ensures { length facts.now + 1 < 2 ^ 64 }
+{
+    let _ = facts.len();
+}
+
+fn write_system(
+    alloc: Global,
+    out: &mut Text,
+    spec: &OrderSpec,
+    facts: &[Equation],
+    symbols: &Symbols,
+) -> Result<(), AllocError>
+    requires spec { IsSpecOf symbols.now spec.now }
+    requires facts { Each (IsEquationOf symbols.now) facts.now }
+    ensures { OnOk result (out.new ≡ out.old ++ system_text symbols.now spec.now facts.now) }
+{
     out.extend(heading_line(is_light(spec)))?;
     out.push(b'\n')?;
-    write_order(&mut out, spec)?;
+    write_order(out, spec)?;
     out.push(b'\n')?;
-    write_symbols(alloc, &mut out, spec, symbols)?;
-    write_facts(alloc, &mut out, system.facts.as_slice(), symbols)?;
-    out.extend(b"% end\n")?;
-    Ok(out)
+    write_symbols(alloc, out, spec, symbols)?;
+    write_facts(alloc, out, facts, symbols)?;
+    out.extend(b"% end\n")
 }
 
 // Whether some symbol weighs 0.

@@ -1,12 +1,12 @@
 //! The lines of the symbols.
 
-ghost use Rattle.std.specs.Prelude.{◌≡◌, ◌<◌, ◌^◌, length, IsTrue, ◌↔◌, IfOk, IfSome, MatchOption};
+ghost use Rattle.std.specs.Prelude.{◌≡◌, ◌<◌, ◌^◌, length, false, IsTrue, ◌↔◌, IfOk, IfSome, MatchOption};
 ghost use Rattle.uc_term.specs.Table.{Table, Grows, Has};
 ghost use Rattle.std.specs.List.{list_all};
 ghost use Rattle.uc_clause.specs.Bytes.{between};
 ghost use Rattle.uc_clause.specs.Names.{IsSpellable, stands_for};
 ghost use Rattle.uc_order.specs.Members.{Each};
-ghost use Rattle.uc_system.specs.Symbols.{begins_symbol, is_bad_weight, weighs_nothing, symbol_fault, symbols_fault, has_light, has_constant, symbols_in, SymbolAt};
+ghost use Rattle.uc_system.specs.Symbols.{begins_symbol, is_bad_weight, weighs_nothing, symbol_fault, symbols_fault, has_light, has_constant, symbols_in, is_one_of, SymbolAt};
 ghost use Rattle.uc_system.specs.Places.{IsAt};
 ghost use Rattle.uc_system.specs.Written.{HasNoSpace, IsSplit, IsWritten, IsNotWritten, IsNamed, IsNotNamed, IsWordOf, kind_at, AreSame};
 ghost use Rattle.uc_system.specs.Given.{GivesIn, ReadsSymbols};
@@ -15,6 +15,7 @@ use crate::SystemFault;
 use crate::header::{Header, Kind, MOST_WEIGHT};
 use crate::lines::{Cursor, departs, line_at, place_in};
 use crate::numerals::numeral;
+use crate::pieces::behind;
 use indexmap::IndexSet;
 use std::alloc::{AllocError, Global};
 use uc_clause::{Kind as TokenKind, MAX_ARITY, Place, Token, print_word};
@@ -72,7 +73,7 @@ fn split_last(text: &[u8]) -> Option<(&[u8], &[u8])>
 fn written_in(kind: Kind, line: &[u8]) -> Option<Written<'_>>
     ensures { MatchOption result (IsNotWritten kind line.now) (λ w. IsWritten kind line.now w.spelled.now w.arity w.weight) }
 {
-    let rest = line.strip_prefix(SYMBOL)?;
+    let rest = behind(SYMBOL, line)?;
     match kind {
         Kind::Weighing(_) => {
             let (front, digits) = split_last(rest)?;
@@ -220,6 +221,8 @@ fn symbol_at(
     requires small { length bytes.now < 2 ^ 31 }
     requires at { IsAt bytes.now at }
     ensures reads { GivesIn (λ (table : Table). SymbolAt table header earlier.now.keys) symbols.new bytes.now at result }
+    ensures further { IfOk result (λ r. at.from < r.1.from) }
+    ensures new { IfOk result (λ r. is_one_of r.0.symbol earlier.now.keys ≡ false) }
     ensures grows { Grows symbols.old symbols.new }
 {
     let Some((line, next)) = line_at(bytes, at) else {
@@ -261,14 +264,14 @@ pub(crate) fn symbols_at(
 {
     let mut ranked = Vec::new(alloc);
     let mut known = IndexSet::new(alloc);
-    let mut at = at;
-    'lines: while begins_symbol(&bytes[at.from..]) {
-        let (symbol, next) = symbol_at(alloc, bytes, header, &known, at, symbols)?;
+    let mut here = at;
+    'lines: while begins_symbol(&bytes[here.from..]) {
+        let (symbol, next) = symbol_at(alloc, bytes, header, &known, here, symbols)?;
         ranked.push(symbol)?;
         known.insert(symbol.symbol)?;
-        at = next;
+        here = next;
     }
-    Ok((Ranks { ranked, known }, at))
+    Ok((Ranks { ranked, known }, here))
 }
 
 // What is wrong with all of them, where the line of this number stands behind the last, if anything is.
