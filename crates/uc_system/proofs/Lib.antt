@@ -20,3 +20,4 @@ pub mod FactChecks
 pub mod Causes
 pub mod SymbolReading
 pub mod FactReading
+pub mod NumberSteps

@@ -54,13 +54,13 @@ other_symbol f g n = by_test (f.0 == g.0) refl
     by_test true e = absurd (n (let numbers : f.0 ≡ g.0 = grind (arith, nat_tests) in ap (λ k. record { 0 = k }) numbers))
     by_test false e = e
 
+one_of_by : (f x : Sym) (xs : List Sym) (g : Sym) (t : Bool) → same_symbol f x ≡ t → (same_symbol f x || is_one_of f xs) ≡ false → (is_one_of f xs ≡ false → is_one_of f (xs ++ g ∷ []) ≡ false) → (same_symbol f x || is_one_of f (xs ++ g ∷ [])) ≡ false
+one_of_by f x xs g true q h more = absurd (let h' : true ≡ false = rw q at h in cc)
+one_of_by f x xs g false q h more = let h' : is_one_of f xs ≡ false = rw q at h in rw q (more h')
+
 one_of_more : (f : Sym) (earlier : List Sym) (g : Sym) → is_one_of f earlier ≡ false → same_symbol f g ≡ false → is_one_of f (earlier ++ g ∷ []) ≡ false
 one_of_more f [] g h e = or_false _ false e refl
-one_of_more f (x ∷ xs) g h e = by_test (same_symbol f x) refl h
-  where
-    by_test : (t : Bool) → same_symbol f x ≡ t → (same_symbol f x || is_one_of f xs) ≡ false → (same_symbol f x || is_one_of f (xs ++ g ∷ [])) ≡ false
-    by_test true q h = absurd (let h' : true ≡ false = rw q at h in cc)
-    by_test false q h = let h' : is_one_of f xs ≡ false = rw q at h in rw q (one_of_more f xs g h' e)
+one_of_more f (x ∷ xs) g h e = one_of_by f x xs g (same_symbol f x) refl h (λ k. one_of_more f xs g k e)
 
 new_more : (earlier : List Sym) (g : Sym) (fs : List Sym) → AreNew earlier fs → (In fs g → ⊥) → AreNew (earlier ++ g ∷ []) fs
 new_more earlier g [] all n = tt
@@ -77,11 +77,11 @@ module _ (table : Table) where
   weighed_in_line f w p small = all_append in_line (bare_line table f ++ codes " ") (decimal w) (all_append in_line (bare_line table f) (codes " ") (bare_in_line f p) refl) (decimal_in_line w small)
 
   module _ (first : ℕ) (light : Bool) where
-    abbrev header_of : Kind → Header
+    abbrev pub header_of : Kind → Header
     header_of kind = record { first = first; light = light; kind = kind }
 
     -- what is right with a weight
-    record IsGood (w0 : ℕ) (f : Sym) (w : ℕ) (fs : List Sym) : Type 0 where
+    pub record IsGood (w0 : ℕ) (f : Sym) (w : ℕ) (fs : List Sym) : Type 0 where
       pub small : w < 2 ^ 64
       pub fine : is_bad_weight (Weighing w0) (arity_of table f) w ≡ false
       pub light_is : (w == 0) ≡ true → light ≡ true
@@ -94,7 +94,7 @@ module _ (table : Table) where
         by_weight false e = rw (good.fine, e) refl
         by_weight true e = let l : light ≡ true = good.light_is e in let k : followed ≡ false = behind (good.last e) in rw (good.fine, e, l, k) refl
 
-    abbrev AreGood : ℕ → List Sym → List ℕ → Type 0
+    abbrev pub AreGood : ℕ → List Sym → List ℕ → Type 0
     AreGood w0 (f ∷ fs) (w ∷ ws) = IsGood w0 f w fs × AreGood w0 fs ws
     AreGood w0 fs ws = Unit {0}
 
@@ -102,7 +102,7 @@ module _ (table : Table) where
     behind_weighed [] ws rest h e = h
     behind_weighed (f ∷ fs) ws rest h e = absurd (omega arith)
 
-    weighed_read : (w0 : ℕ) (earlier : List Ranked) (fs : List Sym) (ws : List ℕ) (n : ℕ) (rest : List ℕ) → begins_symbol rest ≡ false → length ws ≡ length fs → Each (IsPrintableSymbol table) fs → AreNew (symbols_in earlier) fs → AreDistinct fs → AreGood w0 fs ws → SymbolsAt table (header_of (Weighing w0)) earlier n (weighed_text table fs ws ++ rest) (gets (earlier ++ ranked fs ws) (n + length fs) rest)
+    pub weighed_read : (w0 : ℕ) (earlier : List Ranked) (fs : List Sym) (ws : List ℕ) (n : ℕ) (rest : List ℕ) → begins_symbol rest ≡ false → length ws ≡ length fs → Each (IsPrintableSymbol table) fs → AreNew (symbols_in earlier) fs → AreDistinct fs → AreGood w0 fs ws → SymbolsAt table (header_of (Weighing w0)) earlier n (weighed_text table fs ws ++ rest) (gets (earlier ++ ranked fs ws) (n + length fs) rest)
     weighed_read w0 earlier [] ws n rest h many all new distinct good =
         let number : n ≡ n + 0 = omega arith in
         subst (λ x. SymbolsAt table (header_of (Weighing w0)) earlier n rest (gets x (n + 0) rest)) (sym (append-nil earlier)) (subst (λ m. SymbolsAt table (header_of (Weighing w0)) earlier n rest (gets earlier m rest)) number (no_more_symbols h))
@@ -124,7 +124,7 @@ module _ (table : Table) where
         let number : n + 1 + length fs ≡ n + length (f ∷ fs) = omega arith in
         one_more_symbol refl here (subst (λ m. SymbolsAt table (header_of (Weighing w0)) (earlier ++ s ∷ []) (n + 1) text (gets (earlier ++ ranked (f ∷ fs) (w ∷ ws)) m rest)) number (subst (λ x. SymbolsAt table (header_of (Weighing w0)) (earlier ++ s ∷ []) (n + 1) text (gets x (n + 1 + length fs) rest)) (append_assoc earlier (s ∷ []) (ranked fs ws)) more))
 
-    bare_read : (earlier : List Ranked) (fs : List Sym) (n : ℕ) (rest : List ℕ) → begins_symbol rest ≡ false → Each (IsPrintableSymbol table) fs → AreNew (symbols_in earlier) fs → AreDistinct fs → SymbolsAt table (header_of Paths) earlier n (bare_text table fs ++ rest) (gets (earlier ++ unranked fs) (n + length fs) rest)
+    pub bare_read : (earlier : List Ranked) (fs : List Sym) (n : ℕ) (rest : List ℕ) → begins_symbol rest ≡ false → Each (IsPrintableSymbol table) fs → AreNew (symbols_in earlier) fs → AreDistinct fs → SymbolsAt table (header_of Paths) earlier n (bare_text table fs ++ rest) (gets (earlier ++ unranked fs) (n + length fs) rest)
     bare_read earlier [] n rest h all new distinct =
         let number : n ≡ n + 0 = omega arith in
         subst (λ x. SymbolsAt table (header_of Paths) earlier n rest (gets x (n + 0) rest)) (sym (append-nil earlier)) (subst (λ m. SymbolsAt table (header_of Paths) earlier n rest (gets earlier m rest)) number (no_more_symbols h))

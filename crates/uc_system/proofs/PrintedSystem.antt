@@ -152,15 +152,16 @@ module _ (table : Table) where
   light_is w0 light (f ∷ fs) [] h = absurd (omega arith)
   light_is w0 light (f ∷ fs) (w ∷ ws) h = ap (λ b. (w == 0) || b) (light_is w0 light fs ws (omega arith))
 
+  zero_is : (n : ℕ) → n ≡ 0 → (n == 0) ≡ true
+  zero_is n h = grind (arith, nat_tests)
+
+  some_by : (s : Ranked) (ss : List Ranked) (f : Sym) → In (symbols_in (s ∷ ss)) f → arity_of table f ≡ 0 → (In (symbols_in ss) f → has_constant table ss ≡ true) → has_constant table (s ∷ ss) ≡ true
+  some_by s ss _ in_front e more = or_left (arity_of table s.symbol == 0) _ (zero_is _ e)
+  some_by s ss f (in_rest j) e more = or_right (arity_of table s.symbol == 0) _ (more j)
+
   some_constant : (ss : List Ranked) (f : Sym) → In (symbols_in ss) f → arity_of table f ≡ 0 → has_constant table ss ≡ true
   some_constant [] f i e = elim i [ ]
-  some_constant (s ∷ ss) f i e = go i
-    where
-      zero_is : (n : ℕ) → n ≡ 0 → (n == 0) ≡ true
-      zero_is n h = grind (arith, nat_tests)
-      go : In (symbols_in (s ∷ ss)) f → has_constant table (s ∷ ss) ≡ true
-      go in_front = or_left (arity_of table s.symbol == 0) _ (zero_is _ e)
-      go (in_rest j) = or_right (arity_of table s.symbol == 0) _ (some_constant ss f j e)
+  some_constant (s ∷ ss) f i e = some_by s ss f i e (λ j. some_constant ss f j e)
 
   and_not : (b : Bool) → (b && not b) ≡ false
   and_not true = refl
@@ -196,7 +197,7 @@ module _ (table : Table) where
       let b = behind es small (Weighing w0) light (ranked fs ws) fs (3 + length fs) (Kbo w0 ws fs) fs_are spec_is none p.symbols p.facts in
       let tail : List ℕ = weighed_text table fs ws ++ rest in
       let lines = goes_on (goes_on refl (goes_on (version_read light ((weighing_words ++ decimal w0) ++ 10 ∷ tail)) (goes_on (kbo_read w0 tail weights.w0_some weights.w0_most) (goes_on refl refl)))) (b.1 symbols) in
-      reads (subst (λ x. system_lines table 1 x (gets (record { spec = Kbo w0 ws fs; system = record { facts = es } }) b.0 [])) (sym (regrouped (heading_line light) (weighing_words ++ decimal w0) (weighed_text table fs ws) (facts_text table 1 es) end_line)) lines)
+      reads (subst (λ x. system_lines table 1 x (gets (record { spec = Kbo w0 ws fs; system = record { facts = es } }) b.0 [])) (sym (regrouped (heading_line light) (weighing_words ++ decimal w0) (weighed_text table fs ws) (facts_text table 1 es) (ended end_line))) lines)
 
   lpo_system : (fs : List Sym) (es : List Equation) → length es + 1 < 2 ^ 64 → IsPrintableSystem table (Lpo fs) es → ReadsSystem table (system_text table (Lpo fs) es) (Ok (record { spec = Lpo fs; system = record { facts = es } }))
   lpo_system fs es small p =
@@ -210,7 +211,7 @@ module _ (table : Table) where
       let b = behind es small Paths false (unranked fs) fs (3 + length fs) (Lpo fs) fs_are spec_is none p.symbols p.facts in
       let tail : List ℕ = bare_text table fs ++ rest in
       let lines = goes_on (goes_on refl (goes_on (version_read false (paths_line ++ 10 ∷ tail)) (goes_on (lpo_read tail) (goes_on refl refl)))) (b.1 symbols) in
-      reads (subst (λ x. system_lines table 1 x (gets (record { spec = Lpo fs; system = record { facts = es } }) b.0 [])) (sym (regrouped (codes "% system 1") paths_line (bare_text table fs) (facts_text table 1 es) end_line)) lines)
+      reads (subst (λ x. system_lines table 1 x (gets (record { spec = Lpo fs; system = record { facts = es } }) b.0 [])) (sym (regrouped (codes "% system 1") paths_line (bare_text table fs) (facts_text table 1 es) (ended end_line))) lines)
 
   pub system_read : (spec : OrderSpec) (es : List Equation) → length es + 1 < 2 ^ 64 → IsPrintableSystem table spec es → ReadsSystem table (system_text table spec es) (Ok (record { spec = spec; system = record { facts = es } }))
   system_read (Kbo w0 ws fs) es small p = kbo_system w0 ws fs es small p

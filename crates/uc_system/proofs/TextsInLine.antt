@@ -26,17 +26,13 @@ word_in_line : (w : List ℕ) → list_all (between 32 126) w ≡ true → InLin
 word_in_line [] h = refl
 word_in_line (b ∷ bs) h = and_both (in_line b) _ (visible_in_line b (and_left (between 32 126 b) _ h)) (word_in_line bs (and_right (between 32 126 b) _ h))
 
+escaped_by : (b : ℕ) (bs : List ℕ) (t : Bool) → (b == 92 || b == 39) ≡ t → in_line b ≡ true → InLine (escaped bs) → InLine (escaped (b ∷ bs))
+escaped_by b bs true e here rest = rw e (and_both (in_line b) _ here rest)
+escaped_by b bs false e here rest = rw e (and_both (in_line b) _ here rest)
+
 escaped_in_line : (w : List ℕ) → list_all (between 32 126) w ≡ true → InLine (escaped w)
 escaped_in_line [] h = refl
-escaped_in_line (b ∷ bs) h = by_test (b == 92 || b == 39) refl
-  where
-    here : in_line b ≡ true
-    here = visible_in_line b (and_left (between 32 126 b) _ h)
-    rest : InLine (escaped bs)
-    rest = escaped_in_line bs (and_right (between 32 126 b) _ h)
-    by_test : (t : Bool) → (b == 92 || b == 39) ≡ t → InLine (escaped (b ∷ bs))
-    by_test true e = rw e (and_both (in_line b) _ here rest)
-    by_test false e = rw e (and_both (in_line b) _ here rest)
+escaped_in_line (b ∷ bs) h = escaped_by b bs (b == 92 || b == 39) refl (visible_in_line b (and_left (between 32 126 b) _ h)) (escaped_in_line bs (and_right (between 32 126 b) _ h))
 
 pub spelling_in_line : (w : List ℕ) → IsSpellable w → InLine (spelling w)
 spelling_in_line w s = by_name (is_name w) refl
