@@ -1,7 +1,6 @@
 //! Why a text isn't read as a system.
 
 ghost use Rattle.std.specs.Prelude.{◌≡◌};
-ghost use Rattle.uc_clause.specs.declared.fault.TokenFault.{TokenFault};
 ghost use Rattle.uc_system.specs.declared.fault.SystemFault.TheVariants.{NoMemory};
 
 use std::alloc::{AllocError, AllocFailed};
