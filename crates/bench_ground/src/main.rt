@@ -1,14 +1,14 @@
 //! Tests pairs of terms with five variables for ground joinability and prints how many of how many are joined, to be timed.
-//! The word says in how many rounds. The facts are those of an associative and commutative symbol, with the one that sorts
-//! what stands in brackets to the right. The pairs are the variables in brackets to the left and each of their 120
-//! arrangements in brackets to the right.
+//! The word says how many pairs. The facts are those of an associative and commutative symbol, with the one that sorts
+//! what stands in brackets to the right. The pairs are the variables in brackets to the left and their arrangements,
+//! one after another, in brackets to the right; there are 120 arrangements.
 #![tactic(auto)]
 
 mod order;
 mod pairs;
 
 use order::default_order;
-use pairs::{Pair, all_pairs, sorting_facts};
+use pairs::{Pair, first_pairs, sorting_facts};
 use std::alloc::{AllocError, Global};
 use std::rt::Env;
 use std::{env, io};
@@ -18,7 +18,7 @@ use uc_order::Order;
 use uc_rewrite::Scan;
 
 // The number that the word says, 0 where it says none.
-fn rounds(rt: &(impl Env + AllocGlobal)) -> io::Result<u64> {
+fn number(rt: &(impl Env + AllocGlobal)) -> io::Result<u64> {
     let mut words = env::args(rt)?.skip(1);
     match words.next() {
         Some(word) => Ok(word.parse::<u64>().unwrap_or(0)),
@@ -46,23 +46,18 @@ fn count_joined<O: Order>(
     Ok(count)
 }
 
-// How many pairs are joined in so many rounds, and how many are tried.
-fn work(alloc: Global, rounds: u64) -> Option<(u64, u64)> {
+// How many of the first pairs are joined.
+fn work(alloc: Global, number: u64) -> Option<u64> {
     let order = default_order(alloc)?;
     let facts = sorting_facts(alloc).ok()?;
-    let pairs = all_pairs(alloc).ok()?;
-    let mut joined: u64 = 0;
-    let mut tried: u64 = 0;
-    for _ in 0..rounds {
-        joined = joined.saturating_add(count_joined(alloc, &order, &facts, &pairs).ok()?);
-        tried = tried.saturating_add(pairs.len() as u64);
-    }
-    Some((joined, tried))
+    let pairs = first_pairs(alloc, number).ok()?;
+    count_joined(alloc, &order, &facts, &pairs).ok()
 }
 
 fn main(rt: HostRuntime) -> io::Result<()> {
-    match work(rt.alloc(), rounds(&rt)?) {
-        Some((joined, tried)) => println!(rt; "{joined} of {tried}"),
+    let number = number(&rt)?;
+    match work(rt.alloc(), number) {
+        Some(joined) => println!(rt; "{joined} of {number}"),
         None => println!(rt; "no memory"),
     }
 }

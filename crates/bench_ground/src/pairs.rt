@@ -13,8 +13,6 @@ pub struct Pair {
 
 const VARIABLES: [u32; 5] = [0, 1, 2, 3, 4];
 
-const ARRANGEMENTS: usize = 120;
-
 // The variables in brackets to the left.
 fn to_the_left(alloc: Global, vars: &[u32]) -> Result<Term, TermFault> {
     let mut term = Term::var(alloc, 0)?;
@@ -59,11 +57,11 @@ fn arrangement(alloc: Global, number: usize) -> Result<Vec<u32>, AllocError> {
     Ok(list)
 }
 
-/// The variables in order against each of their arrangements.
-pub fn all_pairs(alloc: Global) -> Result<Vec<Pair>, TermFault> {
+/// So many pairs: the variables in order against their arrangements, one after another.
+pub fn first_pairs(alloc: Global, number: u64) -> Result<Vec<Pair>, TermFault> {
     let mut pairs = Vec::new(alloc);
-    for number in 0..ARRANGEMENTS {
-        let list = arrangement(alloc, number)?;
+    for place in 0..number {
+        let list = arrangement(alloc, place as usize)?;
         pairs.push(Pair {
             left: to_the_left(alloc, &VARIABLES)?,
             right: to_the_right(alloc, &list)?,
