@@ -1,10 +1,10 @@
 -- An ordered step brings no variable that the term before it lacks.
-use Rattle.std.proofs.Common.{◌≡◌, ℕ, List, sym, subst, inl, inr, ◌⊎◌}
+use Rattle.std.proofs.Common.{ℕ, List, sym, subst, inl, inr, ◌⊎◌}
 use Rattle.uc_term.specs.declared.node.Sym.{Sym}
 use Rattle.uc_term.specs.declared.equation.Equation.{Equation}
 use Rattle.uc_term.specs.Tree.{Tree, var, app, Trees, none, more, apply, apply_all}
 use Rattle.uc_term.specs.Variables.{Occurs, is_itself, in_args, OccursIn, in_first, in_later}
-use Rattle.uc_term.specs.Within.{Within, at_root, under, WithinOne, at_first, at_later}
+use Rattle.uc_term.specs.Within.{at_root, under, WithinOne, at_first, at_later}
 use Rattle.uc_fact.specs.Ordered.{IsCompleted, Falls, OStep}
 use Rattle.uc_fact.proofs.Occurring.{occurs_or_not}
 

@@ -1,4 +1,5 @@
 pub mod Live
+pub mod Against
 pub mod Retrieval
 pub mod Ordered
 pub mod Chains

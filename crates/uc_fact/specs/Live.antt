@@ -4,7 +4,12 @@ use Rattle.uc_term.specs.Tree.{Tree}
 use Rattle.uc_term.specs.declared.equation.Equation.{Equation}
 use Rattle.uc_term.specs.declared.equation.Side.{Side}
 use Rattle.uc_term.specs.declared.equation.Side.TheVariants.{Left, Right}
+use Rattle.uc_fact.specs.declared.fact.Fact.{Fact}
 use Rattle.uc_term.specs.Equations.{side_of, other_side_of}
+
+-- the two sides of a fact
+abbrev pub equation_of : Fact → Equation
+equation_of fact = record { left = fact.left; right = fact.right }
 
 -- a fact that lives: its number and its two sides
 pub record Live : Type 0 where

@@ -15,6 +15,10 @@ pub data Generalises (t : Tree) : List Rule → List Found → Type 0 where
   is_instance : {rule : Rule} {rules : List Rule} {pairs : List (ℕ × Tree)} {list : List Found} → IsMatch rule.from t pairs → Generalises t rules list → Generalises t (rule ∷ rules) (found_by rule pairs ∷ list)
   is_no_instance : {rule : Rule} {rules : List Rule} {list : List Found} → HasNoMatch rule.from t → Generalises t rules list → Generalises t (rule ∷ rules) list
 
+-- the term is an instance of no side
+abbrev pub FindsNothing : Tree → List Rule → Type 0
+FindsNothing t rules = Generalises t rules []
+
 -- it is what one of the rules gives
 pub data IsFound (t : Tree) : List Rule → Found → Type 0 where
   by_first : {rule : Rule} {rules : List Rule} {pairs : List (ℕ × Tree)} → IsMatch rule.from t pairs → IsFound t (rule ∷ rules) (found_by rule pairs)

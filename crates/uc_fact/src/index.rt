@@ -1,6 +1,6 @@
 //! Indexes of facts: which sides of live facts a term is an instance of.
 
-ghost use Rattle.std.specs.Prelude.{IfOk, All};
+ghost use Rattle.std.specs.Prelude.{◌≡◌, [], IfOk, OnErr, All};
 ghost use Rattle.uc_fact.specs.Retrieval.{FirstOf};
 
 use std::alloc::{AllocError, Global};
@@ -39,11 +39,11 @@ pub trait Test {
 
 /// An index of facts. Its answers are a function of the facts that live in it, each with its number.
 pub trait Index {
-    ghost use Rattle.std.specs.Prelude.{◌≡◌, ◌≤◌, List, length, Some, None, IfOk, MatchOption};
+    ghost use Rattle.std.specs.Prelude.{◌≡◌, ◌≤◌, List, length, Some, None, IfOk, OnErr, MatchOption};
     ghost use Rattle.uc_term.specs.Flat.{tree_of, IsWhole};
     ghost use Rattle.uc_fact.specs.declared.index.Found.{Found};
     ghost use Rattle.uc_fact.specs.Live.{Live, AreRising, rules_of, fact_at};
-    ghost use Rattle.uc_fact.specs.Retrieval.{Generalises, IsFound, FirstThat};
+    ghost use Rattle.uc_fact.specs.Retrieval.{Generalises, FindsNothing, IsFound, FirstThat};
 
     /// The facts that live, by rising numbers.
     ghost live: { Self → List Live };
@@ -53,10 +53,11 @@ pub trait Index {
     fn generalisations(&self, alloc: Global, term: &[Node]) -> Result<Seq<Found>, AllocError>
         requires whole { IsWhole term.now }
         requires small { length term.now ≤ MAX_NODES }
-        ensures { IfOk result (Generalises (tree_of term.now) (rules_of (live self.now))) };
+        ensures value { IfOk result (Generalises (tree_of term.now) (rules_of (live self.now))) }
+        ensures memory { OnErr result (FindsNothing (tree_of term.now) (rules_of (live self.now)) → ⊥) };
 
     /// The first of `generalisations` that passes a test, for which the list needn't be built. None exactly where none
-    /// passes.
+    /// passes. Where the list is empty, this takes no memory.
     fn first_that<T: Test>(
         &self,
         alloc: Global,
@@ -66,7 +67,8 @@ pub trait Index {
         requires whole { IsWhole term.now }
         requires small { length term.now ≤ MAX_NODES }
         requires can { (found : Found) → IsFound (tree_of term.now) (rules_of (live self.now)) found → T.can_test test.now found }
-        ensures { IfOk result (FirstThat (T.accepts test.now) (tree_of term.now) (rules_of (live self.now))) }
+        ensures value { IfOk result (FirstThat (T.accepts test.now) (tree_of term.now) (rules_of (live self.now))) }
+        ensures memory { OnErr result (FindsNothing (tree_of term.now) (rules_of (live self.now)) → ⊥) }
     {
         first_of(alloc, self.generalisations(alloc, term)?, test)
     }
@@ -78,14 +80,15 @@ pub trait Index {
     ghost rising: { (i : Self) → AreRising (live i) };
 }
 
-/// The first element of a list that passes a test. None exactly where none passes.
+/// The first element of a list that passes a test. None exactly where none passes. An empty list takes no memory.
 pub fn first_of<T: Test>(
     alloc: Global,
     list: Seq<Found>,
     test: &T,
 ) -> Result<Option<Found>, AllocError>
     requires { All (T.can_test test.now) list }
-    ensures { IfOk result (FirstOf (T.accepts test.now) list) }
+    ensures value { IfOk result (FirstOf (T.accepts test.now) list) }
+    ensures memory { OnErr result (list ≡ [] → ⊥) }
 {
     for found in list.into_vec() {
         if test.passes(alloc, &found)? {

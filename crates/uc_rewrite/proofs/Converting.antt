@@ -13,8 +13,9 @@ use Rattle.uc_fact.specs.declared.chain.By.{By}
 use Rattle.uc_fact.specs.declared.chain.By.TheVariants.{Axiom, Fact as FactOf}
 use Rattle.uc_fact.specs.declared.chain.Step.{Step}
 use Rattle.uc_fact.specs.declared.fact.Fact.{Fact}
+use Rattle.uc_fact.specs.Live.{equation_of}
 use Rattle.uc_fact.specs.Chains.{last_term}
-use Rattle.uc_rewrite.specs.Replay.{equation_of, equations, named, replaced_side, IsReplacement, AreReplacements}
+use Rattle.uc_rewrite.specs.Replay.{equations, named, replaced_side, IsReplacement, AreReplacements}
 
 -- a relation used at a place
 module _ (R : Tree → Tree → Type 0) where

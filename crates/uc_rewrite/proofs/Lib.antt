@@ -7,7 +7,6 @@ pub mod Lifting
 pub mod Advancing
 pub mod Telling
 pub mod Testing
-pub mod Fitting
 pub mod Stepping
 pub mod Chaining
 pub mod Scanned

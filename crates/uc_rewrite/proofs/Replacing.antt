@@ -12,7 +12,7 @@ use Rattle.uc_term.proofs.Parts.{split}
 use Rattle.uc_term.proofs.Ahead.{at_place}
 use Rattle.uc_term.proofs.Put.{flat-put}
 use Rattle.uc_unify.specs.Matching.{IsMatchOfBoth, HasNoMatchOfBoth}
-use Rattle.uc_rewrite.specs.Replay.{ReplacesAt}
+use Rattle.uc_fact.specs.Chains.{ReplacesAt}
 
 seam : (a b : List Node) (p : ℕ) → length a ≡ p → (take p (a ++ b) ≡ a) × (drop p (a ++ b) ≡ b)
 seam a b p e = subst (λ (n : ℕ). (take n (a ++ b) ≡ a) × (drop n (a ++ b) ≡ b)) e (take-append_seam a b, drop-append_seam a b)

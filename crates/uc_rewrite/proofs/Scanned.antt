@@ -1,5 +1,5 @@
 -- What is found by looking through a list.
-use Rattle.std.proofs.Common.{◌≡◌, ℕ, zero, suc, ◌==◌, ◌+◌, ◌<◌, ◌≤◌, Bool, true, false, List, [], ◌∷◌, ◌++◌, length, drop, get_or, slice_get, Option, Some, None, if◌then◌else◌, MatchOption, refl, sym, ap, ◌∙◌, arith, append_assoc, append-nil, subst}
+use Rattle.std.proofs.Common.{◌≡◌, ℕ, zero, suc, ◌==◌, ◌+◌, ◌<◌, ◌≤◌, Bool, true, false, List, [], ◌∷◌, ◌++◌, length, drop, get_or, slice_get, Option, Some, None, if◌then◌else◌, MatchOption, Result, Ok, Err, OnErr, refl, sym, ap, ◌∙◌, arith, append_assoc, append-nil, subst}
 use Rattle.std.proofs.lemmas.Bool.{eqb-true, eq-eqb}
 use Rattle.std.proofs.lemmas.Option.{slice_get-get_or, slice_get_past}
 use Rattle.std.proofs.Math.Seq.{drop-cons}
@@ -7,12 +7,18 @@ use Rattle.std.proofs.Math.ListN.{drop_of_length-le}
 use Rattle.std.proofs.Common.{add-one}
 use Rattle.uc_term.specs.declared.equation.Equation.{Equation}
 use Rattle.uc_term.specs.Tree.{Tree}
+use Rattle.uc_term.specs.Subst.{image}
 use Rattle.uc_unify.specs.Matching.{IsMatch, HasNoMatch}
 use Rattle.uc_fact.specs.declared.index.Found.{Found}
 use Rattle.uc_fact.specs.Live.{Rule, fact_at, numbered_from, numbered, rule_of, rules_of}
 use Rattle.uc_term.specs.declared.equation.Side.TheVariants.{Left, Right}
 use Rattle.uc_fact.specs.Retrieval.{Generalises, no_rules, is_instance, is_no_instance, IsFound, by_first, by_later, FirstThat, no_rule_left, accepted, not_accepted}
+use Rattle.uc_fact.specs.Against.{HasMatch}
 use Rattle.uc_rewrite.specs.Scanning.{live_fact, Adds}
+
+pub err_of : {T E : Type 0} (r : Result T E) (P : Type 0) → P → OnErr r P
+err_of (Ok x) P p = tt
+err_of (Err e) P p = p
 
 -- the fact of a number is the one at its place
 pub fact_numbered : (n : ℕ) (es : List Equation) (i : ℕ) → fact_at (numbered_from n es) (n + i) ≡ slice_get es i
@@ -85,6 +91,32 @@ module _ (t : Tree) where
 
     pub none_passes : (facts : List Equation) (i : ℕ) → drop i facts ≡ [] → Passes facts i → FirstThat Accepted t (rules_of (numbered facts)) None
     none_passes facts i e p = p None (subst (λ l. FirstThat Accepted t (rules_of (numbered_from i l)) None) (sym e) no_rule_left)
+
+  -- where nothing is found by all, nothing is found by a part
+  pub nothing_left : (xs ys : List Rule) → Generalises t (xs ++ ys) [] → Generalises t xs []
+  nothing_left [] ys g = no_rules
+  nothing_left (x ∷ xs) ys (is_no_instance n g) = is_no_instance n (nothing_left xs ys g)
+
+  pub nothing_right : (xs ys : List Rule) → Generalises t (xs ++ ys) [] → Generalises t ys []
+  nothing_right [] ys g = g
+  nothing_right (x ∷ xs) ys (is_no_instance n g) = nothing_right xs ys g
+
+  nothing_in : (n i : ℕ) (es : List Equation) → Generalises t (rules_of (numbered_from n es)) [] → Generalises t (rules_of (numbered_from (n + i) (drop i es))) []
+  nothing_in n zero es g = subst (λ k. Generalises t (rules_of (numbered_from k es)) []) (let e : n ≡ n + 0 = omega arith in e) g
+  nothing_in n (suc i) [] g = no_rules
+  nothing_in n (suc i) (e ∷ es) (is_no_instance _ (is_no_instance _ g)) = subst (λ k. Generalises t (rules_of (numbered_from k (drop i es))) []) (let s : n + 1 + i ≡ n + suc i = omega arith in s) (nothing_in (n + 1) i es g)
+
+  pub nothing_at : (facts : List Equation) (i : ℕ) (fact : Equation) → drop i facts ≡ fact ∷ drop (i + 1) facts → Generalises t (rules_of (numbered facts)) [] → Generalises t (rules_of (live_fact i fact ∷ [])) []
+  nothing_at facts i fact at g =
+      let h : Generalises t (rules_of (numbered_from i (drop i facts))) [] = subst (λ k. Generalises t (rules_of (numbered_from k (drop i facts))) []) (let e : 0 + i ≡ i = omega arith in e) (nothing_in 0 i facts g) in
+      nothing_left (rules_of (live_fact i fact ∷ [])) (rules_of (numbered_from (i + 1) (drop (i + 1) facts))) (subst (λ l. Generalises t (rules_of (numbered_from i l)) []) at h)
+
+  -- a match is something
+  pub something : (rule : Rule) → HasMatch rule.from t → Generalises t (rule ∷ []) [] → ⊥
+  something rule m (is_no_instance n g) = n m.σ m.gives
+
+  pub something_by : (rule : Rule) (pairs : List (ℕ × Tree)) → IsMatch rule.from t pairs → Generalises t (rule ∷ []) [] → ⊥
+  something_by rule pairs m (is_no_instance n g) = n (image pairs) m.gives
 
   -- what is found by a part of the facts is found by all
   pub found_more : (xs ys : List Rule) (found : Found) → IsFound t xs found → IsFound t (xs ++ ys) found

@@ -1,5 +1,5 @@
 -- What an order says of two terms holds of their instances.
-use Rattle.std.proofs.Common.{◌≡◌, ℕ, List, sym, subst}
+use Rattle.std.proofs.Common.{◌≡◌, List, sym, subst}
 use Rattle.uc_term.specs.declared.node.Node.{Node}
 use Rattle.uc_term.specs.Tree.{Tree, apply}
 use Rattle.uc_term.specs.Flat.{tree_of}

@@ -1,21 +1,18 @@
 -- When a chain replays: each of its steps replaces equals by equals, by the equation that it names (Birkhoff's replacement of
 -- equals).
-use Rattle.std.specs.Prelude.{ℕ, ◌≡◌, ◌<◌, Bool, List, [], ◌∷◌, ◌++◌, map, slice_get, Option, Some, if◌then◌else◌}
+use Rattle.std.specs.Prelude.{◌≡◌, Bool, List, [], ◌∷◌, ◌++◌, map, slice_get, Option, Some, if◌then◌else◌}
 use Rattle.uc_term.specs.declared.equation.Equation.{Equation}
 use Rattle.uc_term.specs.declared.equation.Side.{Side}
 use Rattle.uc_term.specs.declared.equation.Side.TheVariants.{Left, Right}
-use Rattle.uc_term.specs.Tree.{Tree, apply, nodes, subterm, put}
+use Rattle.uc_term.specs.Tree.{Tree}
 use Rattle.uc_term.specs.Equations.{side_of, other_side_of}
 use Rattle.uc_fact.specs.declared.chain.By.{By}
 use Rattle.uc_fact.specs.declared.chain.By.TheVariants.{Axiom, Fact as FactOf}
 use Rattle.uc_fact.specs.declared.chain.Step.{Step}
 use Rattle.uc_fact.specs.declared.chain.Chain.{Chain}
 use Rattle.uc_fact.specs.declared.fact.Fact.{Fact}
-use Rattle.uc_fact.specs.Chains.{last_term}
-
--- the two sides of a fact
-abbrev pub equation_of : Fact → Equation
-equation_of fact = record { left = fact.left; right = fact.right }
+use Rattle.uc_fact.specs.Live.{equation_of}
+use Rattle.uc_fact.specs.Chains.{last_term, ReplacesAt}
 
 -- the equations that steps may name: the axioms, and the facts' equations behind them
 abbrev pub equations : List Equation → List Fact → List Equation
@@ -29,14 +26,6 @@ named axioms facts (FactOf number) = slice_get (map equation_of facts) number
 -- the side of its equation that a step replaces
 abbrev pub replaced_side : Bool → Side
 replaced_side left_to_right = if left_to_right then Left else Right
-
--- The place is one of the term before; one substitution makes the side that is replaced the subterm there, and the term behind
--- is the one before with the other side's instance in its place.
-pub record ReplacesAt (from to before : Tree) (place : ℕ) (after : Tree) : Type 0 where
-  pub inside : place < nodes before
-  pub σ : ℕ → Tree
-  pub from_is : apply σ from ≡ subterm before place
-  pub to_is : put before place (apply σ to) ≡ after
 
 module _ (axioms : List Equation) (facts : List Fact) where
   -- the step replaces equals by equals in the term before it: by the equation that it names, the named way and at the named

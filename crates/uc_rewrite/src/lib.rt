@@ -7,7 +7,6 @@ mod comparison;
 mod completed;
 mod falls;
 mod laws;
-mod matching;
 mod normal;
 mod replaying;
 mod scan;

@@ -2,8 +2,8 @@
 
 ghost use Rattle.std.specs.Prelude.{◌≡◌, ◌↔◌, IsTrue, IfOk, IfSome, MatchOption, Some, None};
 ghost use Rattle.uc_term.specs.Conversion.{Conv};
-ghost use Rattle.uc_fact.specs.Chains.{last_term};
-ghost use Rattle.uc_rewrite.specs.Replay.{equations, named, ReplacesAt, IsReplacement, AreReplacements, Replays, ends};
+ghost use Rattle.uc_fact.specs.Chains.{last_term, ReplacesAt};
+ghost use Rattle.uc_rewrite.specs.Replay.{equations, named, IsReplacement, AreReplacements, Replays, ends};
 
 use std::alloc::{AllocError, Global};
 use uc_fact::{By, Chain, Equation, Fact, Step};

@@ -1,19 +1,19 @@
 //! An index that looks through a list of equations.
 
-ghost use Rattle.std.specs.Prelude.{◌≡◌, ◌<◌, ◌≤◌, ◌^◌, ◌++◌, ◌∷◌, [], length, IfOk};
+ghost use Rattle.std.specs.Prelude.{◌≡◌, ◌<◌, ◌≤◌, ◌^◌, ◌++◌, ◌∷◌, [], length, IfOk, OnErr};
 ghost use Rattle.uc_term.specs.Flat.{tree_of, IsWhole};
 ghost use Rattle.uc_term.specs.Equations.{side_of};
 ghost use Rattle.uc_fact.specs.declared.index.Found.{Found as AnyFound};
 ghost use Rattle.uc_fact.specs.Live.{rule_of, rules_of};
-ghost use Rattle.uc_fact.specs.Retrieval.{IsFound, FirstThat};
+ghost use Rattle.uc_fact.specs.Retrieval.{FindsNothing, IsFound, FirstThat};
 ghost use Rattle.uc_rewrite.specs.Scanning.{live_fact, Adds};
 
-use crate::matching::matching;
 use std::alloc::{AllocError, Global};
-use uc_fact::{Equation, Found, Index, Side, Test};
+use uc_fact::{Equation, Found, Index, Side, Test, heads_differ, matching};
 use uc_term::{MAX_NODES, Node, Seq, Term};
 
-/// An index of equations, numbered by their places, that looks through the list of them.
+/// An index of equations, numbered by their places, that looks through the list of them. It takes no
+/// memory for a side that the term is no instance of: that is told by a walk over both.
 #[derive(Drop)]
 pub struct Scan<'a> {
     facts: &'a [Equation],
@@ -92,7 +92,8 @@ fn add_match(
 ) -> Result<(), AllocError>
     requires whole { IsWhole term.now }
     requires small { length term.now ≤ MAX_NODES }
-    ensures { IfOk result (λ _. Adds (tree_of term.now) (rule_of side (live_fact number fact.now) ∷ []) list.old.items list.new.items) }
+    ensures value { IfOk result (λ _. Adds (tree_of term.now) (rule_of side (live_fact number fact.now) ∷ []) list.old.items list.new.items) }
+    ensures memory { OnErr result (FindsNothing (tree_of term.now) (rule_of side (live_fact number fact.now) ∷ []) → ⊥) }
 {
     match matching(alloc, side_term(fact, side).as_nodes(), term)? {
         Some(subst) => {
@@ -118,7 +119,8 @@ fn first_of_sides<T: Test>(
     requires whole { IsWhole term.now }
     requires small { length term.now ≤ MAX_NODES }
     requires can { (found : AnyFound) → IsFound (tree_of term.now) (rules_of (live_fact number fact.now ∷ [])) found → T.can_test test.now found }
-    ensures { IfOk result (FirstThat (T.accepts test.now) (tree_of term.now) (rules_of (live_fact number fact.now ∷ []))) }
+    ensures value { IfOk result (FirstThat (T.accepts test.now) (tree_of term.now) (rules_of (live_fact number fact.now ∷ []))) }
+    ensures memory { OnErr result (FindsNothing (tree_of term.now) (rules_of (live_fact number fact.now ∷ [])) → ⊥) }
 {
     match first_of_side(alloc, fact, number, Side::Left, term, test)? {
         Some(found) => Ok(Some(found)),
@@ -138,12 +140,17 @@ fn first_of_side<T: Test>(
     requires whole { IsWhole term.now }
     requires small { length term.now ≤ MAX_NODES }
     requires can { (found : AnyFound) → IsFound (tree_of term.now) (rule_of side (live_fact number fact.now) ∷ []) found → T.can_test test.now found }
-    ensures { IfOk result (FirstThat (T.accepts test.now) (tree_of term.now) (rule_of side (live_fact number fact.now) ∷ [])) }
+    ensures value { IfOk result (FirstThat (T.accepts test.now) (tree_of term.now) (rule_of side (live_fact number fact.now) ∷ [])) }
+    ensures memory { OnErr result (FindsNothing (tree_of term.now) (rule_of side (live_fact number fact.now) ∷ []) → ⊥) }
 {
+    let pattern = side_term(fact, side).as_nodes();
+    if heads_differ(pattern, term) {
+        return Ok(None);
+    }
     if test.rules_out(number, side) {
         return Ok(None);
     }
-    match matching(alloc, side_term(fact, side).as_nodes(), term)? {
+    match matching(alloc, pattern, term)? {
         Some(subst) => {
             let found = Found {
                 fact: number,

@@ -273,3 +273,36 @@ fn a_scan_finds_both_sides(rt: HostRuntime) -> Result<(), Fail> {
     assert!(rt; scan.pair(2).is_none());
     Ok(())
 }
+
+// m(m(X,Y),X) = Y, with a repeated variable on the left, and m(Y,m(X,Y)) = X, whose variables don't come by their numbers
+const REPEATS: &[(&[u8], &[u8])] = &[(b"XYmXm", b"Y"), (b"YXYmm", b"X")];
+
+fn sides_found(
+    alloc: Global,
+    facts: &[(&[u8], &[u8])],
+    start: &[u8],
+) -> Result<Vec<(u32, Side)>, Fail> {
+    let facts = equations(alloc, facts)?;
+    if facts.len() > 9 {
+        return Err(Fail::from("too many facts"));
+    }
+    let start = term(alloc, start)?;
+    let found = Scan::new(facts.as_slice()).generalisations(alloc, start.as_nodes())?;
+    let mut sides = Vec::new(alloc);
+    for one in found.as_slice() {
+        sides.push((one.fact, one.side))?;
+    }
+    Ok(sides)
+}
+
+#[test]
+fn a_repeated_variable_is_one_term(rt: HostRuntime) -> Result<(), Fail> {
+    let g = rt.alloc();
+    let left = [(0, Side::Left), (0, Side::Right), (1, Side::Right)];
+    assert!(rt; sides_found(g, REPEATS, b"abmam")?.as_slice() == left.as_slice());
+    let right = [(0, Side::Right), (1, Side::Left), (1, Side::Right)];
+    assert!(rt; sides_found(g, REPEATS, b"babmm")?.as_slice() == right.as_slice());
+    let neither = [(0, Side::Right), (1, Side::Right)];
+    assert!(rt; sides_found(g, REPEATS, b"abmbm")?.as_slice() == neither.as_slice());
+    Ok(())
+}

@@ -1,4 +1,4 @@
-use Rattle.std.proofs.Common.{◌≡◌, ◌-◌, ◌+◌, ap, ◌∙◌, arith, subst}
+use Rattle.std.proofs.Common.{◌-◌, ◌+◌, ap, ◌∙◌, arith, subst}
 use Rattle.uc_fact.specs.declared.fact.Stop.TheVariants.{Full, Size}
 use Rattle.uc_fact.specs.Chains.{last_term}
 use Rattle.uc_rewrite.specs.declared.normal.Next.TheVariants.{Made as IsMade, Irreducible, TooLarge}

@@ -1,4 +1,4 @@
-use Rattle.std.proofs.Common.{sym, ◌∙◌, subst}
+use Rattle.std.proofs.Common.{sym, ◌∙◌}
 use Rattle.uc_rewrite.proofs.Telling.{always, never_up, never_same, two}
 use Rattle.uc_rewrite.proofs.comparison.ByOrderComparison.of_sides.Goals as goal
 

@@ -1,0 +1,7 @@
+use Rattle.std.proofs.Common.{drop}
+use Rattle.uc_term.specs.Flat.{tree_of, trees_of}
+use Rattle.uc_fact.proofs.Fitting.{OneSoFar}
+use Rattle.uc_fact.proofs.instance.repeats_agree.Given as goal
+
+abbrev pub invariant-loop-node : goal.invariant-loop-node
+invariant-loop-node l = OneSoFar (tree_of l.pattern) (tree_of l.term) l.bound (trees_of (drop l.node-index l.pattern)) (trees_of (drop l.place l.term))
