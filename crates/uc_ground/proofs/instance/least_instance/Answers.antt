@@ -15,7 +15,7 @@ at_none : (live : List Live) (s t u : Tree) (o : Option Found) → AreRising liv
 at_none live s t u o r e f h = none_found live s t r (subst (λ z. FirstThat (Passes live s t) s (rules_of live) z) f (subst (λ z. FirstThat (Passes live s t) z (rules_of live) o) e h))
 
 pub returns-in-Some : goal.returns-in-Some
-returns-in-Some g c = at_some (g.I.Index.live c.args.index.now) c.args.s.now c.args.t.now (tree_of c.as_nodes.result.now) c.in_ok-found.field-0 c.in-Some.found (g.met.I.Index.rising c.args.index.now) c.as_nodes.ensures.tree c.in-Some.is c.in_ok-found.ensures
+returns-in-Some g c = at_some (g.I.Index.live c.args.index.now) c.args.s.now c.args.t.now (tree_of c.as_nodes.result.now) c.in_ok-found.field-0 c.in-Some.found (g.met.I.Index.rising c.args.index.now) c.as_nodes.ensures.tree c.in-Some.is c.in_ok-found.ensures.value
 
 pub returns-in-None : goal.returns-in-None
-returns-in-None g c = at_none (g.I.Index.live c.args.index.now) c.args.s.now c.args.t.now (tree_of c.as_nodes.result.now) c.in_ok-found.field-0 (g.met.I.Index.rising c.args.index.now) c.as_nodes.ensures.tree c.in-None.is c.in_ok-found.ensures
+returns-in-None g c = at_none (g.I.Index.live c.args.index.now) c.args.s.now c.args.t.now (tree_of c.as_nodes.result.now) c.in_ok-found.field-0 (g.met.I.Index.rising c.args.index.now) c.as_nodes.ensures.tree c.in-None.is c.in_ok-found.ensures.value
