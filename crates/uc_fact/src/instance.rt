@@ -42,8 +42,8 @@ fn is_instance(pattern: &[Node], term: &[Node]) -> bool
     }
 }
 
-/// Whether the first symbols are different, so that the term is no instance of the pattern. It takes no memory and looks at
-/// one node of each.
+/// Whether the first symbols are different, so that the term is no instance of the pattern. A quick test to ask before
+/// [`matching`]: it looks at one node of each, and `false` says nothing of the rest.
 pub fn heads_differ(pattern: &[Node], term: &[Node]) -> bool
     requires whole_pattern { IsWhole pattern.now }
     requires whole_term { IsWhole term.now }
