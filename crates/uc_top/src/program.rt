@@ -37,9 +37,9 @@ const USAGE_LINE: &[u8] = b"usage: uc COMMAND [--option VALUE].. [WORD]..\n";
 /// and how it directs each axiom is told on a line of its own; 4 where the order is refused; else 3. For `rewrite` it is 0 where
 /// the word is a term over the problem's signature that the axioms normalise by that order, and 2 where the limit or the largest
 /// size ends it, with the term and each step told; 4 where the order is refused; else 3. For `pairs` it is 0 where the problem
-/// is there and the words name an order for it, and each critical pair of its axioms is told with whether it joins on ground
-/// terms; 4 where the order is refused; else 3. 4 stands for words that have no reading, 5 for a failure of the library and 6
-/// for one of the sink, each only where its count of faults rose in this call, and 7 for want of memory.
+/// is there and the words name an order for it, and each critical pair of its axioms is told on a line of its own; 4 where the
+/// order is refused; else 3. 4 stands for words that have no reading, 5 for a failure of the library and 6 for one of the sink,
+/// each only where its count of faults rose in this call, and 7 for want of memory.
 pub fn run<R: Threads + Wait + Sync, L: Library, S: Sink, G: Gate + Sync>(
     _rt: &R,
     alloc: Global,

@@ -8,7 +8,7 @@ use std::thread::Threads;
 use uc_edge::{MemoryLibrary, MemorySink, NoGate};
 use uc_term::Text;
 
-const R5: &str =
+const TWO_AXIOMS: &str =
     "cnf(ax1, axiom, f(a) = b).\ncnf(ax2, axiom, f(b) = a).\ncnf(goal, negated_conjecture, f(f(a)) != a).\n";
 
 const GRP: &str =
@@ -27,26 +27,31 @@ const USAGE: &str = "usage: uc COMMAND [--option VALUE].. [WORD]..\n";
 const CHAINS: &[(&[&str], &str, u8, &str)] = &[
     (
         &["f(f(f(a)))"],
-        R5,
+        TWO_AXIOMS,
         0,
         "f(f(f(a)))\n0 lr [1,1] f(f(b))\n1 lr [1] f(a)\n0 lr [] b\nnormal\n",
     ),
     (
         &["f(f(f(a)))", "--limit", "2"],
-        R5,
+        TWO_AXIOMS,
         2,
         "f(f(f(a)))\n0 lr [1,1] f(f(b))\n1 lr [1] f(a)\nstopped steps\n",
     ),
     (
         &["f(f(f(a)))", "--limit=3"],
-        R5,
+        TWO_AXIOMS,
         0,
         "f(f(f(a)))\n0 lr [1,1] f(f(b))\n1 lr [1] f(a)\n0 lr [] b\nnormal\n",
     ),
-    (&["f(a)", "--limit=0"], R5, 2, "f(a)\nstopped steps\n"),
-    (&["b", "--limit=0"], R5, 0, "b\nnormal\n"),
-    (&[" 'f' ( a ) "], R5, 0, "f(a)\n0 lr [] b\nnormal\n"),
-    (&["f(Y)"], R5, 0, "f(X1)\nnormal\n"),
+    (
+        &["f(a)", "--limit=0"],
+        TWO_AXIOMS,
+        2,
+        "f(a)\nstopped steps\n",
+    ),
+    (&["b", "--limit=0"], TWO_AXIOMS, 0, "b\nnormal\n"),
+    (&[" 'f' ( a ) "], TWO_AXIOMS, 0, "f(a)\n0 lr [] b\nnormal\n"),
+    (&["f(Y)"], TWO_AXIOMS, 0, "f(X1)\nnormal\n"),
     (
         &["m(m(e,a),m(e,b))"],
         GRP,
@@ -79,31 +84,31 @@ const CHAINS: &[(&[&str], &str, u8, &str)] = &[
 
 // A word that is no term over the signature of the problem: what stands behind `% word 0:1:`.
 const WORDS: &[(&str, &str, &str)] = &[
-    ("h(a)", R5, "1 UnknownSymbol h"),
-    ("f(a,b)", R5, "1 UnknownSymbol f"),
-    ("f(k(h(a)))", R5, "3 UnknownSymbol k"),
+    ("h(a)", TWO_AXIOMS, "1 UnknownSymbol h"),
+    ("f(a,b)", TWO_AXIOMS, "1 UnknownSymbol f"),
+    ("f(k(h(a)))", TWO_AXIOMS, "3 UnknownSymbol k"),
     ("f(X,h)", SWAP, "5 UnknownSymbol h"),
-    ("f( /* c */ c)", R5, "12 UnknownSymbol c"),
-    ("'h h'", R5, "1 UnknownSymbol 'h h'"),
+    ("f( /* c */ c)", TWO_AXIOMS, "12 UnknownSymbol c"),
+    ("'h h'", TWO_AXIOMS, "1 UnknownSymbol 'h h'"),
     ("f(a)", LEAST, "3 UnknownSymbol a"),
     ("least_1", LEAST, "1 UnknownSymbol least_1"),
-    ("eq(a,a)", R5, "1 UnknownSymbol eq"),
-    ("f(a", R5, "4 Syntax"),
-    ("f(", R5, "3 Syntax"),
-    ("f(a))", R5, "5 Syntax"),
-    ("f(a),b", R5, "5 Syntax"),
-    ("f(a) | b", R5, "6 Syntax"),
-    ("f(a | b)", R5, "5 Syntax"),
-    ("f(a) = b", R5, "6 Syntax"),
-    ("h = b", R5, "3 Syntax"),
-    ("a b", R5, "3 Syntax"),
-    ("~ a", R5, "1 Syntax"),
-    ("''", R5, "1 Syntax"),
-    ("h('a", R5, "3 Syntax"),
-    (" ", R5, "2 Syntax"),
-    ("h(7)", R5, "3 Unsupported 7"),
-    ("\"a\"", R5, "1 Unsupported \"a\""),
-    ("$true", R5, "1 Unsupported $true"),
+    ("eq(a,a)", TWO_AXIOMS, "1 UnknownSymbol eq"),
+    ("f(a", TWO_AXIOMS, "4 Syntax"),
+    ("f(", TWO_AXIOMS, "3 Syntax"),
+    ("f(a))", TWO_AXIOMS, "5 Syntax"),
+    ("f(a),b", TWO_AXIOMS, "5 Syntax"),
+    ("f(a) | b", TWO_AXIOMS, "6 Syntax"),
+    ("f(a | b)", TWO_AXIOMS, "5 Syntax"),
+    ("f(a) = b", TWO_AXIOMS, "6 Syntax"),
+    ("h = b", TWO_AXIOMS, "3 Syntax"),
+    ("a b", TWO_AXIOMS, "3 Syntax"),
+    ("~ a", TWO_AXIOMS, "1 Syntax"),
+    ("''", TWO_AXIOMS, "1 Syntax"),
+    ("h('a", TWO_AXIOMS, "3 Syntax"),
+    (" ", TWO_AXIOMS, "2 Syntax"),
+    ("h(7)", TWO_AXIOMS, "3 Unsupported 7"),
+    ("\"a\"", TWO_AXIOMS, "1 Unsupported \"a\""),
+    ("$true", TWO_AXIOMS, "1 Unsupported $true"),
 ];
 
 // Words, and what is answered for the problem in `p`.
@@ -196,7 +201,7 @@ fn orders_come_first(rt: HostRuntime) -> Result<(), Fail> {
     for (words, status, answer) in ORDERS {
         let wanted = (*status, answer.as_bytes());
         assert!(rt;
-            is_answered(&rt, rt.alloc(), words, R5.as_bytes(), wanted)?,
+            is_answered(&rt, rt.alloc(), words, TWO_AXIOMS.as_bytes(), wanted)?,
             "{words:?}"
         );
     }
@@ -295,7 +300,7 @@ fn is_read<R: Threads + Wait + Sync>(
         return Ok(false);
     };
     let words = rewriting(alloc, &[word, "--limit=0"])?;
-    is_answered(rt, alloc, &words, R5.as_bytes(), wanted)
+    is_answered(rt, alloc, &words, TWO_AXIOMS.as_bytes(), wanted)
 }
 
 // A term of 4,096 nodes is read, one of 4,097 isn't; nor is one with a 256th argument.
@@ -324,7 +329,7 @@ const FAULTS: &[(&[u32], &[u32], u8, &str)] = &[
 fn failures_are_told(rt: HostRuntime) -> Result<(), Fail> {
     let alloc = rt.alloc();
     for (fetches, writes, wanted, answer) in FAULTS {
-        let files = vec![in alloc; (text(alloc, "p")?, text(alloc, R5)?)]?;
+        let files = vec![in alloc; (text(alloc, "p")?, text(alloc, TWO_AXIOMS)?)]?;
         let fetches = Vec::from_slice(alloc, fetches)?;
         let mut library = MemoryLibrary::new(alloc, files, fetches)?;
         let mut sink = MemorySink::with_room(alloc, 1000, Vec::from_slice(alloc, writes)?)?;
