@@ -8,6 +8,9 @@ ghost use Rattle.uc_fact.specs.declared.chain.Chain.{Chain};
 ghost use Rattle.uc_fact.specs.declared.fact.Overlap.{Overlap};
 ghost use Rattle.uc_fact.specs.Live.{Live, AreRising, equations_of};
 ghost use Rattle.uc_fact.specs.Ground.{AreOfSignature};
+ghost use Rattle.uc_fact.specs.Ordered.{OStep};
+ghost use Rattle.uc_fact.specs.Chains.{Links};
+ghost use Rattle.uc_fact.specs.declared.chain.Step.{Step};
 ghost use Rattle.uc_order.specs.Laws.{HasSym, IsGroundOf};
 ghost use Rattle.uc_pair.specs.declared.formation.Formation.TheVariants.{Pair};
 ghost use Rattle.uc_pair.specs.Pairs.{IsPairOf};
@@ -35,6 +38,11 @@ pub fn decides<O: Order>(order: &O)
 /// An overlap is joinable where the two sides of its pair are, as `uc_pair::pair_of` numbers their variables.
 pub fn pair_joins<O: Order>(order: &O)
     ensures { (live : List Live) (a b : Equation) (overlap : Overlap) (left right : Tree) (chain : Chain) → IsPairOf a b overlap (Pair left right chain) → AreJoinable (O.meaning order.now) live left right → IsJoinableOverlap (O.meaning order.now) live a b overlap }
+{}
+
+/// Two terms are joinable where those are to which ordered steps lead from them, as normalising does.
+pub fn ends_join<O: Order>(order: &O)
+    ensures { (live : List Live) (s t : Tree) (from_s from_t : List Step) (u v : Tree) → AreOfSignature (HasSym (O.meaning order.now)) (O.meaning order.now).arity (equations_of live) → Links (OStep (O.meaning order.now).greater (O.meaning order.now).least (equations_of live)) s from_s u → Links (OStep (O.meaning order.now).greater (O.meaning order.now).least (equations_of live)) t from_t v → AreJoinable (O.meaning order.now) live u v → AreJoinable (O.meaning order.now) live s t }
 {}
 
 /// No goal follows from the axioms whose two sides these make equal to different terms from which no ordered step leads on,
