@@ -12,5 +12,6 @@ pub mod Clean
 pub mod Classes
 pub mod Ordered
 pub mod Pairs
+pub mod Derived
 pub mod Replies
 pub mod Verdicts

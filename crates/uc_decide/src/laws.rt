@@ -1,22 +1,24 @@
 //! Laws over the definitions, each the contract of a function that does nothing.
 
-ghost use Rattle.std.specs.Prelude.{◌≡◌, ℕ, List};
+ghost use Rattle.std.specs.Prelude.{◌≡◌, ℕ, List, Some, slice_get, take, map};
 ghost use Rattle.uc_term.specs.Tree.{Tree};
 ghost use Rattle.uc_term.specs.Conversion.{SomeFollows};
 ghost use Rattle.uc_term.specs.declared.equation.Equation.{Equation};
 ghost use Rattle.uc_fact.specs.declared.chain.Chain.{Chain};
+ghost use Rattle.uc_fact.specs.declared.fact.Fact.{Fact};
 ghost use Rattle.uc_fact.specs.declared.fact.Overlap.{Overlap};
-ghost use Rattle.uc_fact.specs.Live.{Live, AreRising, equations_of};
+ghost use Rattle.uc_fact.specs.Live.{Live, AreRising, equations_of, equation_of};
 ghost use Rattle.uc_fact.specs.Ground.{AreOfSignature};
 ghost use Rattle.uc_fact.specs.Ordered.{OStep};
 ghost use Rattle.uc_fact.specs.Chains.{Links};
 ghost use Rattle.uc_fact.specs.declared.chain.Step.{Step};
 ghost use Rattle.uc_order.specs.Laws.{HasSym, IsGroundOf};
+ghost use Rattle.uc_rewrite.specs.Replay.{Replays, ends};
 ghost use Rattle.uc_pair.specs.declared.formation.Formation.TheVariants.{Pair};
 ghost use Rattle.uc_pair.specs.Pairs.{IsPairOf};
 ghost use Rattle.uc_decide.specs.declared.reply.Reply.{Reply};
 ghost use Rattle.uc_decide.specs.NormalForms.{IsLocallyConfluent};
-ghost use Rattle.uc_decide.specs.Converging.{AreJoinable, IsJoinableOverlap, AreJoinableOverlaps, Converge};
+ghost use Rattle.uc_decide.specs.Converging.{AreJoinable, IsJoinableOverlap, AreJoinableOverlaps, FollowFrom, Converge};
 ghost use Rattle.uc_decide.specs.Deciding.{Decides, AreAllApart};
 ghost use Rattle.uc_decide.specs.Asking.{IsReply, HasNormalForms, IsRight, IsVerdict};
 
@@ -43,6 +45,12 @@ pub fn pair_joins<O: Order>(order: &O)
 /// Two terms are joinable where those are to which ordered steps lead from them, as normalising does.
 pub fn ends_join<O: Order>(order: &O)
     ensures { (live : List Live) (s t : Tree) (from_s from_t : List Step) (u v : Tree) → AreOfSignature (HasSym (O.meaning order.now)) (O.meaning order.now).arity (equations_of live) → Links (OStep (O.meaning order.now).greater (O.meaning order.now).least (equations_of live)) s from_s u → Links (OStep (O.meaning order.now).greater (O.meaning order.now).least (equations_of live)) t from_t v → AreJoinable (O.meaning order.now) live u v → AreJoinable (O.meaning order.now) live s t }
+{}
+
+/// Facts follow from the axioms where the chain of each replays, over the axioms and earlier facts, from its left to its right
+/// side.
+pub fn facts_follow()
+    ensures { (axioms : List Equation) (facts : List Fact) → ((n : ℕ) (fact : Fact) → slice_get facts n ≡ Some fact → Replays axioms (take n facts) fact.chain × (ends fact.chain ≡ (fact.left, fact.right))) → FollowFrom axioms (map equation_of facts) }
 {}
 
 /// No goal follows from the axioms whose two sides these make equal to different terms from which no ordered step leads on,
