@@ -1,15 +1,13 @@
 -- Where instances of two rules meet, they are instances of the rules' overlap.
 use Rattle.std.proofs.Common.{◌≡◌, ℕ, zero, suc, ◌+◌, ◌-◌, ◌<◌, nat_lt, true, false, List, [], ◌∷◌, Some, option_and_then, refl, sym, ap, ap₂, ◌∙◌, subst, inl, inr, if◌then◌else◌, arith}
 use Rattle.std.proofs.lemmas.Bool.Decides.{nat_tests}
-use Rattle.uc_term.specs.declared.node.Sym.{Sym}
 use Rattle.uc_term.specs.Tree.{Tree, var, app, Trees, none, more, apply, subterm, put}
 use Rattle.uc_term.specs.Path.{nth, at, put_at}
 use Rattle.uc_term.specs.Variables.{Occurs, in_args, OccursIn, in_first, in_later}
 use Rattle.uc_term.proofs.Terms.{apply-apply}
 use Rattle.uc_term.proofs.Agree.{same_if}
-use Rattle.uc_term.proofs.Paths.{at-apply, apply-put}
+use Rattle.uc_term.proofs.Paths.{apply-put}
 use Rattle.uc_term.proofs.Positions.{position, placed}
-use Rattle.uc_unify.specs.Unifiers.{IsMostGeneral}
 use Rattle.uc_fact.specs.Live.{Rule}
 use Rattle.uc_pair.specs.Overlapping.{shifted, IsBelow, Overlapping, IsApart, left_of, right_of}
 

@@ -12,7 +12,7 @@ use Rattle.uc_term.proofs.Moves.{Steps-trans, Joined-refl, Joined-sym, AllJoined
 use Rattle.uc_term.proofs.Conversion.{Conv-sym}
 use Rattle.uc_order.specs.Laws.{Meaning, Laws, HasSym, IsGroundOf, least_term}
 use Rattle.uc_fact.specs.Live.{Live, equations_of}
-use Rattle.uc_fact.specs.Ground.{AreOfSignature, IsNormal}
+use Rattle.uc_fact.specs.Ground.{AreOfSignature}
 use Rattle.uc_decide.specs.NormalForms.{GroundStep, HasNormalForm, IsLocallyConfluent}
 use Rattle.uc_decide.specs.Converging.{AreJoinableAxioms, FollowFrom, Converge}
 use Rattle.uc_decide.specs.Deciding.{Decides}

@@ -1,11 +1,11 @@
 -- Laws of ground steps.
-use Rattle.std.proofs.Common.{◌≡◌, ℕ, ◌+◌, List, refl, sym, ap, ◌∙◌, subst, ◌⊎◌, inl, inr}
+use Rattle.std.proofs.Common.{◌≡◌, ◌+◌, List, refl, sym, ap, ◌∙◌, subst, ◌⊎◌, inl, inr}
 use Rattle.uc_term.specs.declared.equation.Equation.{Equation}
-use Rattle.uc_term.specs.Tree.{Tree, app, Trees, none, more, count}
+use Rattle.uc_term.specs.Tree.{Tree, Trees, count}
 use Rattle.uc_term.specs.Over.{AreGround}
 use Rattle.uc_term.specs.Within.{Within, at_root, under, WithinOne, at_first, at_later, Steps, stay, go_by}
 use Rattle.uc_term.specs.Conversion.{Conv}
-use Rattle.uc_term.proofs.Moves.{Steps-trans, Within-map}
+use Rattle.uc_term.proofs.Moves.{Within-map}
 use Rattle.uc_term.proofs.Conversion.{Conv-trans, Step-follows}
 use Rattle.uc_order.specs.Laws.{Meaning, Laws, HasSym, IsGroundOf, least_term}
 use Rattle.uc_fact.specs.Ground.{Down}

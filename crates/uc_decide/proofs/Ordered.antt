@@ -1,7 +1,7 @@
 -- On ground terms an ordered step is a ground step, and where a ground step is possible an ordered one is.
-use Rattle.std.proofs.Common.{◌≡◌, ℕ, List, [], ◌∷◌, refl, sym, ◌∙◌, subst}
+use Rattle.std.proofs.Common.{ℕ, List, [], ◌∷◌, refl, sym, subst}
 use Rattle.uc_term.specs.declared.equation.Equation.{Equation}
-use Rattle.uc_term.specs.Tree.{Tree, var, app, Trees, none, more, apply, apply_all}
+use Rattle.uc_term.specs.Tree.{Tree, var, app, Trees, more, apply, apply_all}
 use Rattle.uc_term.specs.Over.{AreGround}
 use Rattle.uc_term.specs.Within.{Within, at_root, under, WithinOne, at_first, at_later, Steps, stay, go_by}
 use Rattle.uc_term.proofs.Terms.{apply-var}

@@ -1,21 +1,21 @@
 -- A pair whose variables are numbered is joinable exactly if the overlap's pair is.
-use Rattle.std.proofs.Common.{◌≡◌, ℕ, zero, suc, ◌+◌, ◌==◌, ◌||◌, Bool, true, false, List, [], ◌∷◌, ◌++◌, get_or, if◌then◌else◌, refl, sym, ap, ◌∙◌, subst, ◌⊎◌, inl, inr, arith}
+use Rattle.std.proofs.Common.{◌≡◌, ℕ, suc, ◌+◌, ◌==◌, ◌||◌, Bool, true, false, List, [], ◌∷◌, ◌++◌, get_or, if◌then◌else◌, refl, sym, ap, ◌∙◌, subst, ◌⊎◌, inl, inr, arith}
 use Rattle.std.proofs.lemmas.Bool.{eqb-true}
 use Rattle.uc_term.specs.declared.equation.Equation.{Equation}
 use Rattle.uc_term.specs.Tree.{Tree, var, apply}
-use Rattle.uc_term.specs.Variables.{Occurs, variables, is_among, firsts, place_of, renumbered_by}
+use Rattle.uc_term.specs.Variables.{Occurs, variables, is_among, place_of, renumbered_by}
 use Rattle.uc_term.proofs.Terms.{apply-apply}
 use Rattle.uc_term.proofs.Agree.{same_if}
 use Rattle.uc_term.proofs.Firsts.{is_among-append}
 use Rattle.uc_order.specs.Laws.{Meaning, IsGroundOf}
 use Rattle.uc_fact.specs.declared.fact.Overlap.{Overlap}
 use Rattle.uc_fact.specs.declared.chain.Chain.{Chain}
-use Rattle.uc_fact.specs.Live.{Live, Rule}
+use Rattle.uc_fact.specs.Live.{Live}
 use Rattle.uc_fact.proofs.Occurring.{among, either}
 use Rattle.uc_rewrite.proofs.Completing.{among_firsts}
 use Rattle.uc_pair.specs.declared.formation.Formation.TheVariants.{Pair}
-use Rattle.uc_pair.specs.Overlapping.{Overlapping, peak, left_of, right_of, read_from}
-use Rattle.uc_pair.specs.Pairs.{names_of, IsPairBy, IsFormation, forms_pair, IsPairOf}
+use Rattle.uc_pair.specs.Overlapping.{peak, left_of, right_of}
+use Rattle.uc_pair.specs.Pairs.{names_of, forms_pair, IsPairOf}
 use Rattle.uc_decide.specs.Converging.{AreJoinable, IsJoinableOverlap}
 
 -- the name at a name's place

@@ -1,12 +1,12 @@
 -- The critical pair lemma.
-use Rattle.std.proofs.Common.{◌≡◌, ℕ, ◌<◌, zero, suc, List, [], ◌∷◌, Some, refl, sym, ap, ap₂, ◌∙◌, subst, ◌⊎◌, inl, inr, arith}
+use Rattle.std.proofs.Common.{◌≡◌, ℕ, List, [], ◌∷◌, Some, refl, sym, ap, ap₂, ◌∙◌, subst, ◌⊎◌, inl, inr, arith}
 use Rattle.uc_term.specs.declared.equation.Equation.{Equation}
 use Rattle.uc_term.specs.declared.equation.Side.{Side}
 use Rattle.uc_term.specs.declared.equation.Side.TheVariants.{Left, Right}
 use Rattle.uc_term.specs.Equations.{side_of, other_side_of}
-use Rattle.uc_term.specs.Tree.{Tree, var, app, Trees, more, apply, subterm, nodes}
+use Rattle.uc_term.specs.Tree.{Tree, var, app, Trees, more, apply, subterm}
 use Rattle.uc_term.specs.Path.{at, put_at}
-use Rattle.uc_term.specs.Variables.{Occurs, IsApp}
+use Rattle.uc_term.specs.Variables.{IsApp}
 use Rattle.uc_term.specs.Within.{Within, at_root, under, WithinOne, at_first, at_later, stay, Joined}
 use Rattle.uc_term.specs.Conversion.{Turn}
 use Rattle.uc_term.proofs.Positions.{position, placed}
@@ -22,7 +22,7 @@ use Rattle.uc_decide.specs.NormalForms.{GroundStep, IsLocallyConfluent}
 use Rattle.uc_decide.specs.Converging.{AreJoinable, AreJoinableOverlaps}
 use Rattle.uc_decide.proofs.GroundSteps.{D, step_ground, moves_ground}
 use Rattle.uc_decide.proofs.Split.{InVariable, InPart, split}
-use Rattle.uc_decide.proofs.Apart.{place, part_is, not_apart, IsPairInstance, pair_instance}
+use Rattle.uc_decide.proofs.Apart.{part_is, not_apart, IsPairInstance, pair_instance}
 use Rattle.uc_decide.proofs.Readings.{Reading, reading, turn_of}
 use Rattle.uc_decide.proofs.Settled.{IsSettled, are_apart, is_repeated, never_down, has_joinable, settled}
 

@@ -1,16 +1,16 @@
 -- What a list of joinable overlaps says of each place.
-use Rattle.std.proofs.Common.{◌≡◌, ℕ, zero, suc, ◌+◌, ◌<◌, ◌≤◌, List, [], ◌∷◌, ◌++◌, refl, sym, subst, ◌⊎◌, inl, inr, arith}
+use Rattle.std.proofs.Common.{◌≡◌, ℕ, ◌+◌, ◌<◌, ◌≤◌, List, [], ◌∷◌, sym, subst, ◌⊎◌, inl, inr, arith}
 use Rattle.uc_term.specs.declared.equation.Equation.{Equation}
 use Rattle.uc_term.specs.declared.equation.Side.{Side}
 use Rattle.uc_term.specs.declared.equation.Side.TheVariants.{Left, Right}
-use Rattle.uc_term.specs.Tree.{Tree, nodes, subterm}
+use Rattle.uc_term.specs.Tree.{nodes, subterm}
 use Rattle.uc_term.specs.Variables.{IsApp}
 use Rattle.uc_order.specs.Members.{In, in_front, in_rest, Each}
 use Rattle.uc_order.specs.Laws.{Meaning, Laws}
 use Rattle.uc_fact.specs.Live.{Live, Rule}
 use Rattle.uc_pair.specs.declared.formed.Formed.{Formed}
 use Rattle.uc_pair.specs.Overlapping.{Overlapping, IsApart, left_of, right_of, read_from}
-use Rattle.uc_pair.specs.Listing.{IsRepeated, Lists, no_more_places, at_variable, no_unifier, repeats, goes_nowhere, leads_up, is_listed, ListsEach, no_rules, next_rules}
+use Rattle.uc_pair.specs.Listing.{IsRepeated, Lists, no_more_places, at_variable, no_unifier, repeats, goes_nowhere, leads_up, is_listed, ListsEach, next_rules}
 use Rattle.uc_pair.specs.Peaks.{LeadsDownTwice}
 use Rattle.uc_pair.proofs.Uniqueness.{nowhere_twice, up_twice}
 use Rattle.uc_decide.specs.Converging.{AreJoinable, IsJoinableOverlap, HasJoinableOverlaps}

@@ -1,5 +1,5 @@
 -- What replies say of the axioms, where a system decides what follows from them.
-use Rattle.std.proofs.Common.{◌≡◌, ℕ, List, Some, slice_get, refl, sym, ap, ap₂, ◌∙◌, subst, ◌⊎◌, inl, inr}
+use Rattle.std.proofs.Common.{◌≡◌, ℕ, List, refl, sym, ap, ap₂, subst, ◌⊎◌, inl, inr}
 use Rattle.uc_term.specs.declared.node.Sym.{Sym}
 use Rattle.uc_term.specs.declared.equation.Equation.{Equation}
 use Rattle.uc_term.specs.Tree.{Tree, var, app, Trees, none, more, apply, apply_all}
@@ -12,7 +12,7 @@ use Rattle.uc_order.specs.Laws.{Meaning, Laws, HasSym, IsGroundOf}
 use Rattle.uc_decide.specs.declared.reply.Reply.{Reply}
 use Rattle.uc_decide.specs.declared.reply.Reply.TheVariants.{Equal, Different, Spent, Grown}
 use Rattle.uc_decide.specs.NormalForms.{HasNormalForm}
-use Rattle.uc_decide.specs.Deciding.{Decides, IsLeastOf, AreApart, AreAllApart}
+use Rattle.uc_decide.specs.Deciding.{Decides, IsLeastOf, AreAllApart}
 use Rattle.uc_decide.specs.Asking.{HasNormalForms, IsRight, IsVerdict}
 use Rattle.uc_decide.proofs.Ordered.{normal_if}
 use Rattle.uc_decide.proofs.GroundSteps.{normal_ground, normal_itself}

@@ -1,5 +1,5 @@
 -- Normal forms of ground terms by ground steps, and when ground steps from one term can be joined.
-use Rattle.std.specs.Prelude.{ℕ, ◌≡◌, List}
+use Rattle.std.specs.Prelude.{◌≡◌, List}
 use Rattle.uc_term.specs.declared.equation.Equation.{Equation}
 use Rattle.uc_term.specs.Tree.{Tree}
 use Rattle.uc_term.specs.Within.{Joined}

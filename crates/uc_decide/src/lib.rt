@@ -7,7 +7,10 @@ mod laws;
 mod reply;
 
 pub use asking::ask;
-pub use laws::{critical_pairs, decides, ends_join, facts_follow, no_goal_follows, one_reply, one_verdict, pair_joins, reply_is_right};
+pub use laws::{
+    critical_pairs, decides, ends_join, facts_follow, no_goal_follows, one_reply, one_verdict,
+    pair_joins, reply_is_right,
+};
 pub use reply::Reply;
 
 #[cfg(test)]

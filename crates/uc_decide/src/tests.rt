@@ -82,7 +82,14 @@ fn kbo(alloc: Global) -> Result<Kbo, Fail> {
     if !are_known(&symbols, BY_WEIGHT) || !has_constant(&symbols, BY_WEIGHT) {
         return Err(Fail::from("no constant"));
     }
-    Ok(Kbo::new(alloc, BY_WEIGHT, &symbols, 1, &[1, 1, 1, 1, 1, 1, 1], BY_WEIGHT)?)
+    Ok(Kbo::new(
+        alloc,
+        BY_WEIGHT,
+        &symbols,
+        1,
+        &[1, 1, 1, 1, 1, 1, 1],
+        BY_WEIGHT,
+    )?)
 }
 
 fn lpo(alloc: Global) -> Result<Lpo, Fail> {
