@@ -1,0 +1,17 @@
+pub mod Members
+pub mod GroundSteps
+pub mod Split
+pub mod Values
+pub mod Apart
+pub mod Readings
+pub mod Settled
+pub mod Peaks
+pub mod Newman
+pub mod Reducible
+pub mod Clean
+pub mod Classes
+pub mod Ordered
+pub mod Pairs
+pub mod Derived
+pub mod Replies
+pub mod Verdicts

@@ -1,0 +1,4 @@
+pub mod NormalForms
+pub mod Converging
+pub mod Deciding
+pub mod Asking
