@@ -1,0 +1,333 @@
+use crate::{SystemFault, SystemText, print_system, read_system};
+use std::alloc::{AllocError, Global};
+use std::test::Fail;
+use uc_clause::Place;
+use uc_order::OrderSpec;
+use uc_term::{Symbols, Text};
+
+const ROW: &[u8] = b"% system 1
+% order kbo 1
+% symbol least 0 1
+% symbol f 1 1
+cnf(s1, plain, f(X1) = X1).
+% end
+";
+
+const NO_FACTS: &[u8] = b"% system 1
+% order kbo 1
+% symbol least 0 1
+% end
+";
+
+const LIGHT: &[u8] = b"% system 2
+% order kbo 1
+% symbol least 0 1
+% symbol i 1 0
+cnf(s1, plain, i(i(X1)) = X1).
+% end
+";
+
+const PATHS: &[u8] = b"% system 1
+% order lpo
+% symbol e 0
+% symbol 'Big one' 0
+% symbol '\\'\\\\' 1
+% symbol m 2
+% symbol m 3
+cnf(s1, plain, m(X1,m(X2,X1)) = m(X2,X1,'Big one')).
+cnf(s2, plain, '\\'\\\\'(X1) = e).
+% end
+";
+
+const ENCODED: &[u8] = b"% system 1
+% order kbo 1
+% symbol b 0 1
+% symbol c 0 1
+% symbol a 0 1
+% symbol f 1 1
+% symbol true 0 1
+% symbol false 0 1
+% symbol eq 2 1
+cnf(s1, plain, f(b) = c).
+cnf(s2, plain, eq(X1,X1) = true).
+cnf(s3, plain, eq(f(X1),a) = false).
+cnf(s4, plain, eq(c,a) = false).
+% end
+";
+
+// The text of what the text says.
+fn again(alloc: Global, bytes: &[u8]) -> Result<Text, SystemFault> {
+    let mut symbols = Symbols::new(alloc);
+    let SystemText { spec, system } = read_system(alloc, bytes, &mut symbols)?;
+    Ok(print_system(alloc, &spec, &system, &symbols)?)
+}
+
+// Why the text isn't read.
+fn fault_of(alloc: Global, bytes: &[u8]) -> Result<Option<SystemFault>, AllocError> {
+    let mut symbols = Symbols::new(alloc);
+    match read_system(alloc, bytes, &mut symbols) {
+        Ok(_) => Ok(None),
+        Err(SystemFault::NoMemory) => Err(AllocError),
+        Err(fault) => Ok(Some(fault)),
+    }
+}
+
+// The same of a text with this piece in place of another that stands in it once.
+fn fault_with(
+    alloc: Global,
+    bytes: &[u8],
+    old: &[u8],
+    new: &[u8],
+) -> Result<Option<SystemFault>, AllocError> {
+    let mut text = Text::new(alloc);
+    for at in 0..bytes.len() {
+        if bytes[at..].starts_with(old) {
+            text.extend(&bytes[..at])?;
+            text.extend(new)?;
+            text.extend(&bytes[at + old.len()..])?;
+            return fault_of(alloc, text.as_bytes());
+        }
+    }
+    Ok(None)
+}
+
+fn syntax(line: u32) -> Option<SystemFault> {
+    Some(SystemFault::Syntax(Place { line, column: 1 }))
+}
+
+fn limit(line: u32, column: u32) -> Option<SystemFault> {
+    Some(SystemFault::Limit(Place { line, column }))
+}
+
+fn version() -> Option<SystemFault> {
+    Some(SystemFault::Version(Place {
+        line: 1,
+        column: 10,
+    }))
+}
+
+// Each of the texts is printed as it was read.
+#[test]
+fn read_and_printed(rt: HostRuntime) -> Result<(), Fail> {
+    for text in [ROW, NO_FACTS, LIGHT, PATHS, ENCODED] {
+        assert_eq!(rt; again(rt.alloc(), text)?.as_bytes(), text);
+    }
+    Ok(())
+}
+
+// What the row says.
+#[test]
+fn said(rt: HostRuntime) -> Result<(), Fail> {
+    let alloc = rt.alloc();
+    let mut symbols = Symbols::new(alloc);
+    let SystemText { spec, system } = read_system(alloc, ROW, &mut symbols)?;
+    assert_eq!(rt; system.facts.len(), 1);
+    match spec {
+        OrderSpec::Kbo {
+            w0,
+            weights,
+            precedence,
+        } => {
+            assert_eq!(rt; w0, 1);
+            assert_eq!(rt; weights.as_slice(), [1, 1].as_slice());
+            assert_eq!(rt; symbols.name(precedence.as_slice()[0]), b"least".as_slice());
+            assert_eq!(rt; symbols.arity(precedence.as_slice()[1]), 1);
+        }
+        OrderSpec::Lpo { .. } => assert!(rt; false),
+    }
+    Ok(())
+}
+
+// First lines.
+#[test]
+fn first_lines(rt: HostRuntime) -> Result<(), Fail> {
+    let alloc = rt.alloc();
+    for (new, fault) in [
+        (b"% system 9".as_slice(), version()),
+        (b"% system 0", version()),
+        (b"% system 10", version()),
+        (b"% system 007", version()),
+        (b"% system 18446744073709551617", version()),
+        (b"% system 4294967298", version()),
+        (b"% system 01", syntax(1)),
+        (b"% system 02", syntax(1)),
+        (b"% system 2", syntax(1)),
+        (b"% system ", syntax(1)),
+        (b"% system 1 ", syntax(1)),
+        (b"% system 3 ", syntax(1)),
+        (b"% system +3", syntax(1)),
+        (b"% system  1", syntax(1)),
+        (b"%system 1", syntax(1)),
+        (b"", syntax(1)),
+    ] {
+        assert_eq!(rt; fault_with(alloc, ROW, b"% system 1", new)?, fault);
+    }
+    assert_eq!(rt; fault_of(alloc, b"")?, syntax(1));
+    assert_eq!(rt; fault_of(alloc, b"% system 9")?, syntax(1));
+    assert_eq!(rt; fault_of(alloc, b"% system 1\n")?, syntax(2));
+    assert_eq!(rt; fault_with(alloc, LIGHT, b"% system 2", b"% system 1")?, syntax(1));
+    assert_eq!(rt; fault_with(alloc, PATHS, b"% system 1", b"% system 2")?, syntax(1));
+    Ok(())
+}
+
+// Lines of the order.
+#[test]
+fn orders(rt: HostRuntime) -> Result<(), Fail> {
+    let alloc = rt.alloc();
+    for (new, fault) in [
+        (b"% order kbo 2".as_slice(), syntax(3)),
+        (b"% order kbo 0", syntax(2)),
+        (b"% order kbo 01", syntax(2)),
+        (b"% order kbo 1000001", syntax(2)),
+        (b"% order kbo 4294967297", syntax(2)),
+        (b"% order kbo", syntax(2)),
+        (b"% order kbo ", syntax(2)),
+        (b"% order kbo 1 ", syntax(2)),
+        (b"% order lpo 1", syntax(2)),
+        (b"% order lpo", syntax(3)),
+        (b"% order rpo", syntax(2)),
+    ] {
+        assert_eq!(rt; fault_with(alloc, ROW, b"% order kbo 1", new)?, fault);
+    }
+    assert_eq!(rt; fault_with(alloc, PATHS, b"% order lpo", b"% order kbo 1")?, syntax(3));
+    Ok(())
+}
+
+// Lines of symbols.
+#[test]
+fn symbol_lines(rt: HostRuntime) -> Result<(), Fail> {
+    let alloc = rt.alloc();
+    for (new, fault) in [
+        (b"% symbol f 1".as_slice(), syntax(4)),
+        (b"% symbol f 1 1 1", syntax(4)),
+        (b"% symbol f  1 1", syntax(4)),
+        (b"% symbol  f 1 1", syntax(4)),
+        (b"% symbol f 01 1", syntax(4)),
+        (b"% symbol f 1 01", syntax(4)),
+        (b"% symbol f 1 1000001", syntax(4)),
+        (b"% symbol f 1 4294967297", syntax(4)),
+        (b"% symbol 'f' 1 1", syntax(4)),
+        (b"% symbol F 1 1", syntax(4)),
+        (b"% symbol 7 1 1", syntax(4)),
+        (b"% symbol '' 1 1", syntax(4)),
+        (b"% symbol 'F 1 1", syntax(4)),
+        (b"% symbol '\t' 1 1", syntax(4)),
+        (b"% symbol f(a) 1 1", syntax(4)),
+        (b"% symbol least 0 1", syntax(4)),
+        (b"% symbol f 256 1", limit(4, 12)),
+        (b"% symbol f 256 9999999", limit(4, 12)),
+        (b"% symbol f 99999999999 1", limit(4, 12)),
+        (b"% symbol f 256 x", syntax(4)),
+        (b"% symbol 'F F' 256 1", limit(4, 16)),
+        (b"% symbol f 1 0", syntax(1)),
+        (b"% symbol f 2 0", syntax(4)),
+        (b"% symbol ", syntax(4)),
+        (b"% Symbol f 1 1", syntax(4)),
+        (b"% symbol g 1 1\n% symbol f 1 1", None),
+        (b"% symbol f 0 1\n% symbol f 1 1", None),
+        (b"% symbol g 1 1", syntax(5)),
+    ] {
+        assert_eq!(rt; fault_with(alloc, ROW, b"% symbol f 1 1", new)?, fault);
+    }
+    Ok(())
+}
+
+// Symbols of weight 0, and what is wrong with all symbols.
+#[test]
+fn weights(rt: HostRuntime) -> Result<(), Fail> {
+    let alloc = rt.alloc();
+    for (new, fault) in [
+        (b"% symbol i 1 1".as_slice(), syntax(1)),
+        (b"% symbol i 1 0\n% symbol g 1 1", syntax(4)),
+        (b"% symbol i 1 0\n% symbol ", syntax(4)),
+        (b"% symbol i 2 0", syntax(4)),
+        (b"% symbol i 1 x", syntax(4)),
+        (b"% symbol i 1 1\n% symbol ", syntax(5)),
+    ] {
+        assert_eq!(rt; fault_with(alloc, LIGHT, b"% symbol i 1 0", new)?, fault);
+    }
+    assert_eq!(rt; fault_with(alloc, LIGHT, b"% symbol least 0 1", b"% symbol least 0 0")?, syntax(3));
+    assert_eq!(rt; fault_with(alloc, LIGHT, b"% symbol least 0 1\n", b"")?, syntax(4));
+    assert_eq!(rt; fault_with(alloc, NO_FACTS, b"% symbol least 0 1\n", b"")?, syntax(3));
+    assert_eq!(rt; fault_of(alloc, b"% system 1\n% order lpo\n")?, syntax(3));
+    Ok(())
+}
+
+// Lines of facts, and the last line.
+#[test]
+fn facts(rt: HostRuntime) -> Result<(), Fail> {
+    let alloc = rt.alloc();
+    for (new, fault) in [
+        (b"cnf(s1, plain, f(X1) = X2).".as_slice(), None),
+        (b"cnf(s1, plain, X1 = f(X1)).", None),
+        (b"cnf(s1, plain, f(least) = least).", None),
+        (b"cnf(s1, plain, f(X2) = X1).", syntax(5)),
+        (b"cnf(s1, plain, f(X) = X).", syntax(5)),
+        (b"cnf(s1, plain, f(X1)  = X1).", syntax(5)),
+        (b"cnf(s1, plain, f( X1) = X1).", syntax(5)),
+        (b"cnf(s1, plain, 'f'(X1) = X1).", syntax(5)),
+        (b"cnf(s1, plain, f(X1) != X1).", syntax(5)),
+        (b"cnf(s1, plain, f(X1)).", syntax(5)),
+        (b"cnf(s1, plain, f(X1) = g).", syntax(5)),
+        (b"cnf(s1, plain, f(X1,X1) = X1).", syntax(5)),
+        (b"cnf(s1, plain, f(X1) = X1)", syntax(5)),
+        (b"cnf(s1, plain, f(X1) = X1). ", syntax(5)),
+        (b"cnf(s2, plain, f(X1) = X1).", syntax(5)),
+        (b"cnf(s01, plain, f(X1) = X1).", syntax(5)),
+        (b"cnf(s1, axiom, f(X1) = X1).", syntax(5)),
+        (b"cnf(s1,plain, f(X1) = X1).", syntax(5)),
+        (b"cnf(s1, plain, f(X1) = X1).\r", syntax(5)),
+        (b"", syntax(5)),
+        (b"% end\n% end", syntax(6)),
+        (b"% end ", syntax(5)),
+        (b"cnf(s1, plain, f(X1) = X1).\ncnf(s2, plain, least = f(least)).", None),
+        (b"cnf(s1, plain, f(X1) = X1).\ncnf(s3, plain, least = f(least)).", syntax(6)),
+    ] {
+        assert_eq!(rt; fault_with(alloc, ROW, b"cnf(s1, plain, f(X1) = X1).", new)?, fault);
+    }
+    assert_eq!(rt; fault_with(alloc, ROW, b"% end\n", b"% end")?, syntax(6));
+    assert_eq!(rt; fault_with(alloc, ROW, b"% end\n", b"")?, syntax(6));
+    assert_eq!(rt; fault_with(alloc, ROW, b"% end\n", b"% end\n\n")?, syntax(7));
+    assert_eq!(rt; fault_with(alloc, ROW, b"% end\n", b"% end\nx")?, syntax(7));
+    Ok(())
+}
+
+// `f` so often round `least`, in brackets.
+fn tower(alloc: Global, height: usize) -> Result<Text, AllocError> {
+    let mut text = Text::new(alloc);
+    for _ in 0..height {
+        text.extend(b"f(")?;
+    }
+    text.extend(b"least")?;
+    for _ in 0..height {
+        text.push(b')')?;
+    }
+    Ok(text)
+}
+
+// The row with a fact of these sides.
+fn fault_between(
+    alloc: Global,
+    left: &[u8],
+    right: &[u8],
+) -> Result<Option<SystemFault>, AllocError> {
+    let mut line = Text::from_bytes(alloc, b"cnf(s1, plain, ")?;
+    line.extend(left)?;
+    line.extend(b" = ")?;
+    line.extend(right)?;
+    line.extend(b").")?;
+    fault_with(alloc, ROW, b"cnf(s1, plain, f(X1) = X1).", line.as_bytes())
+}
+
+// Terms of 4,096 and of 4,097 nodes.
+#[test]
+fn large_terms(rt: HostRuntime) -> Result<(), Fail> {
+    let alloc = rt.alloc();
+    let most = tower(alloc, 4095)?;
+    let large = tower(alloc, 4096)?;
+    assert_eq!(rt; fault_between(alloc, most.as_bytes(), most.as_bytes())?, None);
+    assert_eq!(rt; fault_between(alloc, large.as_bytes(), b"least")?, limit(5, 16));
+    assert_eq!(rt; fault_between(alloc, b"least", large.as_bytes())?, limit(5, 24));
+    assert_eq!(rt; fault_between(alloc, large.as_bytes(), large.as_bytes())?, limit(5, 16));
+    Ok(())
+}
