@@ -10,18 +10,20 @@ use Rattle.uc_clause.specs.declared.grammar.stop.Why.{Why}
 use Rattle.uc_clause.specs.declared.grammar.stop.Why.TheVariants as why
 use Rattle.uc_clause.specs.declared.fault.ClauseFault.{ClauseFault}
 use Rattle.uc_clause.specs.declared.fault.ClauseFault.TheVariants.{Syntax, Unsupported}
+use Rattle.uc_clause.specs.declared.fault.ClauseFault.TheVariants as clause
+use Rattle.uc_clause.specs.declared.fault.What.TheVariants as what
 use Rattle.uc_clause.specs.Rules.{stop}
 use Rattle.uc_clause.specs.Items.{equals_alone}
 use Rattle.uc_clause.specs.Refusals.{is_other_language, item_fault, role_fault, selection_fault, term_fault, sign_fault, end_fault, fault_of}
 use Rattle.uc_clause.specs.Reading.{Refuses, isnt_tokens, isnt_read, SaysSides, IsUnlessMemory}
-use Rattle.uc_clause.specs.Terminals.{terminal_at}
+use Rattle.uc_clause.specs.Terminals.{terminal_at, place_at}
 use Rattle.uc_clause.proofs.Alone.{equals_alone_once}
 use Rattle.uc_clause.proofs.Whole.{refuses}
 use Rattle.uc_term.specs.Table.{Table}
 use Rattle.uc_system.specs.declared.facts.Cause.{Cause}
 use Rattle.uc_system.specs.declared.facts.Cause.TheVariants.{TooManyNodes, NoRoom, OtherCause}
 use Rattle.uc_system.specs.Facts.{HasLargeTerm}
-use Rattle.uc_system.specs.Given.{HasTooManyNodes, cause_of}
+use Rattle.uc_system.specs.Unread.{HasTooManyNodes, cause_of}
 use Rattle.uc_system.proofs.FactTexts.{large_stops, stops_refused}
 
 by_language : (b : Bool) (p : Place) (w : List ℕ) → cause_of (if b then Unsupported p w else Syntax p) ≡ OtherCause
@@ -77,20 +79,18 @@ pub refused_nodes : (text : List ℕ) (fault : ClauseFault) → Refuses equals_a
 refused_nodes text _ (isnt_tokens s) e = absurd (no_other OtherCause refl e)
 refused_nodes text _ (isnt_read {tokens = ts} {why = w} {k = k} are stops) e = record { tokens = ts; k = k; are_tokens = are; stops = subst (λ x. equals_alone text ts 0 (stop x k)) (many_nodes text ts w k e) stops }
 
-cause_is : (f g : ClauseFault) → Err {T = Tree × Tree} f ≡ Err g → f ≡ g
-cause_is f g e = cc
-
 different : (a b : Cause) → a ≡ OtherCause → a ≡ b → b ≡ TooManyNodes → ⊥
 different a b e f g = cc
 
 wanting : (a : Cause) → a ≡ OtherCause → a ≡ NoRoom → ⊥
 wanting a e f = cc
 
+other_cause : (text : List ℕ) (many : HasTooManyNodes text) (fault : ClauseFault) → cause_of fault ≡ OtherCause → IsUnlessMemory {V = Tree × Tree} (Err (clause.Limit (place_at text many.tokens many.k) what.Nodes)) (Err fault) → ⊥
+other_cause text many fault e (inl q) = let same : fault ≡ clause.Limit (place_at text many.tokens many.k) what.Nodes = cc in different (cause_of fault) TooManyNodes e (ap cause_of same) refl
+other_cause text many fault e (inr q) = let same : fault ≡ clause.NoMemory = cc in wanting (cause_of fault) e (ap cause_of same)
+
 -- what is refused for another cause has no large term
 pub other_no_large : (table : Table) (text : List ℕ) (fault : ClauseFault) → Refuses equals_alone text fault → cause_of fault ≡ OtherCause → (from : ℕ) → HasLargeTerm text from → ⊥
 other_no_large table text fault r e from h =
     let many = large_stops text from h in
-    elim (refuses equals_alone (SaysSides table) text (equals_alone_once text) (Err fault) (inl r) _ (stops_refused text many)) [
-        inl q ↦ (let same = cause_is _ _ q in different (cause_of fault) TooManyNodes e (ap cause_of same) refl)
-      | inr q ↦ (let same = cause_is _ _ q in wanting (cause_of fault) e (ap cause_of same))
-    ]
+    other_cause text many fault e (refuses equals_alone (SaysSides table) text (equals_alone_once text) (Err fault) (inl r) _ (stops_refused text many))

@@ -27,13 +27,13 @@ use Rattle.uc_clause.proofs.Whole.{complete, refuses}
 use Rattle.uc_order.specs.Members.{In, in_front, in_rest, Each}
 use Rattle.uc_system.specs.Symbols.{is_one_of}
 use Rattle.uc_system.specs.Facts.{fact_variables, IsFact, HasLargeTerm}
-use Rattle.uc_system.specs.Given.{IsFactText, is_known, IsBounded, HasTooManyNodes}
+use Rattle.uc_system.specs.Unread.{IsFactText, is_known, IsBounded, HasTooManyNodes}
 use Rattle.uc_system.proofs.EquationAgain.{equation_again}
 use Rattle.uc_system.proofs.FactTexts.{side_printable, fact_again, fact_is, large_stops, stops_refused}
 use Rattle.uc_system.proofs.Splits.{and_left, and_right, and_both}
 
 -- what is read is of the table
-arity_is : (table : Table) (f : Sym) (name : List ℕ) (n : ℕ) → IsSymbol table f name n → n ≡ arity_of table f
+pub arity_is : (table : Table) (f : Sym) (name : List ℕ) (n : ℕ) → IsSymbol table f name n → n ≡ arity_of table f
 arity_is table f name n s = sym (ap (λ (o : Option Entry). (unwrap_or o (record { name = []; arity = 0 })).arity) s)
 
 module _ (bytes : List ℕ) (tokens : List Token) (table : Table) where
@@ -50,13 +50,13 @@ pub pair_of : (table : Table) (text : List ℕ) (pair : Tree × Tree) → ReadsE
 pair_of table text pair r = (means_of text r.tokens table r.means.means_left, means_of text r.tokens table r.means.means_right)
 
 -- symbols that are known
-one_is_in : (f : Sym) (fs : List Sym) → is_one_of f fs ≡ true → In fs f
+pub one_is_in : (f : Sym) (fs : List Sym) → is_one_of f fs ≡ true → In fs f
 one_is_in f [] h = absurd (cc)
 one_is_in f (g ∷ gs) h = by_test (f.0 == g.0) refl (one_is_in f gs)
   where
     by_test : (b : Bool) → (f.0 == g.0) ≡ b → (is_one_of f gs ≡ true → In gs f) → In (g ∷ gs) f
-    by_test true e more = let numbers : g.0 ≡ f.0 = grind (arith, nat_tests) in subst (λ (x : Sym). In (g ∷ gs) x) (ap (λ k. record { 0 = k }) numbers) in_front
-    by_test false e more = in_rest (more (rw e at h))
+    by_test true e later = let numbers : g.0 ≡ f.0 = grind (arith, nat_tests) in subst (λ (x : Sym). In (g ∷ gs) x) (ap (λ k. record { 0 = k }) numbers) in_front
+    by_test false e later = in_rest (later (rw e at h))
 
 same_itself : (n : ℕ) → (n == n) ≡ true
 same_itself n = grind (arith, nat_tests)
@@ -65,7 +65,7 @@ or_true : (a b : Bool) → b ≡ true → (a || b) ≡ true
 or_true true b e = refl
 or_true false b e = e
 
-in_is_one : (f : Sym) (fs : List Sym) → In fs f → is_one_of f fs ≡ true
+pub in_is_one : (f : Sym) (fs : List Sym) → In fs f → is_one_of f fs ≡ true
 in_is_one f [] i = elim i [ ]
 in_is_one _ (g ∷ gs) in_front = rw (same_itself g.0) refl
 in_is_one f (g ∷ gs) (in_rest i) = or_true (f.0 == g.0) _ (in_is_one f gs i)
@@ -155,6 +155,6 @@ module _ (table : Table) (fs : List Sym) (printable : Each (IsPrintableSymbol ta
 pub refused_no_fact : (table : Table) (fs : List Sym) → Each (IsPrintableSymbol table) fs → (text : List ℕ) (fault : ClauseFault) → Refuses equals_alone text fault → (e : Equation) → IsFactText table fs text e → ⊥
 refused_no_fact table fs printable text fault r e t = go (refuses equals_alone (SaysSides table) text (equals_alone_once text) (Ok (e.left, e.right)) (fact_again table fs printable text e t) fault r)
   where
-    go : IsUnlessMemory (Err fault) (Ok (e.left, e.right)) → ⊥
+    go : IsUnlessMemory {V = Tree × Tree} (Err fault) (Ok (e.left, e.right)) → ⊥
     go (inl h) = cc
     go (inr h) = cc

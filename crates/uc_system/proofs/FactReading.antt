@@ -13,7 +13,7 @@ use Rattle.uc_order.specs.Members.{Each}
 use Rattle.uc_system.specs.declared.facts.Unread.{Unread}
 use Rattle.uc_system.specs.declared.facts.Unread.TheVariants as unread
 use Rattle.uc_system.specs.Facts.{fact_front, fact_end, fact_line, IsFactLine, HasLargeTerm, IsLargeLine, is_large}
-use Rattle.uc_system.specs.Given.{IsFactText, ReadsFact, ReadsFactLine, IsChecked, IsShort, further}
+use Rattle.uc_system.specs.Unread.{IsFactText, ReadsFact, ReadsFactLine, IsChecked, IsShort, further}
 use Rattle.uc_system.proofs.FactTexts.{large_stops, read_or_large, between_once}
 use Rattle.uc_system.proofs.LargeTerms.{large_within}
 use Rattle.uc_system.proofs.Stays.{fact_text_stays}

@@ -31,7 +31,7 @@ use Rattle.uc_clause.proofs.Alone.{equals_alone_once, says_sides_once}
 use Rattle.uc_clause.proofs.Whole.{complete, refuses}
 use Rattle.uc_order.specs.Members.{In, Each}
 use Rattle.uc_system.specs.Facts.{fact_front, fact_end, fact_line, fact_variables, IsInOrder, IsSide, IsFact, IsFactLine, HasLargeTerm, left_is_large, right_is_large, IsLargeLine, is_large}
-use Rattle.uc_system.specs.Given.{IsFactText, HasTooManyNodes}
+use Rattle.uc_system.specs.Unread.{IsFactText, HasTooManyNodes}
 use Rattle.uc_system.proofs.EquationAgain.{equation_again}
 use Rattle.uc_system.proofs.Precedence.{each_in}
 

@@ -11,7 +11,7 @@ use Rattle.uc_system.specs.declared.fault.SystemFault.{SystemFault}
 use Rattle.uc_system.specs.declared.fault.SystemFault.TheVariants.{Limit}
 use Rattle.uc_system.specs.Lines.{Cut, first_line, place_in, departs, Outcome, gets, fails}
 use Rattle.uc_system.specs.Facts.{end_line, fact_front, fact_end, fact_line, IsFactLine, HasLargeTerm, IsLargeLine, is_large, FactsAt, no_more_facts, one_more_fact, has_large_term, is_no_fact, is_no_whole_line, fact_lines}
-use Rattle.uc_system.specs.Given.{IsFactText}
+use Rattle.uc_system.specs.Unread.{IsFactText}
 use Rattle.uc_system.proofs.LinesOnce.{Once}
 use Rattle.uc_system.proofs.SymbolsOnce.{some_once, some_or_none}
 use Rattle.uc_system.proofs.FactTexts.{fact_again, fact_text_once, large_stops, read_or_large, large_once, between_once}

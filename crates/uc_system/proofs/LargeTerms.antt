@@ -1,6 +1,7 @@
 -- Where an equation is read up to a term that is too large.
-use Rattle.std.proofs.Common.{◌≡◌, ◌≢◌, ℕ, ◌+◌, ◌<◌, ◌≤◌, List, length, length-append, refl, sym, ap, ◌∙◌, subst, arith, Some}
+use Rattle.std.proofs.Common.{◌≡◌, ◌≢◌, ℕ, ◌+◌, ◌<◌, ◌≤◌, List, length, length-append, refl, sym, ap, ◌∙◌, subst, arith, Some, None, get_or, inl, inr, ◌⊎◌}
 use Rattle.std.specs.Prelude.{slice_get, ◌++◌}
+use Rattle.std.proofs.lemmas.Option.{slice_get_cases}
 use Rattle.uc_clause.specs.declared.token.Token.{Token}
 use Rattle.uc_clause.specs.declared.terminal.Terminal.{Terminal}
 use Rattle.uc_clause.specs.declared.terminal.Terminal.TheVariants as terminal
@@ -18,7 +19,9 @@ use Rattle.uc_clause.proofs.Once.{tokens_once}
 use Rattle.uc_clause.proofs.ReadOnce.{term_once}
 use Rattle.uc_clause.proofs.Spans.{within_text}
 use Rattle.uc_system.specs.Facts.{fact_front, fact_end, HasLargeTerm, left_is_large, right_is_large, IsLargeLine, is_large}
-use Rattle.uc_system.specs.Given.{HasTooManyNodes}
+use Rattle.uc_system.specs.declared.facts.Unread.{Unread}
+use Rattle.uc_system.specs.declared.facts.Unread.TheVariants as unread
+use Rattle.uc_system.specs.Unread.{HasTooManyNodes, IsLargeIn}
 
 functor_or_neither : Functor ≡ Neither → ⊥
 functor_or_neither e = cc
@@ -59,3 +62,39 @@ large_within text _ (right_is_large {tokens = ts} {token = t} {sign = s} are rea
 
 pub large_line_within : (k : ℕ) (line : List ℕ) (from : ℕ) → IsLargeLine k line from → from ≤ length line
 large_line_within k line _ (is_large {text = t} {from = a} e h) = omega (arith, ap length e, length-append (fact_front k ++ t) fact_end, length-append (fact_front k) t, large_within t a h)
+
+-- a term that is too large begins at the token of this number
+pub record LargeAt (text : List ℕ) (tokens : List Token) (at : ℕ) : Type 0 where
+  pub within : at < length tokens
+  pub large : (token : Token) → slice_get tokens at ≡ Some token → HasLargeTerm text token.from
+
+-- the reader of the term at the first token
+module _ (text : List ℕ) (tokens : List Token) (are : AreTokens text tokens) (many : HasTooManyNodes text) where
+  stops_in : StopsIn text tokens many.k
+  stops_in = alone_stops text tokens many.k (subst (λ ts. equals_alone text ts 0 (stop Nodes many.k)) (tokens_once many.are_tokens are) many.stops)
+
+  -- that term is read, so it is the right one that is too large
+  pub after_sign : (left : Parse) (sign : ℕ) → Term text tokens 0 0 (read left sign) → LargeAt text tokens (sign + 1)
+  after_sign left sign r = by_side stops_in
+    where
+      by_side : StopsIn text tokens many.k → LargeAt text tokens (sign + 1)
+      by_side (in_left s) = absurd (let e = term_once text tokens r s in cc)
+      by_side (in_right p q t mark s) =
+          let e : read left sign ≡ read p q = term_once text tokens r t in
+          let signs : q ≡ sign = cc in
+          subst (λ i. LargeAt text tokens (i + 1)) signs (record { within = some_term text tokens s refl; large = λ token get. right_is_large are t mark s get })
+
+  -- that term stops, so it is too large
+  pub at_front : (why : Why) (k : ℕ) → Term text tokens 0 0 (stop why k) → LargeAt text tokens 0
+  at_front why k h = by_side stops_in
+    where
+      by_side : StopsIn text tokens many.k → LargeAt text tokens 0
+      by_side (in_left s) = record { within = some_term text tokens s refl; large = λ token get. left_is_large are s get }
+      by_side (in_right p q t mark s) = absurd (let e = term_once text tokens h t in cc)
+
+pub large_here : (text : List ℕ) (tokens : List Token) (at : ℕ) (result : Unread) → LargeAt text tokens at → ((token : Token) → slice_get tokens at ≡ Some token → result ≡ unread.Large token.from) → IsLargeIn text result
+large_here text tokens at result l is = by_token (slice_get_cases tokens at).1
+  where
+    by_token : ((x : Token) × (at < length tokens) × (slice_get tokens at ≡ Some x) × (get_or tokens at x ≡ x)) ⊎ ((length tokens ≤ at) × (slice_get tokens at ≡ None)) → IsLargeIn text result
+    by_token (inl t) = subst (IsLargeIn text) (sym (is t.0 t.1.1.0)) (l.large t.0 t.1.1.0)
+    by_token (inr n) = absurd (omega (arith, n.0, l.within))

@@ -21,3 +21,10 @@ pub mod Causes
 pub mod SymbolReading
 pub mod FactReading
 pub mod NumberSteps
+pub mod SystemsRead
+pub mod Readers
+pub mod FactsRead
+pub mod SymbolsRead
+pub mod SystemsPrintable
+pub mod Headers
+pub mod Pieces

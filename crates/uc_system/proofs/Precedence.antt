@@ -1,5 +1,5 @@
 -- What the symbols' lines give: symbols that can be printed.
-use Rattle.std.proofs.Common.{◌≡◌, ℕ, ◌≤◌, ◌<◌, List, [], ◌∷◌, ◌++◌, length, map, refl, sym, ap, ◌∙◌, subst, arith, Option, Some, None, unwrap_or}
+use Rattle.std.proofs.Common.{◌≡◌, ℕ, zero, suc, get_or, ◌≤◌, ◌<◌, List, [], ◌∷◌, ◌++◌, length, map, refl, sym, ap, ◌∙◌, subst, arith, Option, Some, None, unwrap_or}
 use Rattle.std.proofs.lemmas.List.{map-append}
 use Rattle.std.proofs.lemmas.Option.{slice_get_within}
 use Rattle.uc_term.specs.declared.node.Sym.{Sym}
@@ -27,18 +27,25 @@ pub each_map : {A : Type 0} (P Q : A → Type 0) → ((x : A) → P x → Q x) �
 each_map P Q f [] h = tt
 each_map P Q f (x ∷ xs) h = (f x h.0, each_map P Q f xs h.1)
 
+-- the symbol of the one with this number
+pub each_symbol : (P : Sym → Type 0) (ss : List Ranked) (i : ℕ) (d : Ranked) → i < length ss → Each P (symbols_in ss) → P (get_or ss i d).symbol
+each_symbol P [] i d h all = absurd (omega arith)
+each_symbol P (s ∷ ss) zero d h all = all.0
+each_symbol P (s ∷ ss) (suc i) d h all = each_symbol P ss i d (omega arith) all.1
+
 pub printable_symbol : (table : Table) (f : Sym) (name : List ℕ) (n : ℕ) → IsSpellable name → n ≤ 255 → IsSymbol table f name n → IsPrintableSymbol table f
 printable_symbol table f name n spellable few s =
     let name_is : name_of table f ≡ name = ap (λ (o : Option Entry). (unwrap_or o (record { name = []; arity = 0 })).name) s in
     let arity_is : arity_of table f ≡ n = ap (λ (o : Option Entry). (unwrap_or o (record { name = []; arity = 0 })).arity) s in
     (slice_get_within table f.0 _ s, subst IsSpellable (sym name_is) spellable, omega arith)
 
-pub record IsRanked (fault : Option SystemFault) (x s : Ranked) : Type 0 where
+pub record IsRanked (fault : Option SystemFault) (x s : Ranked) (r q : List ℕ) : Type 0 where
   pub no_fault : fault ≡ None
   pub is : x ≡ s
+  pub rest_is : r ≡ q
 
-pub ranked_is : (fault : Option SystemFault) (x s : Ranked) (n m : ℕ) (r q : List ℕ) → ranked_or fault x n r ≡ gets s m q → IsRanked fault x s
-ranked_is None x s n m r q e = let same : x ≡ s = cc in record { no_fault = refl; is = same }
+pub ranked_is : (fault : Option SystemFault) (x s : Ranked) (n m : ℕ) (r q : List ℕ) → ranked_or fault x n r ≡ gets s m q → IsRanked fault x s r q
+ranked_is None x s n m r q e = let same : x ≡ s = cc in let rests : r ≡ q = cc in record { no_fault = refl; is = same; rest_is = rests }
 ranked_is (Some fault) x s n m r q e = absurd (cc)
 
 module _ (table : Table) (header : Header) where

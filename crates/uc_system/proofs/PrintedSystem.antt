@@ -12,6 +12,7 @@ use Rattle.uc_order.specs.declared.spec.OrderSpec.{OrderSpec}
 use Rattle.uc_order.specs.declared.spec.OrderSpec.TheVariants.{Kbo, Lpo}
 use Rattle.uc_kbo.specs.Faults.{weighed, IsBad, NoneBad, HasConstant}
 use Rattle.uc_ordering.specs.Fits.{AreWeights, Fits}
+use Rattle.uc_ordering.specs.Weights.{MAX_WEIGHT}
 use Rattle.uc_system.specs.declared.fault.SystemFault.{SystemFault}
 use Rattle.uc_system.specs.declared.header.Kind.{Kind}
 use Rattle.uc_system.specs.declared.header.Kind.TheVariants.{Weighing, Paths}
@@ -21,11 +22,11 @@ use Rattle.uc_system.specs.declared.system.SystemText.{SystemText}
 use Rattle.uc_fact.specs.declared.fact.System.{System}
 use Rattle.uc_system.specs.Numerals.{is_numeral, value_of}
 use Rattle.uc_system.specs.Lines.{Cut, first_line, Outcome, gets, unless, passed_or, goes_on, pick, picked, value_or}
-use Rattle.uc_system.specs.Header.{MOST, weighing_words, paths_line, version_line, version_of, weighing_of, kind_of, kind_fault, header_lines}
+use Rattle.uc_system.specs.Header.{heading_line, weighing_words, paths_line, version_line, version_of, weighing_of, kind_of, kind_fault, header_lines}
 use Rattle.uc_system.specs.Symbols.{begins_symbol, is_bad_weight, weighs_nothing, symbols_in, weights_in, SymbolsAt, symbol_lines, has_light, has_constant, symbols_fault, are_complete}
 use Rattle.uc_system.specs.Facts.{end_line, fact_line, IsFact, FactsAt, fact_lines}
 use Rattle.uc_system.specs.Reading.{precedence_of, spec_of, text_of, system_body, system_lines, ReadsSystem, reads}
-use Rattle.uc_system.specs.Printing.{ended, is_light, heading_line, order_line, weighed_text, bare_text, symbols_text, facts_text, system_text}
+use Rattle.uc_system.specs.Printing.{ended, is_light, order_line, weighed_text, bare_text, symbols_text, facts_text, system_text}
 use Rattle.uc_system.specs.Printable.{IsPrintableSystem}
 use Rattle.uc_system.proofs.FirstLines.{cut_line}
 use Rattle.uc_system.proofs.Decimals.{all_append, decimal_numeral, decimal_value, decimal_in_line}
@@ -55,7 +56,7 @@ weighing_is w0 low high =
     let numeral : is_numeral (decimal w0) ≡ true = decimal_numeral w0 (omega arith) in
     let value : value_of (decimal w0) ≡ w0 = decimal_value w0 (omega arith) in
     let above : nat_le 1 w0 ≡ true = grind (arith, nat_tests) in
-    let below : nat_le w0 MOST ≡ true = grind (arith, nat_tests) in
+    let below : nat_le w0 MAX_WEIGHT ≡ true = grind (arith, nat_tests) in
     rw (numeral, value, above, below) refl
 
 kbo_read : (w0 : ℕ) (rest : List ℕ) → 1 ≤ w0 → w0 ≤ 1000000 → pick kind_of 2 ((weighing_words ++ decimal w0) ++ 10 ∷ rest) (gets (Weighing w0) 3 rest)
@@ -74,7 +75,7 @@ below_or a b = grind arith
 at_most : (w : ℕ) → (1000000 < w → ⊥) → w ≤ 1000000
 at_most w n = elim (below_or 1000000 w) [ inl h ↦ absurd (n h) | inr h ↦ h ]
 
-not_over : (w : ℕ) → w ≤ 1000000 → nat_lt MOST w ≡ false
+not_over : (w : ℕ) → w ≤ 1000000 → nat_lt MAX_WEIGHT w ≡ false
 not_over w h = grind (arith, nat_tests)
 
 is_equal : (a b : ℕ) → (a == b) ≡ true → a ≡ b
@@ -90,7 +91,7 @@ module _ (table : Table) (w0 : ℕ) (f : Sym) (w : ℕ) where
   fine_weight : (rest : _) → (IsBad w0 (record { symbol = f; arity = arity_of table f; weight = w }) rest → ⊥) → is_bad_weight (Weighing w0) (arity_of table f) w ≡ false
   fine_weight rest none = by_tests (arity_of table f == 0) refl (nat_lt w w0) refl (w == 0) refl (arity_of table f == 1) refl
     where
-      small : nat_lt MOST w ≡ false
+      small : nat_lt MAX_WEIGHT w ≡ false
       small = not_over w (at_most w (λ h. none (inl h)))
       by_tests : (a : Bool) → (arity_of table f == 0) ≡ a → (b : Bool) → nat_lt w w0 ≡ b → (c : Bool) → (w == 0) ≡ c → (d : Bool) → (arity_of table f == 1) ≡ d → is_bad_weight (Weighing w0) (arity_of table f) w ≡ false
       by_tests true p true q c r d s = absurd (none (inr (inl (is_equal _ _ p, is_below _ _ q))))

@@ -20,7 +20,7 @@ use Rattle.uc_system.specs.Lines.{departs, Outcome, gets, passed_or, goes_on, fa
 use Rattle.uc_system.specs.Symbols.{symbols_in, SymbolAt, is_no_whole_line, is_no_symbol, has_too_many, is_symbol, SymbolsAt, no_more_symbols, one_more_symbol, fails_in_symbol, has_light, has_constant, symbols_fault, are_complete}
 use Rattle.uc_system.specs.Facts.{fact_front, fact_end, IsSide, IsFact, IsFactLine, FactsAt, no_more_facts, one_more_fact, has_large_term, is_no_fact}
 use Rattle.uc_system.specs.Facts as facts
-use Rattle.uc_system.specs.Given.{IsFactText}
+use Rattle.uc_system.specs.Unread.{IsFactText}
 use Rattle.uc_system.specs.Reading.{system_body, system_lines, ReadsSystem, reads, goes_further, fails_within}
 use Rattle.uc_system.proofs.Precedence.{each_in, symbols_printable}
 

@@ -14,7 +14,7 @@ use Rattle.uc_system.specs.declared.header.Header.{Header}
 use Rattle.uc_system.specs.declared.symbols.Ranked.{Ranked}
 use Rattle.uc_system.specs.Numerals.{is_numeral, value_of}
 use Rattle.uc_system.specs.Lines.{Cut, first_line, place_in, departs, gets, fails}
-use Rattle.uc_system.specs.Header.{MOST}
+use Rattle.uc_ordering.specs.Weights.{MAX_WEIGHT}
 use Rattle.uc_system.specs.Symbols.{symbol_words, begins_symbol, Parts, symbol_front, symbol_line, IsWeight, IsSymbolLine, is_bad_weight, weighs_nothing, is_one_of, symbol_fault, ranked_or, SymbolAt, is_no_symbol, has_too_many, is_symbol}
 use Rattle.uc_system.specs.Written.{HasNoSpace, written_line, kept, IsWritten, IsNotWritten, IsWordOf}
 use Rattle.uc_system.proofs.Splits.{split_once, numeral_no_space}
@@ -54,17 +54,17 @@ symbol_line_is kind line spelled a w h name s e = record {
 }
 
 -- weights that are kept
-heavy : (w : ℕ) → MOST < w → nat_lt MOST w ≡ true
+heavy : (w : ℕ) → MAX_WEIGHT < w → nat_lt MAX_WEIGHT w ≡ true
 heavy w h = grind (arith, nat_tests)
 
 below_or : (a b : ℕ) → (a < b) ⊎ (b ≤ a)
 below_or a b = grind arith
 
-heavy_fault : (header : Header) (w0 : ℕ) → header.kind ≡ Weighing w0 → (repeated followed : Bool) (n a w : ℕ) → MOST < w → symbol_fault header repeated followed n a w ≡ Some (departs n)
+heavy_fault : (header : Header) (w0 : ℕ) → header.kind ≡ Weighing w0 → (repeated followed : Bool) (n a w : ℕ) → MAX_WEIGHT < w → symbol_fault header repeated followed n a w ≡ Some (departs n)
 heavy_fault header w0 k repeated followed n a w h = let big = heavy w h in rw (k, big) refl
 
 kept_or : (header : Header) (repeated followed : Bool) (n a : ℕ) (digits : List ℕ) (kind : Kind) → header.kind ≡ kind → IsWeight kind digits → (symbol_fault header repeated followed n a (kept digits) ≡ symbol_fault header repeated followed n a (value_of digits)) × (symbol_fault header repeated followed n a (kept digits) ≡ None → kept digits ≡ value_of digits)
-kept_or header repeated followed n a digits (Weighing w0) k i = elim (below_or MOST (value_of digits)) [
+kept_or header repeated followed n a digits (Weighing w0) k i = elim (below_or MAX_WEIGHT (value_of digits)) [
     inl h ↦ (let f = heavy_fault header w0 k repeated followed n a (kept digits) (omega arith) in (f ∙ sym (heavy_fault header w0 k repeated followed n a (value_of digits) h), λ e. absurd (let both = sym f ∙ e in cc)))
   | inr h ↦ (let same : kept digits ≡ value_of digits = omega arith in (ap (symbol_fault header repeated followed n a) same, λ e. same))
   ]

@@ -1,16 +1,18 @@
 -- How the reader takes a symbol's line apart.
-use Rattle.std.proofs.Common.{◌≡◌, ℕ, suc, ◌+◌, ◌<◌, ◌≤◌, ◌==◌, Bool, true, false, not, List, [], ◌∷◌, ◌++◌, length, take, drop, get_or, drop-cons, take-append-drop, refl, sym, ap, ap₂, ◌∙◌, subst, append_assoc, arith}
-use Rattle.std.specs.Prelude.{codes}
+use Rattle.std.proofs.Common.{◌≡◌, ℕ, suc, ◌+◌, ◌<◌, ◌≤◌, ◌==◌, Bool, true, false, not, List, [], ◌∷◌, ◌++◌, length, take, drop, get_or, drop-cons, take-append-drop, refl, sym, ap, ap₂, ◌∙◌, subst, append_assoc, length-append, arith}
+use Rattle.std.specs.Prelude.{codes, bytes_eq, IsTrue, ◌↔◌, MatchOption, IfSome, Option, Some, None}
 use Rattle.std.specs.List.{list_all}
 use Rattle.std.proofs.lemmas.Bool.Decides.{nat_tests}
 use Rattle.std.proofs.lemmas.List.{append_cancel_left}
 use Rattle.uc_clause.specs.Names.{IsSpellable, spelling, stands_for}
 use Rattle.uc_clause.proofs.ReadBack.{spelling_some}
+use Rattle.uc_system.specs.declared.symbols.Written.{Written}
 use Rattle.uc_system.specs.declared.header.Kind.{Kind}
 use Rattle.uc_system.specs.declared.header.Kind.TheVariants.{Weighing, Paths}
 use Rattle.uc_system.specs.Numerals.{is_numeral}
 use Rattle.uc_system.specs.Symbols.{symbol_words}
 use Rattle.uc_system.specs.Written.{HasNoSpace, IsSplit, written_line, kept, IsWritten, IsNotWritten, IsNamed, IsNotNamed, IsWordOf, kind_at}
+use Rattle.uc_system.proofs.Pieces.{bytes_differ}
 use Rattle.uc_system.proofs.Splits.{and_both, split_once, numeral_no_space, has_space, name_back}
 
 -- the last space
@@ -113,3 +115,21 @@ nothing_spelled spelled h name s e = omega (arith, spelling_some name s, ap leng
 -- what it stands for is the only word that can be spelled so
 pub word_only : (spelled word : List ℕ) → word ≡ stands_for (kind_at spelled) spelled → (name : List ℕ) → spelled ≡ spelling name → name ≡ word
 word_only spelled word e name f = sym (name_back name) ∙ ap (λ s. stands_for (kind_at s) s) (sym f) ∙ sym e
+
+-- no word is spelled so where what it stands for can't be spelled, or is spelled otherwise
+pub no_word : (spelled word : List ℕ) (b : Bool) → word ≡ stands_for (kind_at spelled) spelled → b ≡ false → (IsTrue b ↔ IsSpellable word) → IsWordOf spelled None
+no_word spelled word b w n i name s e = false_or_true b n (i.1 (subst IsSpellable (word_only spelled word w name e) s))
+
+pub other_spelling : (spelled word again : List ℕ) → word ≡ stands_for (kind_at spelled) spelled → again ≡ spelling word → bytes_eq again spelled ≡ false → IsWordOf spelled None
+other_spelling spelled word again w a n name s e = bytes_differ again spelled n (a ∙ ap spelling (sym (word_only spelled word w name e)) ∙ sym e)
+
+-- a line with the weight that stands behind its name and arity
+module _ (w0 : ℕ) (line rest front back : List ℕ) (weight : ℕ) (l : line ≡ symbol_words ++ rest) (s : IsSplit rest front back) (h : is_numeral back ≡ true) (k : weight ≡ kept back) where
+  pub weighed : (result : Option Written) → MatchOption result (IsNotNamed front) (λ w. IsNamed front w.spelled.now w.arity) → IfSome result (λ w. w.weight ≡ weight) → MatchOption result (IsNotWritten (Weighing w0) line) (λ w. IsWritten (Weighing w0) line w.spelled.now w.arity w.weight)
+  weighed None n i = no_name_not_written w0 line rest front back l s n
+  weighed (Some w) n i = is_written w0 line rest front back w.spelled.now w.arity w.weight l s h (i ∙ k) n
+
+-- what is spelled is shorter than the line
+pub spelled_short : (kind : Kind) (line spelled : List ℕ) (arity weight : ℕ) → IsWritten kind line spelled arity weight → 9 + length spelled + 1 ≤ length line
+spelled_short (Weighing w0) line spelled arity weight h = omega (arith, simp length-append at (ap length h.is))
+spelled_short Paths line spelled arity weight h = omega (arith, simp length-append at (ap length h.is))

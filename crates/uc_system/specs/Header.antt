@@ -7,6 +7,7 @@
 use Rattle.std.specs.Prelude.{◌≡◌, ℕ, ◌+◌, ◌==◌, ◌&&◌, ◌||◌, not, nat_le, nat_eq, Bool, true, false, List, drop, length, codes, bytes_eq, Option, Some, None, if◌then◌else◌}
 use Rattle.std.specs.List.{starts_with}
 use Rattle.uc_clause.specs.Bytes.{is_digits}
+use Rattle.uc_ordering.specs.Weights.{MAX_WEIGHT}
 use Rattle.uc_system.specs.declared.fault.SystemFault.{SystemFault}
 use Rattle.uc_system.specs.declared.fault.SystemFault.TheVariants.{Version}
 use Rattle.uc_system.specs.declared.header.Kind.{Kind}
@@ -26,8 +27,9 @@ weighing_words = codes "% order kbo "
 abbrev pub paths_line : List ℕ
 paths_line = codes "% order lpo"
 
-abbrev pub MOST : ℕ
-MOST = 1000000
+-- the first line, where a symbol weighs 0 or where none does
+abbrev pub heading_line : Bool → List ℕ
+heading_line light = if light then codes "% system 2" else codes "% system 1"
 
 -- digits of another number than 1 and 2
 abbrev pub is_other_version : List ℕ → Bool
@@ -36,8 +38,8 @@ is_other_version ds = is_digits ds && not (value_of ds == 1 || value_of ds == 2)
 -- what a first line says
 abbrev pub heading_of : List ℕ → Heading
 heading_of line =
-    if bytes_eq line (codes "% system 1") then Heavy
-    else (if bytes_eq line (codes "% system 2") then Light
+    if bytes_eq line (heading_line false) then Heavy
+    else (if bytes_eq line (heading_line true) then Light
     else (if starts_with nat_eq line system_words && is_other_version (drop (length system_words) line) then OtherVersion else NoHeading))
 
 -- whether a symbol is said to weigh 0
@@ -56,7 +58,7 @@ version_line n text outcome = outcome ≡ version_of n (first_line text)
 
 -- the weight of a variable: a numeral from 1 to 1,000,000
 abbrev pub weighing_of : List ℕ → Option Kind
-weighing_of ds = if is_numeral ds && (nat_le 1 (value_of ds) && nat_le (value_of ds) MOST) then Some (Weighing (value_of ds)) else None
+weighing_of ds = if is_numeral ds && (nat_le 1 (value_of ds) && nat_le (value_of ds) MAX_WEIGHT) then Some (Weighing (value_of ds)) else None
 
 -- the order whose name stands in a line
 abbrev pub kind_of : List ℕ → Option Kind

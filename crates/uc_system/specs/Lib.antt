@@ -8,4 +8,5 @@ pub mod Printing
 pub mod Printable
 pub mod Places
 pub mod Written
-pub mod Given
+pub mod Reads
+pub mod Unread

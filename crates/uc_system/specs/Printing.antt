@@ -1,5 +1,5 @@
 -- How a system is printed, line by line.
-use Rattle.std.specs.Prelude.{◌≡◌, ℕ, ◌+◌, ◌==◌, Bool, false, List, [], ◌∷◌, ◌++◌, length, codes, decimal, if◌then◌else◌}
+use Rattle.std.specs.Prelude.{◌≡◌, ℕ, ◌+◌, ◌==◌, Bool, false, List, [], ◌∷◌, ◌++◌, length, codes, decimal}
 use Rattle.std.specs.List.{flat_map, list_any}
 use Rattle.uc_term.specs.declared.node.Sym.{Sym}
 use Rattle.uc_term.specs.declared.equation.Equation.{Equation}
@@ -7,7 +7,7 @@ use Rattle.uc_term.specs.Table.{Table, Has, IsOf, name_of, arity_of}
 use Rattle.uc_order.specs.Members.{Each}
 use Rattle.uc_order.specs.declared.spec.OrderSpec.{OrderSpec}
 use Rattle.uc_order.specs.declared.spec.OrderSpec.TheVariants.{Kbo, Lpo}
-use Rattle.uc_system.specs.Header.{weighing_words, paths_line}
+use Rattle.uc_system.specs.Header.{heading_line, weighing_words, paths_line}
 use Rattle.uc_system.specs.Symbols.{symbol_front}
 use Rattle.uc_system.specs.Facts.{end_line, fact_line}
 
@@ -19,9 +19,6 @@ ended line = line ++ codes "\n"
 abbrev pub is_light : OrderSpec → Bool
 is_light (Kbo w0 weights precedence) = list_any (λ w. w == 0) weights
 is_light (Lpo precedence) = false
-
-abbrev pub heading_line : Bool → List ℕ
-heading_line light = if light then codes "% system 2" else codes "% system 1"
 
 abbrev pub order_line : OrderSpec → List ℕ
 order_line (Kbo w0 weights precedence) = weighing_words ++ decimal w0

@@ -11,6 +11,7 @@ use Rattle.uc_term.specs.declared.node.Sym.{Sym}
 use Rattle.uc_term.specs.Table.{Table, IsSymbol, arity_of}
 use Rattle.uc_term.specs.Signatures.{same_symbol}
 use Rattle.uc_clause.specs.Names.{IsSpellable, spelling}
+use Rattle.uc_ordering.specs.Weights.{MAX_WEIGHT}
 use Rattle.uc_system.specs.declared.fault.SystemFault.{SystemFault}
 use Rattle.uc_system.specs.declared.fault.SystemFault.TheVariants.{Limit}
 use Rattle.uc_system.specs.declared.symbols.Ranked.{Ranked}
@@ -19,7 +20,6 @@ use Rattle.uc_system.specs.declared.header.Kind.TheVariants.{Weighing, Paths}
 use Rattle.uc_system.specs.declared.header.Header.{Header}
 use Rattle.uc_system.specs.Numerals.{is_numeral, value_of}
 use Rattle.uc_system.specs.Lines.{Cut, first_line, place_in, departs, Outcome, gets, fails, Rule, unless}
-use Rattle.uc_system.specs.Header.{MOST}
 
 abbrev pub symbol_words : List ℕ
 symbol_words = codes "% symbol "
@@ -61,7 +61,7 @@ weights_in ss = map (λ (s : Ranked). s.weight) ss
 
 -- the weight is too great, or a constant's and below a variable's, or 0 where the symbol isn't unary
 abbrev pub is_bad_weight : Kind → ℕ → ℕ → Bool
-is_bad_weight (Weighing w0) arity weight = nat_lt MOST weight || (((arity == 0) && nat_lt weight w0) || ((weight == 0) && not (arity == 1)))
+is_bad_weight (Weighing w0) arity weight = nat_lt MAX_WEIGHT weight || (((arity == 0) && nat_lt weight w0) || ((weight == 0) && not (arity == 1)))
 is_bad_weight Paths arity weight = false
 
 abbrev pub weighs_nothing : Kind → ℕ → Bool

@@ -9,10 +9,12 @@ ghost use Rattle.uc_clause.specs.Reading.{ReadsEquation, Refuses, IsFault};
 ghost use Rattle.uc_clause.specs.Tokens.{AreTokens};
 ghost use Rattle.uc_clause.specs.declared.token.Token.{Token as AnyToken};
 ghost use Rattle.uc_order.specs.Members.{Each};
+ghost use Rattle.uc_system.specs.declared.facts.Cause.TheVariants.{TooManyNodes};
 ghost use Rattle.uc_system.specs.declared.facts.Unread.TheVariants.{NoMemory};
 ghost use Rattle.uc_system.specs.Places.{IsAt};
 ghost use Rattle.uc_system.specs.Facts.{fact_front, fact_end, fact_lines};
-ghost use Rattle.uc_system.specs.Given.{HasTooManyNodes, cause_of, cause_of_limit, GivesIn, IsUnread, ReadsFact, ReadsFactLine, IsChecked, IsLargeIn, is_known, line_fault, further, IsShort, IsBounded};
+ghost use Rattle.uc_system.specs.Reads.{GivesIn};
+ghost use Rattle.uc_system.specs.Unread.{HasTooManyNodes, cause_of, cause_of_limit, IsUnread, ReadsFact, ReadsFactLine, IsChecked, IsLargeIn, IsCausedBy, is_known, line_fault, further, IsShort, IsBounded};
 
 use crate::SystemFault;
 use crate::lines::{Cursor, departs, line_at, place_in};
@@ -198,7 +200,17 @@ fn why_unread(
     ensures unread { IsUnread symbols.new known.now.keys text.now result }
     ensures grows { Grows symbols.old symbols.new }
 {
-    match cause_of(&fault) {
+    unread_by(alloc, text, cause_of(&fault), symbols)
+}
+
+// Why a text that is refused for this cause isn't one.
+fn unread_by(alloc: Global, text: &[u8], cause: Cause, symbols: &mut Symbols) -> Unread
+    requires small { length text.now < 2 ^ 31 }
+    requires refused { cause ≡ TooManyNodes → HasTooManyNodes text.now }
+    ensures caused { IsCausedBy text.now cause result }
+    ensures grows { Grows symbols.old symbols.new }
+{
+    match cause {
         Cause::TooManyNodes => large_in(alloc, text, symbols),
         Cause::NoRoom => Unread::NoMemory,
         Cause::OtherCause => Unread::Departs,
@@ -224,6 +236,8 @@ fn large_among(alloc: Global, text: &[u8], tokens: &[Token], symbols: &mut Symbo
     ensures large { IsLargeIn text.now result }
     ensures grows { Grows symbols.old symbols.new }
 {
+    // The tokens leave room for the number of one more.
+    let _ = tokens.len();
     let mut variables = Variables::new(alloc);
     match term_at(alloc, text, tokens, 0, &mut variables, symbols) {
         Ok((_, sign)) => large_from(tokens, sign + 1),

@@ -1,10 +1,10 @@
 //! The first two lines of a system's text.
 
 ghost use Rattle.std.specs.Prelude.{◌≡◌, ◌<◌, ◌^◌, length};
-ghost use Rattle.uc_system.specs.Header.{heading_of, is_other_version, version_line, weighing_of, kind_of, header_lines};
+ghost use Rattle.uc_system.specs.Header.{heading_of, is_other_version, version_line, weighing_of, kind_of, is_light_path, header_lines};
 ghost use Rattle.uc_system.specs.Lines.{pick};
 ghost use Rattle.uc_system.specs.Places.{IsAt};
-ghost use Rattle.uc_system.specs.Given.{Gives};
+ghost use Rattle.uc_system.specs.Reads.{Gives};
 
 use crate::SystemFault;
 use crate::lines::{Cursor, departs, line_at, place_in};
@@ -53,7 +53,8 @@ fn heading_of(line: &[u8]) -> Heading
     if !line.starts_with(SYSTEM) {
         return Heading::NoHeading;
     }
-    if is_other_version(&line[SYSTEM.len()..]) {
+    let (_, digits) = line.split_at(SYSTEM.len());
+    if is_other_version(digits) {
         Heading::OtherVersion
     } else {
         Heading::NoHeading
@@ -112,7 +113,8 @@ fn kind_of(line: &[u8]) -> Option<Kind>
     if !line.starts_with(WEIGHING) {
         return None;
     }
-    weighing_of(&line[WEIGHING.len()..])
+    let (_, digits) = line.split_at(WEIGHING.len());
+    weighing_of(digits)
 }
 
 // Reads the second line.
@@ -130,6 +132,16 @@ fn kind_at(bytes: &[u8], at: Cursor) -> Result<(Kind, Cursor), SystemFault>
     }
 }
 
+// Whether a symbol is said to weigh 0 where no symbol has a weight.
+fn is_light_path(light: bool, kind: Kind) -> bool
+    ensures { result ≡ is_light_path light kind }
+{
+    match kind {
+        Kind::Weighing(_) => false,
+        Kind::Paths => light,
+    }
+}
+
 // Reads both lines.
 pub(crate) fn header_at(bytes: &[u8], at: Cursor) -> Result<(Header, Cursor), SystemFault>
     requires small { length bytes.now < 2 ^ 31 }
@@ -139,7 +151,7 @@ pub(crate) fn header_at(bytes: &[u8], at: Cursor) -> Result<(Header, Cursor), Sy
     let first = at.number;
     let (light, at) = version_at(bytes, at)?;
     let (kind, at) = kind_at(bytes, at)?;
-    if light && kind == Kind::Paths {
+    if is_light_path(light, kind) {
         return Err(departs(first));
     }
     Ok((Header { first, light, kind }, at))

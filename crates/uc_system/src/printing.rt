@@ -5,7 +5,8 @@ ghost use Rattle.std.specs.Prelude.{◌≡◌, ◌+◌, ◌<◌, ◌^◌, ◌==�
 ghost use Rattle.uc_term.specs.Table.{Has};
 ghost use Rattle.uc_order.specs.Members.{Each};
 ghost use Rattle.uc_system.specs.Reading.{ReadsSystem};
-ghost use Rattle.uc_system.specs.Printing.{system_text, is_light, heading_line, order_line, symbols_text, weighed_text, bare_text, bare_line, facts_text, ended, IsSpecOf, IsEquationOf};
+ghost use Rattle.uc_system.specs.Header.{heading_line};
+ghost use Rattle.uc_system.specs.Printing.{system_text, is_light, order_line, symbols_text, weighed_text, bare_text, bare_line, facts_text, ended, IsSpecOf, IsEquationOf};
 ghost use Rattle.uc_system.specs.Facts.{fact_line};
 ghost use Rattle.uc_system.specs.Printable.{IsPrintableSystem};
 

@@ -4,8 +4,9 @@ ghost use Rattle.std.specs.Prelude.{◌≡◌, ◌<◌, ◌^◌, length, IfOk};
 ghost use Rattle.uc_term.specs.Table.{Table, Grows};
 ghost use Rattle.uc_system.specs.Symbols.{weights_in};
 ghost use Rattle.uc_system.specs.Places.{IsAt};
-ghost use Rattle.uc_system.specs.Reading.{IsReading, IsSystem, system_lines, system_body, spec_of};
-ghost use Rattle.uc_system.specs.Given.{GivesIn};
+ghost use Rattle.uc_ordering.specs.Meaning.{meaning_of};
+ghost use Rattle.uc_system.specs.Reading.{IsReading, SaysSystem, IsSystem, precedence_of, system_lines, system_body, spec_of};
+ghost use Rattle.uc_system.specs.Reads.{GivesIn};
 
 use crate::facts::facts_at;
 use crate::header::{Header, Kind, header_at};
@@ -46,6 +47,7 @@ pub fn read_system(
 ) -> Result<SystemText, SystemFault>
     requires { length bytes.now < 2 ^ 31 }
     ensures reading { IsReading symbols.new bytes.now result }
+    ensures says { IfOk result (λ said. SaysSystem symbols.new bytes.now (precedence_of said.spec) (meaning_of symbols.new said.spec) said.system.facts) }
     ensures system { IfOk result (IsSystem symbols.new) }
     ensures grows { Grows symbols.old symbols.new }
 {

@@ -9,7 +9,7 @@ ghost use Rattle.uc_order.specs.Members.{Each};
 ghost use Rattle.uc_system.specs.Symbols.{begins_symbol, is_bad_weight, weighs_nothing, symbol_fault, symbols_fault, has_light, has_constant, symbols_in, is_one_of, SymbolAt};
 ghost use Rattle.uc_system.specs.Places.{IsAt};
 ghost use Rattle.uc_system.specs.Written.{HasNoSpace, IsSplit, IsWritten, IsNotWritten, IsNamed, IsNotNamed, IsWordOf, kind_at, AreSame};
-ghost use Rattle.uc_system.specs.Given.{GivesIn, ReadsSymbols};
+ghost use Rattle.uc_system.specs.Reads.{GivesIn, ReadsSymbols};
 
 use crate::SystemFault;
 use crate::header::{Header, Kind, MOST_WEIGHT};
@@ -241,7 +241,8 @@ fn symbol_at(
     }
     let symbol = symbols.intern(alloc, name.as_bytes(), arity)?;
     let repeated = earlier.contains(&symbol);
-    let followed = begins_symbol(&bytes[next.from..]);
+    let (_, rest) = bytes.split_at(next.from);
+    let followed = begins_symbol(rest);
     match symbol_fault(header, repeated, followed, at.number, arity, weight) {
         Some(fault) => Err(fault),
         None => Ok((Ranked { symbol, weight }, next)),
@@ -265,7 +266,7 @@ pub(crate) fn symbols_at(
     let mut ranked = Vec::new(alloc);
     let mut known = IndexSet::new(alloc);
     let mut here = at;
-    'lines: while begins_symbol(&bytes[here.from..]) {
+    'lines: while begins_symbol(bytes.split_at(here.from).1) {
         let (symbol, next) = symbol_at(alloc, bytes, header, &known, here, symbols)?;
         ranked.push(symbol)?;
         known.insert(symbol.symbol)?;

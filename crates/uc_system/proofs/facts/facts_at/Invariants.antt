@@ -14,7 +14,7 @@ invariant-lines l = record {
   few : length l.facts.items ≤ l.here.from;
   grows : Grows l.initial.symbols l.symbols;
   known_ones : Each (IsPrintableSymbol l.symbols) l.known.keys;
-  leads : (later : Table) → Grows l.symbols later → (o : Outcome (List Equation)) → FactsAt later l.known.keys l.facts.items l.here.number (drop l.here.from l.bytes) o → FactsAt later l.known.keys [] l.at.number (drop l.at.from l.bytes) o;
+  leads : (later : Table) → Grows l.symbols later → (o : Outcome (List Equation)) → FactsAt later l.known.keys l.facts.items l.here.number (drop l.here.from l.bytes) o → FactsAt later l.known.keys [] l.fn.at.number (drop l.fn.at.from l.bytes) o;
 }
 
 abbrev pub decreases-lines : goal.decreases-lines

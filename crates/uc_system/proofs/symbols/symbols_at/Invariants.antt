@@ -11,7 +11,7 @@ invariant-lines l = record {
   stands : IsAt l.bytes l.here;
   same : l.known.keys ≡ symbols_in l.ranked.items;
   grows : Grows l.initial.symbols l.symbols;
-  leads : (later : Table) → Grows l.symbols later → (o : Outcome (List Ranked)) → SymbolsAt later l.header l.ranked.items l.here.number (drop l.here.from l.bytes) o → SymbolsAt later l.header [] l.at.number (drop l.at.from l.bytes) o;
+  leads : (later : Table) → Grows l.symbols later → (o : Outcome (List Ranked)) → SymbolsAt later l.header l.ranked.items l.here.number (drop l.here.from l.bytes) o → SymbolsAt later l.header [] l.fn.at.number (drop l.fn.at.from l.bytes) o;
 }
 
 abbrev pub decreases-lines : goal.decreases-lines

@@ -1,5 +1,5 @@
--- What the readers of lines answer.
-use Rattle.std.specs.Prelude.{◌≡◌, ◌+◌, ◌<◌, ◌≤◌, ◌^◌, ℕ, Bool, true, List, drop, Result, Ok, Err}
+-- Why a text or a line is no fact, and what the readers of one answer.
+use Rattle.std.specs.Prelude.{◌≡◌, ◌+◌, ◌<◌, ◌≤◌, ◌^◌, ℕ, Bool, true, List, Result, Ok, Err}
 use Rattle.uc_term.specs.declared.node.Sym.{Sym}
 use Rattle.uc_term.specs.declared.node.Node.{Node}
 use Rattle.uc_term.specs.declared.node.Node.TheVariants.{Var, App}
@@ -24,59 +24,42 @@ use Rattle.uc_system.specs.declared.facts.Cause.{Cause}
 use Rattle.uc_system.specs.declared.facts.Cause.TheVariants.{TooManyNodes, NoRoom, OtherCause}
 use Rattle.uc_system.specs.declared.facts.Unread.{Unread}
 use Rattle.uc_system.specs.declared.facts.Unread.TheVariants as unread
-use Rattle.uc_system.specs.declared.header.Header.{Header}
-use Rattle.uc_system.specs.declared.lines.Cursor.{Cursor}
-use Rattle.uc_system.specs.declared.symbols.Ranks.{Ranks}
-use Rattle.uc_system.specs.Lines.{Outcome, gets, fails, Rule, place_in, departs}
-use Rattle.uc_system.specs.Places.{IsAt}
-use Rattle.uc_system.specs.Symbols.{symbol_lines, is_one_of}
+use Rattle.uc_system.specs.Lines.{place_in, departs}
+use Rattle.uc_system.specs.Symbols.{is_one_of}
 use Rattle.uc_system.specs.Facts.{IsFact, HasLargeTerm, IsFactLine, IsLargeLine}
-
--- a reader that takes no memory gives or refuses what the rule comes to, and stands at the line behind
-abbrev pub Gives : {V : Type 0} → Rule V → List ℕ → Cursor → Result (V × Cursor) SystemFault → Type 0
-Gives rule bytes at (Ok r) = rule at.number (drop at.from bytes) (gets r.0 r.1.number (drop r.1.from bytes)) × IsAt bytes r.1
-Gives rule bytes at (Err fault) = rule at.number (drop at.from bytes) (fails fault)
-
--- The same of one that takes memory, in this table of symbols. What it gives stays so in each table that begins with it.
-abbrev pub GivesIn : {V : Type 0} → (Table → Rule V) → Table → List ℕ → Cursor → Result (V × Cursor) SystemFault → Type 0
-GivesIn rule table bytes at (Ok r) = ((later : Table) → Grows table later → rule later at.number (drop at.from bytes) (gets r.0 r.1.number (drop r.1.from bytes))) × IsAt bytes r.1
-GivesIn rule table bytes at (Err NoMemory) = Unit {0}
-GivesIn rule table bytes at (Err fault) = rule table at.number (drop at.from bytes) (fails fault)
-
--- the same of the reader of the symbols' lines
-abbrev pub ReadsSymbols : Header → Table → List ℕ → Cursor → Result (Ranks × Cursor) SystemFault → Type 0
-ReadsSymbols header table bytes at (Ok r) = ((later : Table) → Grows table later → symbol_lines later header at.number (drop at.from bytes) (gets r.0.ranked.items r.1.number (drop r.1.from bytes))) × IsAt bytes r.1
-ReadsSymbols header table bytes at (Err NoMemory) = Unit {0}
-ReadsSymbols header table bytes at (Err fault) = symbol_lines table header at.number (drop at.from bytes) (fails fault)
 
 -- the text is printed so of this equation, which may be a fact
 pub record IsFactText (table : Table) (precedence : List Sym) (text : List ℕ) (e : Equation) : Type 0 where
   pub is : text ≡ equation_text table true e.left e.right
   pub fact : IsFact table precedence e
 
+-- nothing is so, and no term that is too large begins so far on; or one does; or memory is wanted
+abbrev pub IsNoneOf : (Equation → Type 0) → (ℕ → Type 0) → Unread → Type 0
+IsNoneOf is large unread.Departs = ((e : Equation) → is e → ⊥) × ((from : ℕ) → large from → ⊥)
+IsNoneOf is large (unread.Large from) = large from
+IsNoneOf is large unread.NoMemory = Unit {0}
+
+-- What a reader of one equation answers in this table. What it gives is so in each table that begins with it.
+abbrev pub IsOneOf : (Table → Equation → Type 0) → (ℕ → Type 0) → Table → Result Equation Unread → Type 0
+IsOneOf is large table (Ok e) = (later : Table) → Grows table later → is later e
+IsOneOf is large table (Err u) = IsNoneOf (is table) large u
+
 module _ (table : Table) (precedence : List Sym) where
   -- why a text isn't so printed of any
   abbrev pub IsUnread : List ℕ → Unread → Type 0
-  IsUnread text unread.Departs = ((e : Equation) → IsFactText table precedence text e → ⊥) × ((from : ℕ) → HasLargeTerm text from → ⊥)
-  IsUnread text (unread.Large from) = HasLargeTerm text from
-  IsUnread text unread.NoMemory = Unit {0}
+  IsUnread text = IsNoneOf (IsFactText table precedence text) (HasLargeTerm text)
 
-  -- why the line isn't that of the fact of this number
-  abbrev pub IsUnreadLine : ℕ → List ℕ → Unread → Type 0
-  IsUnreadLine k line unread.Departs = ((e : Equation) → IsFactLine table precedence k line e → ⊥) × ((from : ℕ) → IsLargeLine k line from → ⊥)
-  IsUnreadLine k line (unread.Large from) = IsLargeLine k line from
-  IsUnreadLine k line unread.NoMemory = Unit {0}
-
-  -- What a reader of an equation answers in this table. What it gives stays so in each table that begins with it.
   abbrev pub ReadsFact : List ℕ → Result Equation Unread → Type 0
-  ReadsFact text (Ok e) = (later : Table) → Grows table later → IsFactText later precedence text e
-  ReadsFact text (Err u) = IsUnread text u
+  ReadsFact text = IsOneOf (λ t. IsFactText t precedence text) (HasLargeTerm text) table
+
+  -- the same of the line of the fact of this number
+  abbrev pub IsUnreadLine : ℕ → List ℕ → Unread → Type 0
+  IsUnreadLine k line = IsNoneOf (IsFactLine table precedence k line) (IsLargeLine k line)
 
   abbrev pub ReadsFactLine : ℕ → List ℕ → Result Equation Unread → Type 0
-  ReadsFactLine k line (Ok e) = (later : Table) → Grows table later → IsFactLine later precedence k line e
-  ReadsFactLine k line (Err u) = IsUnreadLine k line u
+  ReadsFactLine k line = IsOneOf (λ t. IsFactLine t precedence k line) (IsLargeLine k line) table
 
-  -- the same of an equation that is read, whether it is a fact
+  -- whether an equation that is read is a fact
   abbrev pub IsChecked : List ℕ → Result Equation Unread → Type 0
   IsChecked text (Ok e) = IsFactText table precedence text e
   IsChecked text (Err unread.Departs) = (e : Equation) → IsFactText table precedence text e → ⊥
@@ -132,3 +115,9 @@ abbrev pub cause_of : ClauseFault → Cause
 cause_of (clause.Limit place w) = cause_of_limit w
 cause_of clause.NoMemory = NoRoom
 cause_of other = OtherCause
+
+-- what a cause makes of it
+abbrev pub IsCausedBy : List ℕ → Cause → Unread → Type 0
+IsCausedBy text TooManyNodes u = IsLargeIn text u
+IsCausedBy text NoRoom u = u ≡ unread.NoMemory
+IsCausedBy text OtherCause u = u ≡ unread.Departs
