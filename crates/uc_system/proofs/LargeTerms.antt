@@ -96,5 +96,5 @@ pub large_here : (text : List ℕ) (tokens : List Token) (at : ℕ) (result : Un
 large_here text tokens at result l is = by_token (slice_get_cases tokens at).1
   where
     by_token : ((x : Token) × (at < length tokens) × (slice_get tokens at ≡ Some x) × (get_or tokens at x ≡ x)) ⊎ ((length tokens ≤ at) × (slice_get tokens at ≡ None)) → IsLargeIn text result
-    by_token (inl t) = subst (IsLargeIn text) (sym (is t.0 t.1.1.0)) (l.large t.0 t.1.1.0)
+    by_token (inl t) = subst (IsLargeIn text) (sym (is t.0 t.2)) (l.large t.0 t.2)
     by_token (inr n) = absurd (omega (arith, n.0, l.within))

@@ -27,4 +27,5 @@ pub mod FactsRead
 pub mod SymbolsRead
 pub mod SystemsPrintable
 pub mod Headers
-pub mod Pieces
+pub mod Compared
+pub mod SymbolLines

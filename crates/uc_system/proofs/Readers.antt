@@ -21,7 +21,6 @@ use Rattle.uc_system.specs.Lines.{Outcome, departs, gets, fails, Rule, passed_or
 use Rattle.uc_system.specs.Header.{header_lines}
 use Rattle.uc_system.specs.Symbols.{symbols_in, symbols_fault, are_complete}
 use Rattle.uc_system.specs.Facts.{fact_lines}
-use Rattle.uc_system.specs.Places.{IsAt}
 use Rattle.uc_system.specs.Written.{AreSame}
 use Rattle.uc_system.specs.Reads.{Gives, GivesIn, ReadsSymbols}
 use Rattle.uc_system.specs.Reading.{spec_of, text_of, system_body, system_lines, ReadsSystem, reads, goes_further, fails_within, IsReading, SaysSystem, IsSystem, precedence_of}
@@ -46,6 +45,9 @@ header_gives table bytes at here header (Err (Syntax p)) g h = goes_on g.0 h
 header_gives table bytes at here header (Err (Version p)) g h = goes_on g.0 h
 header_gives table bytes at here header (Err (Limit p)) g h = goes_on g.0 h
 header_gives table bytes at here header (Err NoMemory) g h = tt
+
+abbrev pub made_of : OrderSpec → List Equation → SystemText
+made_of spec es = record { spec = spec; system = record { facts = es } }
 
 -- the symbols' lines
 pub symbols_fail : (header : Header) (table : Table) (bytes : List ℕ) (at : Cursor) (fault : SystemFault) → ReadsSymbols header table bytes at (Err fault) → GivesIn (λ (t : Table). system_body t header) table bytes at (Err fault)
@@ -83,18 +85,15 @@ module _ (header : Header) (table : Table) (bytes : List ℕ) (at here : Cursor)
       facts_fail (Limit p) f = facts_fail_by (Limit p) f
       facts_fail NoMemory f = tt
 
-    pub facts_give : (later : Table) → Grows table later → (es : List Equation) (end : Cursor) (spec : OrderSpec) → GivesIn (λ (t : Table). fact_lines t ranks.known.keys) later bytes here (Ok (es, end)) → spec ≡ spec_of header.kind ranks.ranked.items → GivesIn (λ (t : Table). system_body t header) later bytes at (Ok (record { spec = spec; system = record { facts = es } }, end))
+    pub facts_give : (later : Table) → Grows table later → (es : List Equation) (end : Cursor) (spec : OrderSpec) → GivesIn (λ (t : Table). fact_lines t ranks.known.keys) later bytes here (Ok (es, end)) → spec ≡ spec_of header.kind ranks.ranked.items → GivesIn (λ (t : Table). system_body t header) later bytes at (Ok (made_of spec es, end))
     facts_give later grows es end spec f e =
-        let said : record { spec = spec; system = record { facts = es } } ≡ text_of header.kind ranks.ranked.items es = ap (λ (x : OrderSpec). record { spec = x; system = record { facts = es } }) e in
-        let there : (last : Table) → Grows later last → system_body last header at.number (drop at.from bytes) (gets (record { spec = spec; system = record { facts = es } }) end.number (drop end.from bytes)) =
+        let said : made_of spec es ≡ text_of header.kind ranks.ranked.items es = ap (λ (x : OrderSpec). made_of x es) e in
+        let there : (last : Table) → Grows later last → system_body last header at.number (drop at.from bytes) (gets (made_of spec es) end.number (drop end.from bytes)) =
             λ last g. (let both = grows_twice table later last grows g in
                 goes_on (given.0 last both) (goes_on (complete_in last both) (goes_on (subst (λ fs. fact_lines last fs here.number (drop here.from bytes) (gets es end.number (drop end.from bytes))) known (f.0 last g)) (ap (λ (x : SystemText). gets x end.number (drop end.from bytes)) said)))) in
         (there, f.1)
 
 -- the whole text
-pub start_is : (bytes : List ℕ) (at : Cursor) → at.from ≡ 0 → at.number ≡ 1 → IsAt bytes at
-start_is bytes at e f = record { within = omega arith; few = omega arith }
-
 module _ (table : Table) (bytes : List ℕ) (at : Cursor) (from : at.from ≡ 0) (number : at.number ≡ 1) where
   abbrev whole : Outcome SystemText → Type 0
   whole o = system_lines table 1 bytes o

@@ -1,6 +1,7 @@
 -- The symbols' lines, read one behind the other.
-use Rattle.std.proofs.Common.{◌≡◌, ℕ, ◌+◌, true, false, List, [], ◌∷◌, ◌++◌, length, drop, refl, sym, ap, ◌∙◌, subst, arith}
+use Rattle.std.proofs.Common.{◌≡◌, ℕ, ◌+◌, Bool, true, false, if◌then◌else◌, List, [], ◌∷◌, ◌++◌, length, drop, refl, sym, ap, ◌∙◌, subst, arith}
 use Rattle.std.specs.Prelude.{Result, Ok, Err}
+use Rattle.std.proofs.lemmas.List.{map-append}
 use Rattle.uc_term.specs.declared.node.Sym.{Sym}
 use Rattle.uc_term.specs.Table.{Table, Grows}
 use Rattle.uc_system.specs.declared.fault.SystemFault.{SystemFault}
@@ -10,7 +11,7 @@ use Rattle.uc_system.specs.declared.lines.Cursor.{Cursor}
 use Rattle.uc_system.specs.declared.symbols.Ranked.{Ranked}
 use Rattle.uc_system.specs.declared.symbols.Ranks.{Ranks}
 use Rattle.uc_system.specs.Lines.{Outcome, gets, fails}
-use Rattle.uc_system.specs.Symbols.{begins_symbol, symbols_in, SymbolAt, SymbolsAt, no_more_symbols, one_more_symbol, fails_in_symbol}
+use Rattle.uc_system.specs.Symbols.{begins_symbol, is_one_of, symbols_in, SymbolAt, SymbolsAt, no_more_symbols, one_more_symbol, fails_in_symbol}
 use Rattle.uc_system.specs.Reads.{GivesIn, ReadsSymbols}
 
 module _ (header : Header) (bytes : List ℕ) (ranked : List Ranked) (keys : List Sym) (same : keys ≡ symbols_in ranked) (here : Cursor) (begins : begins_symbol (drop here.from bytes) ≡ true) where
@@ -30,3 +31,5 @@ module _ (header : Header) (bytes : List ℕ) (ranked : List Ranked) (keys : Lis
 pub none_left : (table : Table) (header : Header) (bytes : List ℕ) (ranked : List Ranked) (here : Cursor) → begins_symbol (drop here.from bytes) ≡ false → SymbolsAt table header ranked here.number (drop here.from bytes) (gets ranked here.number (drop here.from bytes))
 none_left table header bytes ranked here h = no_more_symbols h
 
+pub keys_more : (known after : List Sym) (s : Ranked) (ranked : List Ranked) → after ≡ (if is_one_of s.symbol known then known else known ++ s.symbol ∷ []) → is_one_of s.symbol known ≡ false → known ≡ symbols_in ranked → after ≡ symbols_in (ranked ++ s ∷ [])
+keys_more known after s ranked e n same = e ∙ ap (λ (b : Bool). if b then known else known ++ s.symbol ∷ []) n ∙ ap (λ fs. fs ++ s.symbol ∷ []) same ∙ sym (map-append (λ (r : Ranked). r.symbol) ranked (s ∷ []))

@@ -12,7 +12,7 @@ use Rattle.uc_system.specs.declared.header.Kind.TheVariants.{Weighing, Paths}
 use Rattle.uc_system.specs.Numerals.{is_numeral}
 use Rattle.uc_system.specs.Symbols.{symbol_words}
 use Rattle.uc_system.specs.Written.{HasNoSpace, IsSplit, written_line, kept, IsWritten, IsNotWritten, IsNamed, IsNotNamed, IsWordOf, kind_at}
-use Rattle.uc_system.proofs.Pieces.{bytes_differ}
+use Rattle.uc_system.proofs.Compared.{bytes_differ}
 use Rattle.uc_system.proofs.Splits.{and_both, split_once, numeral_no_space, has_space, name_back}
 
 -- the last space

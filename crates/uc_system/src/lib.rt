@@ -1,4 +1,10 @@
 //! Saturated systems as texts: the description of an order, and facts, a line each.
+//!
+//! [`read_system`] reads a text exactly where it is that of a system, and else refuses it for the first reason, at its place;
+//! a refusal leaves the table of symbols grown only. What [`print_system`] prints of a description of an order of its own
+//! symbols, and of facts over these, is read again as the very same.
+//!
+//! `specs/Reading.antt` says what a text reads as, line by line.
 #![tactic(auto)]
 
 mod facts;

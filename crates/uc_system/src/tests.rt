@@ -150,25 +150,24 @@ fn said(rt: HostRuntime) -> Result<(), Fail> {
 #[test]
 fn first_lines(rt: HostRuntime) -> Result<(), Fail> {
     let alloc = rt.alloc();
-    for (new, fault) in [
-        (b"% system 9".as_slice(), version()),
-        (b"% system 0", version()),
-        (b"% system 10", version()),
-        (b"% system 007", version()),
-        (b"% system 18446744073709551617", version()),
-        (b"% system 4294967298", version()),
-        (b"% system 01", syntax(1)),
-        (b"% system 02", syntax(1)),
-        (b"% system 2", syntax(1)),
-        (b"% system ", syntax(1)),
-        (b"% system 1 ", syntax(1)),
-        (b"% system 3 ", syntax(1)),
-        (b"% system +3", syntax(1)),
-        (b"% system  1", syntax(1)),
-        (b"%system 1", syntax(1)),
-        (b"", syntax(1)),
+    for new in [
+        b"% system 9".as_slice(),
+        b"% system 0",
+        b"% system 007",
+        b"% system 4294967298",
     ] {
-        assert_eq!(rt; fault_with(alloc, ROW, b"% system 1", new)?, fault);
+        assert_eq!(rt; fault_with(alloc, ROW, b"% system 1", new)?, version());
+    }
+    for new in [
+        b"% system 01".as_slice(),
+        b"% system 02",
+        b"% system 2",
+        b"% system ",
+        b"% system 1 ",
+        b"% system +3",
+        b"",
+    ] {
+        assert_eq!(rt; fault_with(alloc, ROW, b"% system 1", new)?, syntax(1));
     }
     assert_eq!(rt; fault_of(alloc, b"")?, syntax(1));
     assert_eq!(rt; fault_of(alloc, b"% system 9")?, syntax(1));
@@ -182,21 +181,19 @@ fn first_lines(rt: HostRuntime) -> Result<(), Fail> {
 #[test]
 fn orders(rt: HostRuntime) -> Result<(), Fail> {
     let alloc = rt.alloc();
-    for (new, fault) in [
-        (b"% order kbo 2".as_slice(), syntax(3)),
-        (b"% order kbo 0", syntax(2)),
-        (b"% order kbo 01", syntax(2)),
-        (b"% order kbo 1000001", syntax(2)),
-        (b"% order kbo 4294967297", syntax(2)),
-        (b"% order kbo", syntax(2)),
-        (b"% order kbo ", syntax(2)),
-        (b"% order kbo 1 ", syntax(2)),
-        (b"% order lpo 1", syntax(2)),
-        (b"% order lpo", syntax(3)),
-        (b"% order rpo", syntax(2)),
+    for new in [
+        b"% order kbo 0".as_slice(),
+        b"% order kbo 01",
+        b"% order kbo 1000001",
+        b"% order kbo 4294967297",
+        b"% order kbo",
+        b"% order lpo 1",
+        b"% order rpo",
     ] {
-        assert_eq!(rt; fault_with(alloc, ROW, b"% order kbo 1", new)?, fault);
+        assert_eq!(rt; fault_with(alloc, ROW, b"% order kbo 1", new)?, syntax(2));
     }
+    assert_eq!(rt; fault_with(alloc, ROW, b"% order kbo 1", b"% order kbo 2")?, syntax(3));
+    assert_eq!(rt; fault_with(alloc, ROW, b"% order kbo 1", b"% order lpo")?, syntax(3));
     assert_eq!(rt; fault_with(alloc, PATHS, b"% order lpo", b"% order kbo 1")?, syntax(3));
     Ok(())
 }
@@ -205,38 +202,29 @@ fn orders(rt: HostRuntime) -> Result<(), Fail> {
 #[test]
 fn symbol_lines(rt: HostRuntime) -> Result<(), Fail> {
     let alloc = rt.alloc();
-    for (new, fault) in [
-        (b"% symbol f 1".as_slice(), syntax(4)),
-        (b"% symbol f 1 1 1", syntax(4)),
-        (b"% symbol f  1 1", syntax(4)),
-        (b"% symbol  f 1 1", syntax(4)),
-        (b"% symbol f 01 1", syntax(4)),
-        (b"% symbol f 1 01", syntax(4)),
-        (b"% symbol f 1 1000001", syntax(4)),
-        (b"% symbol f 1 4294967297", syntax(4)),
-        (b"% symbol 'f' 1 1", syntax(4)),
-        (b"% symbol F 1 1", syntax(4)),
-        (b"% symbol 7 1 1", syntax(4)),
-        (b"% symbol '' 1 1", syntax(4)),
-        (b"% symbol 'F 1 1", syntax(4)),
-        (b"% symbol '\t' 1 1", syntax(4)),
-        (b"% symbol f(a) 1 1", syntax(4)),
-        (b"% symbol least 0 1", syntax(4)),
-        (b"% symbol f 256 1", limit(4, 12)),
-        (b"% symbol f 256 9999999", limit(4, 12)),
-        (b"% symbol f 99999999999 1", limit(4, 12)),
-        (b"% symbol f 256 x", syntax(4)),
-        (b"% symbol 'F F' 256 1", limit(4, 16)),
-        (b"% symbol f 1 0", syntax(1)),
-        (b"% symbol f 2 0", syntax(4)),
-        (b"% symbol ", syntax(4)),
-        (b"% Symbol f 1 1", syntax(4)),
-        (b"% symbol g 1 1\n% symbol f 1 1", None),
-        (b"% symbol f 0 1\n% symbol f 1 1", None),
-        (b"% symbol g 1 1", syntax(5)),
+    for new in [
+        b"% symbol f 1".as_slice(),
+        b"% symbol f 1 1 1",
+        b"% symbol f  1 1",
+        b"% symbol f 01 1",
+        b"% symbol f 1 1000001",
+        b"% symbol f 1 4294967297",
+        b"% symbol 'f' 1 1",
+        b"% symbol F 1 1",
+        b"% symbol 'F 1 1",
+        b"% symbol least 0 1",
+        b"% symbol f 256 x",
+        b"% symbol f 2 0",
+        b"% symbol ",
     ] {
-        assert_eq!(rt; fault_with(alloc, ROW, b"% symbol f 1 1", new)?, fault);
+        assert_eq!(rt; fault_with(alloc, ROW, b"% symbol f 1 1", new)?, syntax(4));
     }
+    for new in [b"% symbol f 256 1".as_slice(), b"% symbol f 99999999999 9999999"] {
+        assert_eq!(rt; fault_with(alloc, ROW, b"% symbol f 1 1", new)?, limit(4, 12));
+    }
+    assert_eq!(rt; fault_with(alloc, ROW, b"% symbol f 1 1", b"% symbol 'F F' 256 1")?, limit(4, 16));
+    assert_eq!(rt; fault_with(alloc, ROW, b"% symbol f 1 1", b"% symbol f 0 1\n% symbol f 1 1")?, None);
+    assert_eq!(rt; fault_with(alloc, ROW, b"% symbol f 1 1", b"% symbol g 1 1")?, syntax(5));
     Ok(())
 }
 
@@ -244,20 +232,19 @@ fn symbol_lines(rt: HostRuntime) -> Result<(), Fail> {
 #[test]
 fn weights(rt: HostRuntime) -> Result<(), Fail> {
     let alloc = rt.alloc();
-    for (new, fault) in [
-        (b"% symbol i 1 1".as_slice(), syntax(1)),
-        (b"% symbol i 1 0\n% symbol g 1 1", syntax(4)),
-        (b"% symbol i 1 0\n% symbol ", syntax(4)),
-        (b"% symbol i 2 0", syntax(4)),
-        (b"% symbol i 1 x", syntax(4)),
-        (b"% symbol i 1 1\n% symbol ", syntax(5)),
+    for new in [
+        b"% symbol i 1 0\n% symbol g 1 1".as_slice(),
+        b"% symbol i 1 0\n% symbol ",
+        b"% symbol i 2 0",
     ] {
-        assert_eq!(rt; fault_with(alloc, LIGHT, b"% symbol i 1 0", new)?, fault);
+        assert_eq!(rt; fault_with(alloc, LIGHT, b"% symbol i 1 0", new)?, syntax(4));
     }
+    assert_eq!(rt; fault_with(alloc, ROW, b"% symbol f 1 1", b"% symbol f 1 0")?, syntax(1));
+    assert_eq!(rt; fault_with(alloc, LIGHT, b"% symbol i 1 0", b"% symbol i 1 1")?, syntax(1));
+    assert_eq!(rt; fault_with(alloc, LIGHT, b"% symbol i 1 0", b"% symbol i 1 1\n% symbol ")?, syntax(5));
     assert_eq!(rt; fault_with(alloc, LIGHT, b"% symbol least 0 1", b"% symbol least 0 0")?, syntax(3));
     assert_eq!(rt; fault_with(alloc, LIGHT, b"% symbol least 0 1\n", b"")?, syntax(4));
     assert_eq!(rt; fault_with(alloc, NO_FACTS, b"% symbol least 0 1\n", b"")?, syntax(3));
-    assert_eq!(rt; fault_of(alloc, b"% system 1\n% order lpo\n")?, syntax(3));
     Ok(())
 }
 
@@ -265,38 +252,42 @@ fn weights(rt: HostRuntime) -> Result<(), Fail> {
 #[test]
 fn facts(rt: HostRuntime) -> Result<(), Fail> {
     let alloc = rt.alloc();
-    for (new, fault) in [
-        (b"cnf(s1, plain, f(X1) = X2).".as_slice(), None),
-        (b"cnf(s1, plain, X1 = f(X1)).", None),
-        (b"cnf(s1, plain, f(least) = least).", None),
-        (b"cnf(s1, plain, f(X2) = X1).", syntax(5)),
-        (b"cnf(s1, plain, f(X) = X).", syntax(5)),
-        (b"cnf(s1, plain, f(X1)  = X1).", syntax(5)),
-        (b"cnf(s1, plain, f( X1) = X1).", syntax(5)),
-        (b"cnf(s1, plain, 'f'(X1) = X1).", syntax(5)),
-        (b"cnf(s1, plain, f(X1) != X1).", syntax(5)),
-        (b"cnf(s1, plain, f(X1)).", syntax(5)),
-        (b"cnf(s1, plain, f(X1) = g).", syntax(5)),
-        (b"cnf(s1, plain, f(X1,X1) = X1).", syntax(5)),
-        (b"cnf(s1, plain, f(X1) = X1)", syntax(5)),
-        (b"cnf(s1, plain, f(X1) = X1). ", syntax(5)),
-        (b"cnf(s2, plain, f(X1) = X1).", syntax(5)),
-        (b"cnf(s01, plain, f(X1) = X1).", syntax(5)),
-        (b"cnf(s1, axiom, f(X1) = X1).", syntax(5)),
-        (b"cnf(s1,plain, f(X1) = X1).", syntax(5)),
-        (b"cnf(s1, plain, f(X1) = X1).\r", syntax(5)),
-        (b"", syntax(5)),
-        (b"% end\n% end", syntax(6)),
-        (b"% end ", syntax(5)),
-        (b"cnf(s1, plain, f(X1) = X1).\ncnf(s2, plain, least = f(least)).", None),
-        (b"cnf(s1, plain, f(X1) = X1).\ncnf(s3, plain, least = f(least)).", syntax(6)),
+    for new in [
+        b"cnf(s1, plain, f(X2) = X1).".as_slice(),
+        b"cnf(s1, plain, f(X) = X).",
+        b"cnf(s1, plain, f( X1) = X1).",
+        b"cnf(s1, plain, f(X1) != X1).",
+        b"cnf(s1, plain, f(X1)).",
+        b"cnf(s1, plain, f(X1) = g).",
+        b"cnf(s1, plain, f(X1,X1) = X1).",
+        b"cnf(s1, plain, f(X1) = X1). ",
+        b"cnf(s2, plain, f(X1) = X1).",
+        b"cnf(s1, axiom, f(X1) = X1).",
+        b"",
+        b"% end ",
     ] {
-        assert_eq!(rt; fault_with(alloc, ROW, b"cnf(s1, plain, f(X1) = X1).", new)?, fault);
+        assert_eq!(rt; fault_with(alloc, ROW, b"cnf(s1, plain, f(X1) = X1).", new)?, syntax(5));
     }
-    assert_eq!(rt; fault_with(alloc, ROW, b"% end\n", b"% end")?, syntax(6));
-    assert_eq!(rt; fault_with(alloc, ROW, b"% end\n", b"")?, syntax(6));
-    assert_eq!(rt; fault_with(alloc, ROW, b"% end\n", b"% end\n\n")?, syntax(7));
-    assert_eq!(rt; fault_with(alloc, ROW, b"% end\n", b"% end\nx")?, syntax(7));
+    for new in [
+        b"cnf(s1, plain, f(X1) = X2).".as_slice(),
+        b"cnf(s1, plain, X1 = f(X1)).",
+        b"cnf(s1, plain, f(X1) = X1).\ncnf(s2, plain, least = f(least)).",
+    ] {
+        assert_eq!(rt; fault_with(alloc, ROW, b"cnf(s1, plain, f(X1) = X1).", new)?, None);
+    }
+    Ok(())
+}
+
+// What stands behind the facts.
+#[test]
+fn ends(rt: HostRuntime) -> Result<(), Fail> {
+    let alloc = rt.alloc();
+    for new in [b"% end".as_slice(), b"", b"cnf(s3, plain, least = least).\n"] {
+        assert_eq!(rt; fault_with(alloc, ROW, b"% end\n", new)?, syntax(6));
+    }
+    for new in [b"% end\n\n".as_slice(), b"% end\nx", b"% end\n% end\n"] {
+        assert_eq!(rt; fault_with(alloc, ROW, b"% end\n", new)?, syntax(7));
+    }
     Ok(())
 }
 

@@ -1,5 +1,5 @@
 use Rattle.std.proofs.Common.{sym, ◌∙◌}
-use Rattle.uc_system.proofs.Pieces.{bytes_same, bytes_differ}
+use Rattle.uc_system.proofs.Compared.{bytes_same, bytes_differ}
 use Rattle.uc_system.proofs.FactChecks.{pair_of, no_fact_left, no_fact_right, no_fact_text, fact_here}
 use Rattle.uc_system.proofs.facts.checked.Goals as goal
 

@@ -1,4 +1,4 @@
-use Rattle.uc_system.proofs.Pieces.{between}
+use Rattle.uc_system.proofs.Compared.{between}
 use Rattle.uc_system.proofs.facts.equation_in.Goals as goal
 
 pub returns : goal.returns
