@@ -1,6 +1,6 @@
 -- Which refusals of an equation are that of a term's 4,097th node.
-use Rattle.std.proofs.Common.{◌≡◌, ℕ, Bool, true, false, List, refl, sym, ap, ◌∙◌, subst, inl, inr, ◌⊎◌, if◌then◌else◌}
-use Rattle.std.specs.Prelude.{Result, Err}
+use Rattle.std.proofs.Common.{◌≡◌, ℕ, Bool, true, false, List, refl, ap, subst, inl, inr, if◌then◌else◌}
+use Rattle.std.specs.Prelude.{Err}
 use Rattle.uc_term.specs.Tree.{Tree}
 use Rattle.uc_clause.specs.declared.token.Token.{Token}
 use Rattle.uc_clause.specs.declared.token.Place.{Place}

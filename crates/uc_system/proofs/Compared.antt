@@ -1,5 +1,5 @@
 -- Texts that are taken apart, and texts that are compared.
-use Rattle.std.proofs.Common.{◌≡◌, ℕ, Bool, true, false, List, ◌++◌, refl, sym, ap, ◌∙◌, append_assoc, Option, Some, None, Bor}
+use Rattle.std.proofs.Common.{◌≡◌, ℕ, true, false, List, ◌++◌, sym, ap, ◌∙◌, append_assoc, Option, Some, None, Bor}
 use Rattle.std.specs.Prelude.{MatchOption, bytes_eq}
 use Rattle.std.proofs.lemmas.Slice.Eq.{bytes_eq-Decides}
 use Rattle.std.proofs.lemmas.List.{append_cancel_left}

@@ -1,5 +1,5 @@
 -- Numbers as they are printed: numerals, which stand in one line.
-use Rattle.std.proofs.Common.{◌≡◌, ◌≢◌, ℕ, zero, suc, ◌+◌, ◌<◌, ◌≤◌, ◌^◌, ◌==◌, Bool, true, false, not, ◌&&◌, List, [], ◌∷◌, ◌++◌, length, get_or, refl, sym, ap, ◌∙◌, subst, arith, decimal}
+use Rattle.std.proofs.Common.{◌≡◌, ℕ, zero, suc, ◌<◌, ◌≤◌, ◌^◌, ◌==◌, Bool, true, not, ◌&&◌, List, [], ◌∷◌, ◌++◌, length, get_or, refl, ap, arith, decimal}
 use Rattle.std.specs.List.{list_all}
 use Rattle.std.specs.Str.Parse.{AllDigits}
 use Rattle.std.proofs.lemmas.Str.Parse.{digit_from_value}
@@ -33,6 +33,7 @@ decimal_numeral n h = by_case n h
   where
     digits : (n : ℕ) → n < 2 ^ 64 → list_all is_digit (decimal n) ≡ true
     digits n h = digits_are (decimal n) (decimal_is_IsNumeral n h).0.1
+
     by_case : (n : ℕ) → n < 2 ^ 64 → is_numeral (decimal n) ≡ true
     by_case zero h = numeral_by (decimal 0) (decimal_is_IsNumeral 0 h).0.0 (digits 0 h) (λ e. ap length (decimal_digit 0 (omega arith)))
     by_case (suc n) h = numeral_by (decimal (suc n)) (decimal_is_IsNumeral (suc n) h).0.0 (digits (suc n) h) (λ e. absurd (omega (arith, first_decimal (suc n) (omega arith) h)))

@@ -1,17 +1,15 @@
 -- A printed equation is read again.
-use Rattle.std.proofs.Common.{◌≡◌, ◌≢◌, ℕ, ◌+◌, ◌≤◌, true, List, [], ◌∷◌, ◌++◌, map, refl, sym, ap, ap₂, ◌∙◌, subst, append_assoc, append-nil, arith, Some}
+use Rattle.std.proofs.Common.{◌≡◌, ◌≢◌, ℕ, ◌+◌, ◌≤◌, true, List, [], ◌++◌, map, refl, sym, ap, ap₂, ◌∙◌, subst, append_assoc, append-nil, arith, Some}
 use Rattle.uc_term.specs.declared.equation.Equation.{Equation}
-use Rattle.uc_term.specs.Tree.{Tree, nodes}
+use Rattle.uc_term.specs.Tree.{nodes}
 use Rattle.uc_term.specs.Table.{Table}
 use Rattle.uc_term.specs.Variables.{variables, place_of, renumbered_by}
 use Rattle.uc_clause.specs.declared.token.Token.{Token}
 use Rattle.uc_clause.specs.declared.terminal.Terminal.{Terminal}
 use Rattle.uc_clause.specs.declared.terminal.Terminal.TheVariants as terminal
-use Rattle.uc_clause.specs.Terminals.{terminal_at}
-use Rattle.uc_clause.specs.Rules.{read, goes_on}
-use Rattle.uc_clause.specs.Parse.{Sides}
+use Rattle.uc_clause.specs.Rules.{goes_on}
 use Rattle.uc_clause.specs.Meaning.{with_names, variables_in}
-use Rattle.uc_clause.specs.Items.{equals, equals_alone, sign_of}
+use Rattle.uc_clause.specs.Items.{sign_of}
 use Rattle.uc_clause.specs.Printing.{term_text, sign_text, equation_text, variable_text}
 use Rattle.uc_clause.specs.Reading.{ReadsEquation}
 use Rattle.uc_clause.proofs.Joined.{Piece, AreApart, joined, tokens_of, cut_pieces}
@@ -73,7 +71,7 @@ module _ (table : Table) where
       let right_reads = term_reads table text tokens e.right 0 (0 + width e.left + 1) sign.behind.0 [] right (omega arith) right_here (end_or_open _ end) in
       let known = known_split (map variable_text (fact_variables e)) (place_of (fact_variables e)) (variables e.left) (variables e.right) (known_firsts (variables e.left ++ variables e.right)) in
       let names : with_names (with_names [] (variables_in text tokens (parse_at 0 e.left))) (variables_in text tokens (parse_at (0 + width e.left + 1) e.right)) ≡ map variable_text (fact_variables e) =
-          ap₂ (λ a b. with_names (with_names [] a) b) (term_names table text tokens e.left 0 0 (sign_pieces true right_pieces) left here) (term_names table text tokens e.right (0 + width e.left + 1) sign.behind.0 [] right right_here) ∙ names_of_both (variables e.left) (variables e.right) (term_numbered table e.left left) (term_numbered table e.right right) in
+      ap₂ (λ a b. with_names (with_names [] a) b) (term_names table text tokens e.left 0 0 (sign_pieces true right_pieces) left here) (term_names table text tokens e.right (0 + width e.left + 1) sign.behind.0 [] right right_here) ∙ names_of_both (variables e.left) (variables e.right) (term_numbered table e.left left) (term_numbered table e.right right) in
       record {
         tokens = tokens;
         are_tokens = cut_pieces (pieces e) apart;

@@ -1,18 +1,17 @@
 -- How the reader of a fact's equation decides.
-use Rattle.std.proofs.Common.{◌≡◌, ℕ, ◌≤◌, ◌==◌, ◌||◌, ◌&&◌, Bool, true, false, List, [], ◌∷◌, ◌++◌, refl, sym, ap, ap₂, ◌∙◌, subst, arith, inl, inr, ◌⊎◌, Option, unwrap_or}
-use Rattle.std.specs.Prelude.{Result, Ok, Err}
-use Rattle.std.specs.List.{list_all, list_any}
+use Rattle.std.proofs.Common.{◌≡◌, ℕ, ◌==◌, ◌||◌, Bool, true, false, List, [], ◌∷◌, ◌++◌, refl, sym, ap, ap₂, ◌∙◌, subst, arith, inl, inr, Option, unwrap_or}
+use Rattle.std.specs.Prelude.{Ok, Err}
+use Rattle.std.specs.List.{list_all}
 use Rattle.std.proofs.lemmas.Bool.Decides.{nat_tests}
 use Rattle.std.proofs.lemmas.Option.{slice_get_within}
 use Rattle.uc_term.specs.declared.node.Sym.{Sym}
 use Rattle.uc_term.specs.declared.node.Node.{Node}
-use Rattle.uc_term.specs.declared.node.Node.TheVariants.{Var, App}
 use Rattle.uc_term.specs.declared.equation.Equation.{Equation}
-use Rattle.uc_term.specs.Tree.{Tree, var, app, Trees, none, more, count, nodes}
+use Rattle.uc_term.specs.Tree.{Tree, var, app, Trees, none, more, count}
 use Rattle.uc_term.specs.Flat.{flat, flat_all}
 use Rattle.uc_term.specs.Over.{IsTerm, AreOver}
-use Rattle.uc_term.specs.Table.{Table, Entry, Has, IsSymbol, IsOf, IsDistinct, Grows, arity_of}
-use Rattle.uc_term.specs.Variables.{variables, renumbered_by}
+use Rattle.uc_term.specs.Table.{Table, Entry, Has, IsSymbol, IsOf, IsDistinct, arity_of}
+use Rattle.uc_term.specs.Variables.{renumbered_by}
 use Rattle.uc_clause.specs.declared.token.Token.{Token}
 use Rattle.uc_clause.specs.declared.fault.ClauseFault.{ClauseFault}
 use Rattle.uc_clause.specs.Parse.{Parse, Parses}
@@ -26,10 +25,10 @@ use Rattle.uc_clause.proofs.Alone.{equals_alone_once, says_sides_once}
 use Rattle.uc_clause.proofs.Whole.{complete, refuses}
 use Rattle.uc_order.specs.Members.{In, in_front, in_rest, Each}
 use Rattle.uc_system.specs.Symbols.{is_one_of}
-use Rattle.uc_system.specs.Facts.{fact_variables, IsFact, HasLargeTerm}
-use Rattle.uc_system.specs.Unread.{IsFactText, is_known, IsBounded, HasTooManyNodes}
+use Rattle.uc_system.specs.Facts.{fact_variables}
+use Rattle.uc_system.specs.Unread.{IsFactText, is_known, IsBounded}
 use Rattle.uc_system.proofs.EquationAgain.{equation_again}
-use Rattle.uc_system.proofs.FactTexts.{side_printable, fact_again, fact_is, large_stops, stops_refused}
+use Rattle.uc_system.proofs.FactTexts.{side_printable, fact_again, fact_is}
 use Rattle.uc_system.proofs.Splits.{and_left, and_right, and_both}
 
 -- what is read is of the table

@@ -1,19 +1,18 @@
 -- The reader of a fact's line.
-use Rattle.std.proofs.Common.{◌≡◌, ℕ, ◌+◌, ◌<◌, ◌≤◌, ◌^◌, List, [], ◌∷◌, ◌++◌, length, length-append, refl, sym, ap, ap₂, ◌∙◌, subst, append_assoc, arith}
+use Rattle.std.proofs.Common.{◌≡◌, ℕ, ◌+◌, ◌<◌, ◌^◌, List, ◌++◌, length, length-append, sym, ap, ◌∙◌, subst, arith}
 use Rattle.std.specs.Prelude.{true, Result, Ok, Err}
-use Rattle.std.proofs.lemmas.List.{append_cancel_left, append_cancel_right}
 use Rattle.uc_term.specs.declared.node.Sym.{Sym}
 use Rattle.uc_term.specs.declared.equation.Equation.{Equation}
 use Rattle.uc_term.specs.Tree.{Tree}
-use Rattle.uc_term.specs.Table.{Table, Grows}
+use Rattle.uc_term.specs.Table.{Table}
 use Rattle.uc_clause.specs.Printing.{equation_text}
 use Rattle.uc_clause.specs.Printable.{IsPrintableSymbol}
 use Rattle.uc_clause.specs.Reading.{ReadsEquation}
 use Rattle.uc_order.specs.Members.{Each}
 use Rattle.uc_system.specs.declared.facts.Unread.{Unread}
 use Rattle.uc_system.specs.declared.facts.Unread.TheVariants as unread
-use Rattle.uc_system.specs.Facts.{fact_front, fact_end, fact_line, IsFactLine, HasLargeTerm, IsLargeLine, is_large}
-use Rattle.uc_system.specs.Unread.{IsFactText, ReadsFact, ReadsFactLine, IsChecked, IsShort, further}
+use Rattle.uc_system.specs.Facts.{fact_front, fact_end, HasLargeTerm, IsLargeLine, is_large}
+use Rattle.uc_system.specs.Unread.{ReadsFact, ReadsFactLine, IsChecked, IsShort, further}
 use Rattle.uc_system.proofs.FactTexts.{large_stops, read_or_large, between_once}
 use Rattle.uc_system.proofs.LargeTerms.{large_within}
 use Rattle.uc_system.proofs.Stays.{fact_text_stays}
@@ -39,8 +38,9 @@ module _ (table : Table) (keys : List Sym) (k : ℕ) (line front text : List ℕ
 
   pub line_unread : (u : Unread) → ReadsFact table keys text (Err u) → ReadsFactLine table keys k line (Err (further (length front) u))
   line_unread unread.Departs h = (
-      λ e l. h.0 e (record { is = between_once k text (equation_text table true e.left e.right) (sym frame ∙ l.is); fact = l.fact }),
-      λ from l. no_large from l)
+    λ e l. h.0 e (record { is = between_once k text (equation_text table true e.left e.right) (sym frame ∙ l.is); fact = l.fact }),
+    λ from l. no_large from l,
+  )
     where
       no_large : (from : ℕ) → IsLargeLine k line from → ⊥
       no_large _ (is_large {text = t} {from = a} e g) = h.1 a (subst (λ x. HasLargeTerm x a) (between_once k t text (sym e ∙ frame)) g)

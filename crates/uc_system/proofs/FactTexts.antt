@@ -1,27 +1,23 @@
 -- Printed equations that are facts: they are read as they are, and none is printed so that has a term which is too large.
-use Rattle.std.proofs.Common.{◌≡◌, ℕ, ◌+◌, ◌<◌, ◌≤◌, ◌^◌, ◌==◌, Bool, true, false, List, [], ◌∷◌, ◌++◌, length, length-append, refl, sym, ap, ap₂, ◌∙◌, subst, arith, Option, Some, None, inl, inr}
-use Rattle.std.specs.Prelude.{slice_get, Result, Ok, Err}
-use Rattle.std.proofs.lemmas.Bool.{cases_Bool}
+use Rattle.std.proofs.Common.{◌≡◌, ℕ, ◌+◌, ◌<◌, ◌≤◌, ◌^◌, ◌==◌, Bool, true, false, List, [], ◌∷◌, ◌++◌, length, length-append, refl, sym, ap, ap₂, ◌∙◌, subst, arith, Some, inl, inr}
+use Rattle.std.specs.Prelude.{slice_get, Ok, Err}
 use Rattle.std.proofs.lemmas.List.{append_cancel_left, append_cancel_right}
 use Rattle.uc_term.specs.declared.node.Sym.{Sym}
 use Rattle.uc_term.specs.declared.equation.Equation.{Equation}
-use Rattle.uc_term.specs.Tree.{Tree, var, app, Trees, none, more, count, nodes, nodes_all, apply, apply_all}
+use Rattle.uc_term.specs.Tree.{Tree, var, app, Trees, none, more, nodes, nodes_all, apply_all}
 use Rattle.uc_term.specs.Over.{AreOver}
 use Rattle.uc_term.specs.Table.{Table, IsDistinct, arity_of}
-use Rattle.uc_term.specs.Variables.{variables, variables_all, is_among, firsts_after, firsts, place_of, renumbered_by}
+use Rattle.uc_term.specs.Variables.{variables, variables_all, is_among, firsts_after, place_of, renumbered_by}
 use Rattle.uc_clause.specs.declared.token.Token.{Token}
 use Rattle.uc_clause.specs.declared.grammar.stop.Why.TheVariants.{Nodes as ManyNodes}
-use Rattle.uc_clause.specs.declared.fault.ClauseFault.{ClauseFault}
 use Rattle.uc_clause.specs.declared.fault.ClauseFault.TheVariants as fault
 use Rattle.uc_clause.specs.declared.fault.What.TheVariants as what
-use Rattle.uc_clause.specs.Tokens.{AreTokens}
 use Rattle.uc_clause.specs.Terminals.{place_at}
 use Rattle.uc_clause.specs.Rules.{Outcome, read, stop, goes_on, stops_first}
 use Rattle.uc_clause.specs.Parse.{Parse}
 use Rattle.uc_clause.specs.Terms.{Term}
 use Rattle.uc_clause.specs.Items.{equals_alone}
-use Rattle.uc_clause.specs.Printing.{equation_text}
-use Rattle.uc_clause.specs.Printable.{IsPrintable, IsPrintableSymbol, IsNumbered, AreNumbered}
+use Rattle.uc_clause.specs.Printable.{IsPrintable, IsPrintableSymbol, AreNumbered}
 use Rattle.uc_clause.specs.Reading.{ReadsEquation, Refuses, isnt_read, SaysSides, IsUnlessMemory}
 use Rattle.uc_clause.proofs.Printed.{IsReadable, readable}
 use Rattle.uc_clause.proofs.Printing.{numbered_both}
@@ -30,7 +26,7 @@ use Rattle.uc_clause.proofs.ReadOnce.{term_once}
 use Rattle.uc_clause.proofs.Alone.{equals_alone_once, says_sides_once}
 use Rattle.uc_clause.proofs.Whole.{complete, refuses}
 use Rattle.uc_order.specs.Members.{In, Each}
-use Rattle.uc_system.specs.Facts.{fact_front, fact_end, fact_line, fact_variables, IsInOrder, IsSide, IsFact, IsFactLine, HasLargeTerm, left_is_large, right_is_large, IsLargeLine, is_large}
+use Rattle.uc_system.specs.Facts.{fact_front, fact_end, fact_variables, IsFact, HasLargeTerm, left_is_large, right_is_large}
 use Rattle.uc_system.specs.Unread.{IsFactText, HasTooManyNodes}
 use Rattle.uc_system.proofs.EquationAgain.{equation_again}
 use Rattle.uc_system.proofs.Precedence.{each_in}

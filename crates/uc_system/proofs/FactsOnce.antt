@@ -1,5 +1,5 @@
 -- The facts' lines are read in one way.
-use Rattle.std.proofs.Common.{◌≡◌, ◌≢◌, ℕ, ◌+◌, List, [], ◌∷◌, ◌++◌, length, get_or, refl, sym, ap, ◌∙◌, subst, arith, Option, Some, None}
+use Rattle.std.proofs.Common.{◌≡◌, ℕ, ◌+◌, List, [], ◌∷◌, ◌++◌, length, get_or, refl, sym, ap, ◌∙◌, subst, arith}
 use Rattle.std.specs.Prelude.{true}
 use Rattle.uc_term.specs.declared.node.Sym.{Sym}
 use Rattle.uc_term.specs.declared.equation.Equation.{Equation}
@@ -7,10 +7,9 @@ use Rattle.uc_term.specs.Table.{Table, IsDistinct}
 use Rattle.uc_clause.specs.Printing.{equation_text}
 use Rattle.uc_clause.specs.Printable.{IsPrintableSymbol}
 use Rattle.uc_order.specs.Members.{Each}
-use Rattle.uc_system.specs.declared.fault.SystemFault.{SystemFault}
 use Rattle.uc_system.specs.declared.fault.SystemFault.TheVariants.{Limit}
-use Rattle.uc_system.specs.Lines.{Cut, first_line, place_in, departs, Outcome, gets, fails}
-use Rattle.uc_system.specs.Facts.{end_line, fact_front, fact_end, fact_line, IsFactLine, HasLargeTerm, IsLargeLine, is_large, FactsAt, no_more_facts, one_more_fact, has_large_term, is_no_fact, is_no_whole_line, fact_lines}
+use Rattle.uc_system.specs.Lines.{Cut, place_in, Outcome, gets, fails}
+use Rattle.uc_system.specs.Facts.{end_line, fact_front, fact_end, IsFactLine, HasLargeTerm, IsLargeLine, is_large, FactsAt, no_more_facts, one_more_fact, has_large_term, is_no_fact, is_no_whole_line, fact_lines}
 use Rattle.uc_system.specs.Unread.{IsFactText}
 use Rattle.uc_system.proofs.LinesOnce.{Once}
 use Rattle.uc_system.proofs.SymbolsOnce.{some_once, some_or_none}

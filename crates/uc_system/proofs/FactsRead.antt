@@ -1,11 +1,10 @@
 -- The facts' lines, read one behind the other.
-use Rattle.std.proofs.Common.{◌≡◌, ℕ, ◌+◌, ◌<◌, ◌≤◌, ◌^◌, List, [], ◌∷◌, ◌++◌, length, drop, refl, sym, ap, ◌∙◌, subst, arith, Some, None, inl, inr, ◌⊎◌}
-use Rattle.std.specs.Prelude.{Result, Ok, Err}
+use Rattle.std.proofs.Common.{◌≡◌, ℕ, ◌+◌, ◌<◌, ◌^◌, List, [], ◌∷◌, ◌++◌, length, drop, sym, ap, ◌∙◌, subst, arith, inl, inr}
+use Rattle.std.specs.Prelude.{Ok, Err}
 use Rattle.uc_term.specs.declared.node.Sym.{Sym}
 use Rattle.uc_term.specs.declared.equation.Equation.{Equation}
 use Rattle.uc_term.specs.Table.{Table, Grows}
 use Rattle.uc_clause.specs.declared.fault.ClauseFault.{ClauseFault}
-use Rattle.uc_clause.specs.declared.fault.ClauseFault.TheVariants as clause
 use Rattle.uc_clause.specs.Items.{equals_alone}
 use Rattle.uc_clause.specs.Reading.{Refuses, IsFault}
 use Rattle.uc_clause.specs.Printable.{IsPrintableSymbol}

@@ -1,10 +1,10 @@
 -- The first line of a text, by how many bytes stand before the first line feed; and of a text that begins with a whole line.
-use Rattle.std.proofs.Common.{◌≡◌, ℕ, zero, suc, ◌+◌, ◌<◌, ◌≤◌, ◌==◌, Bool, true, false, not, List, [], ◌∷◌, ◌++◌, length, length-take-le, length-drop, take, drop, refl, sym, ap, ◌∙◌, arith, subst, Some, None}
+use Rattle.std.proofs.Common.{◌≡◌, ℕ, zero, suc, ◌+◌, ◌<◌, ◌≤◌, ◌==◌, Bool, true, false, List, [], ◌∷◌, ◌++◌, length, length-take-le, length-drop, take, drop, refl, sym, ap, ◌∙◌, arith, subst, Some, None}
 use Rattle.std.specs.List.{prefix_len, list_all}
 use Rattle.std.proofs.lemmas.List.{drop-drop}
 use Rattle.uc_clause.specs.Bytes.{in_line}
 use Rattle.uc_system.specs.declared.lines.Cursor.{Cursor}
-use Rattle.uc_system.specs.Lines.{Cut, with_byte, first_line}
+use Rattle.uc_system.specs.Lines.{first_line}
 use Rattle.uc_system.specs.Places.{IsAt, IsNext}
 
 -- so many bytes stand before the first line feed

@@ -1,7 +1,7 @@
 -- The first two lines are read in one way.
-use Rattle.std.proofs.Common.{◌≡◌, sym, ◌∙◌}
+use Rattle.std.proofs.Common.{sym, ◌∙◌}
 use Rattle.uc_system.specs.Header.{version_line, kind_of, kind_fault, header_lines}
-use Rattle.uc_system.specs.Lines.{gives, here, unless, pick}
+use Rattle.uc_system.specs.Lines.{here, unless, pick}
 use Rattle.uc_system.proofs.LinesOnce.{Once, both_once, gives_once, here_once, unless_once, pick_once}
 
 version_once : Once version_line

@@ -1,15 +1,14 @@
 -- The first two lines, read one behind the other.
 use Rattle.std.proofs.Common.{◌≡◌, ℕ, Bool, true, false, List, length, drop, refl, sym, ap, ◌∙◌, if◌then◌else◌, ◌&&◌, Option, Some, None}
-use Rattle.std.specs.Prelude.{Result, Ok, Err, bytes_eq, nat_eq}
+use Rattle.std.specs.Prelude.{Ok, Err, bytes_eq, nat_eq}
 use Rattle.std.specs.List.{starts_with}
 use Rattle.uc_system.specs.declared.fault.SystemFault.{SystemFault}
 use Rattle.uc_system.specs.declared.header.Kind.{Kind}
 use Rattle.uc_system.specs.declared.header.Kind.TheVariants.{Paths}
-use Rattle.uc_system.specs.declared.header.Heading.{Heading}
 use Rattle.uc_system.specs.declared.header.Heading.TheVariants.{Heavy, Light, OtherVersion, NoHeading}
 use Rattle.uc_system.specs.declared.lines.Cursor.{Cursor}
-use Rattle.uc_system.specs.Lines.{departs, passed_or, goes_on, fails_first, pick}
-use Rattle.uc_system.specs.Header.{heading_line, system_words, weighing_words, paths_line, heading_of, is_other_version, version_line, weighing_of, kind_of, is_light_path, kind_fault, header_lines}
+use Rattle.uc_system.specs.Lines.{departs, goes_on, fails_first, pick}
+use Rattle.uc_system.specs.Header.{heading_line, system_words, weighing_words, paths_line, heading_of, is_other_version, version_line, weighing_of, kind_of, is_light_path, header_lines}
 use Rattle.uc_system.specs.Reads.{Gives}
 
 heading_by : (a b s v is : Bool) → a ≡ false → b ≡ false → s ≡ true → v ≡ is → (if a then Heavy else (if b then Light else (if s && v then OtherVersion else NoHeading))) ≡ (if is then OtherVersion else NoHeading)

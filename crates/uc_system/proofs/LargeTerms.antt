@@ -1,9 +1,8 @@
 -- Where an equation is read up to a term that is too large.
-use Rattle.std.proofs.Common.{◌≡◌, ◌≢◌, ℕ, ◌+◌, ◌<◌, ◌≤◌, List, length, length-append, refl, sym, ap, ◌∙◌, subst, arith, Some, None, get_or, inl, inr, ◌⊎◌}
+use Rattle.std.proofs.Common.{◌≡◌, ℕ, ◌+◌, ◌<◌, ◌≤◌, List, length, length-append, refl, sym, ap, ◌∙◌, subst, arith, Some, None, get_or, inl, inr, ◌⊎◌}
 use Rattle.std.specs.Prelude.{slice_get, ◌++◌}
 use Rattle.std.proofs.lemmas.Option.{slice_get_cases}
 use Rattle.uc_clause.specs.declared.token.Token.{Token}
-use Rattle.uc_clause.specs.declared.terminal.Terminal.{Terminal}
 use Rattle.uc_clause.specs.declared.terminal.Terminal.TheVariants as terminal
 use Rattle.uc_clause.specs.declared.grammar.head.Head.TheVariants.{Functor, Neither}
 use Rattle.uc_clause.specs.declared.grammar.stop.Why.{Why}
@@ -11,8 +10,8 @@ use Rattle.uc_clause.specs.declared.grammar.stop.Why.TheVariants.{Nodes}
 use Rattle.uc_clause.specs.Tokens.{AreTokens}
 use Rattle.uc_clause.specs.Terminals.{terminal_at}
 use Rattle.uc_clause.specs.Rules.{Outcome, read, stop, goes_on, stops_first}
-use Rattle.uc_clause.specs.Parse.{Parse, Parses, applied}
-use Rattle.uc_clause.specs.Terms.{Term, Args, head_at, is_variable, is_constant, is_applied, is_node_too_many, is_no_term}
+use Rattle.uc_clause.specs.Parse.{Parse}
+use Rattle.uc_clause.specs.Terms.{Term, is_variable, is_constant, is_applied, is_node_too_many, is_no_term}
 use Rattle.uc_clause.specs.Items.{equals, equals_alone}
 use Rattle.uc_clause.proofs.Ends.{some_head}
 use Rattle.uc_clause.proofs.Once.{tokens_once}

@@ -1,9 +1,9 @@
 -- What the symbols' lines give: symbols that can be printed.
-use Rattle.std.proofs.Common.{◌≡◌, ℕ, zero, suc, get_or, ◌≤◌, ◌<◌, List, [], ◌∷◌, ◌++◌, length, map, refl, sym, ap, ◌∙◌, subst, arith, Option, Some, None, unwrap_or}
+use Rattle.std.proofs.Common.{◌≡◌, ℕ, zero, suc, get_or, ◌≤◌, ◌<◌, List, [], ◌∷◌, ◌++◌, length, refl, sym, ap, ◌∙◌, subst, arith, Option, Some, None, unwrap_or}
 use Rattle.std.proofs.lemmas.List.{map-append}
 use Rattle.std.proofs.lemmas.Option.{slice_get_within}
 use Rattle.uc_term.specs.declared.node.Sym.{Sym}
-use Rattle.uc_term.specs.Table.{Table, Entry, Has, IsSymbol, name_of, arity_of}
+use Rattle.uc_term.specs.Table.{Table, Entry, IsSymbol, name_of, arity_of}
 use Rattle.uc_clause.specs.Names.{IsSpellable}
 use Rattle.uc_clause.specs.Printable.{IsPrintableSymbol}
 use Rattle.uc_order.specs.Members.{In, in_front, in_rest, Each}
@@ -11,7 +11,7 @@ use Rattle.uc_system.specs.declared.fault.SystemFault.{SystemFault}
 use Rattle.uc_system.specs.declared.header.Header.{Header}
 use Rattle.uc_system.specs.declared.symbols.Ranked.{Ranked}
 use Rattle.uc_system.specs.Numerals.{value_of}
-use Rattle.uc_system.specs.Lines.{Outcome, gets, fails}
+use Rattle.uc_system.specs.Lines.{Outcome, gets}
 use Rattle.uc_system.specs.Symbols.{ranked_or, symbols_in, SymbolAt, is_no_whole_line, is_no_symbol, has_too_many, is_symbol, SymbolsAt, no_more_symbols, one_more_symbol, fails_in_symbol}
 
 pub each_both : {A : Type 0} (P : A → Type 0) (xs ys : List A) → Each P xs → Each P ys → Each P (xs ++ ys)

@@ -5,7 +5,7 @@ use Rattle.uc_term.specs.declared.equation.Equation.{Equation}
 use Rattle.uc_term.specs.Table.{Table}
 use Rattle.uc_clause.specs.Printable.{IsPrintableSymbol}
 use Rattle.uc_order.specs.Members.{Each}
-use Rattle.uc_system.specs.Lines.{Cut, first_line, gets}
+use Rattle.uc_system.specs.Lines.{first_line, gets}
 use Rattle.uc_system.specs.Facts.{end_line, fact_line, IsFact, FactsAt, no_more_facts, one_more_fact}
 use Rattle.uc_system.specs.Printing.{ended, facts_text}
 use Rattle.uc_system.proofs.FirstLines.{cut_line}

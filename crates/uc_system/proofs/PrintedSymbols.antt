@@ -1,7 +1,6 @@
 -- Printed symbols are read as they are.
-use Rattle.std.proofs.Common.{◌≡◌, ℕ, ◌+◌, ◌<◌, ◌≤◌, ◌^◌, ◌==◌, ◌&&◌, ◌||◌, not, nat_lt, Bool, true, false, List, [], ◌∷◌, ◌++◌, length, map, refl, sym, ap, ap₂, ◌∙◌, subst, append_assoc, append-nil, arith, Some, None, decimal, inl, inr, ◌⊎◌}
+use Rattle.std.proofs.Common.{◌≡◌, ℕ, ◌+◌, ◌<◌, ◌^◌, ◌==◌, ◌||◌, Bool, true, false, List, [], ◌∷◌, ◌++◌, length, map, refl, sym, ap, ◌∙◌, subst, append_assoc, append-nil, arith, Some, None, decimal}
 use Rattle.std.specs.Prelude.{codes}
-use Rattle.std.specs.List.{list_any}
 use Rattle.std.proofs.lemmas.List.{map-append}
 use Rattle.std.proofs.lemmas.Option.{slice_get-get_or, unwrap_or-slice_get}
 use Rattle.std.proofs.lemmas.Bool.Decides.{nat_tests}
@@ -12,15 +11,14 @@ use Rattle.uc_clause.specs.Bytes.{in_line}
 use Rattle.uc_clause.specs.Names.{spelling}
 use Rattle.uc_clause.specs.Printable.{IsPrintableSymbol}
 use Rattle.uc_order.specs.Members.{In, in_front, in_rest, Each, AreDistinct}
-use Rattle.uc_kbo.specs.Faults.{weighed, IsBad, NoneBad}
 use Rattle.uc_system.specs.declared.header.Kind.{Kind}
 use Rattle.uc_system.specs.declared.header.Kind.TheVariants.{Weighing, Paths}
 use Rattle.uc_system.specs.declared.header.Header.{Header}
 use Rattle.uc_system.specs.declared.symbols.Ranked.{Ranked}
 use Rattle.uc_system.specs.Numerals.{value_of}
-use Rattle.uc_system.specs.Lines.{Cut, first_line, Outcome, gets}
-use Rattle.uc_system.specs.Symbols.{symbol_words, begins_symbol, Parts, symbol_front, symbol_line, IsSymbolLine, is_bad_weight, weighs_nothing, is_one_of, symbol_fault, ranked_or, symbols_in, SymbolAt, is_symbol, SymbolsAt, no_more_symbols, one_more_symbol}
-use Rattle.uc_system.specs.Printing.{ended, bare_line, weighed_line, weighed_text, bare_text}
+use Rattle.uc_system.specs.Lines.{gets}
+use Rattle.uc_system.specs.Symbols.{symbol_words, begins_symbol, Parts, symbol_front, IsSymbolLine, is_bad_weight, is_one_of, symbol_fault, ranked_or, symbols_in, is_symbol, SymbolsAt, no_more_symbols, one_more_symbol}
+use Rattle.uc_system.specs.Printing.{bare_line, weighed_line, weighed_text, bare_text}
 use Rattle.uc_system.proofs.PrintedFacts.{cut_ended}
 use Rattle.uc_system.proofs.Decimals.{all_append, decimal_numeral, decimal_value, decimal_in_line}
 use Rattle.uc_system.proofs.TextsInLine.{InLine, spelling_in_line}

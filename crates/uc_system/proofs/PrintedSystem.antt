@@ -1,38 +1,34 @@
 -- A printed system is read again as it is.
-use Rattle.std.proofs.Common.{◌≡◌, ℕ, ◌+◌, ◌<◌, ◌≤◌, ◌^◌, ◌==◌, ◌&&◌, ◌||◌, not, nat_lt, nat_le, Bool, true, false, List, [], ◌∷◌, ◌++◌, length, map, refl, sym, ap, ap₂, ◌∙◌, subst, append_assoc, arith, Some, None, decimal, inl, inr, ◌⊎◌}
-use Rattle.std.specs.Prelude.{codes, Result, Ok, Err}
+use Rattle.std.proofs.Common.{◌≡◌, ℕ, ◌+◌, ◌<◌, ◌≤◌, ◌^◌, ◌==◌, ◌&&◌, ◌||◌, not, nat_lt, nat_le, Bool, true, false, List, [], ◌∷◌, ◌++◌, length, refl, sym, ap, ap₂, ◌∙◌, subst, append_assoc, arith, Some, None, decimal, inl, inr, ◌⊎◌}
+use Rattle.std.specs.Prelude.{codes, Ok}
 use Rattle.std.specs.List.{list_any}
 use Rattle.std.proofs.lemmas.Bool.Decides.{nat_tests}
 use Rattle.uc_term.specs.declared.node.Sym.{Sym}
 use Rattle.uc_term.specs.declared.equation.Equation.{Equation}
-use Rattle.uc_term.specs.Table.{Table, Has, arity_of}
+use Rattle.uc_term.specs.Table.{Table, arity_of}
 use Rattle.uc_clause.specs.Printable.{IsPrintableSymbol}
-use Rattle.uc_order.specs.Members.{In, in_front, in_rest, Each, AreDistinct}
+use Rattle.uc_order.specs.Members.{In, in_front, in_rest, Each}
 use Rattle.uc_order.specs.declared.spec.OrderSpec.{OrderSpec}
 use Rattle.uc_order.specs.declared.spec.OrderSpec.TheVariants.{Kbo, Lpo}
-use Rattle.uc_kbo.specs.Faults.{weighed, IsBad, NoneBad, HasConstant}
-use Rattle.uc_ordering.specs.Fits.{AreWeights, Fits}
+use Rattle.uc_kbo.specs.Faults.{weighed, IsBad, NoneBad}
 use Rattle.uc_ordering.specs.Weights.{MAX_WEIGHT}
-use Rattle.uc_system.specs.declared.fault.SystemFault.{SystemFault}
 use Rattle.uc_system.specs.declared.header.Kind.{Kind}
 use Rattle.uc_system.specs.declared.header.Kind.TheVariants.{Weighing, Paths}
-use Rattle.uc_system.specs.declared.header.Header.{Header}
 use Rattle.uc_system.specs.declared.symbols.Ranked.{Ranked}
-use Rattle.uc_system.specs.declared.system.SystemText.{SystemText}
 use Rattle.uc_fact.specs.declared.fact.System.{System}
 use Rattle.uc_system.specs.Numerals.{is_numeral, value_of}
-use Rattle.uc_system.specs.Lines.{Cut, first_line, Outcome, gets, unless, passed_or, goes_on, pick, picked, value_or}
-use Rattle.uc_system.specs.Header.{heading_line, weighing_words, paths_line, version_line, version_of, weighing_of, kind_of, kind_fault, header_lines}
-use Rattle.uc_system.specs.Symbols.{begins_symbol, is_bad_weight, weighs_nothing, symbols_in, weights_in, SymbolsAt, symbol_lines, has_light, has_constant, symbols_fault, are_complete}
-use Rattle.uc_system.specs.Facts.{end_line, fact_line, IsFact, FactsAt, fact_lines}
-use Rattle.uc_system.specs.Reading.{precedence_of, spec_of, text_of, system_body, system_lines, ReadsSystem, reads}
-use Rattle.uc_system.specs.Printing.{ended, is_light, order_line, weighed_text, bare_text, symbols_text, facts_text, system_text}
+use Rattle.uc_system.specs.Lines.{gets, goes_on, pick, picked, value_or}
+use Rattle.uc_system.specs.Header.{heading_line, weighing_words, paths_line, version_line, version_of, weighing_of, kind_of}
+use Rattle.uc_system.specs.Symbols.{begins_symbol, is_bad_weight, symbols_in, weights_in, SymbolsAt, has_light, has_constant, symbols_fault, are_complete}
+use Rattle.uc_system.specs.Facts.{end_line, IsFact, FactsAt}
+use Rattle.uc_system.specs.Reading.{spec_of, text_of, system_body, system_lines, ReadsSystem, reads}
+use Rattle.uc_system.specs.Printing.{ended, weighed_text, bare_text, symbols_text, facts_text, system_text}
 use Rattle.uc_system.specs.Printable.{IsPrintableSystem}
 use Rattle.uc_system.proofs.FirstLines.{cut_line}
 use Rattle.uc_system.proofs.Decimals.{all_append, decimal_numeral, decimal_value, decimal_in_line}
 use Rattle.uc_system.proofs.TextsInLine.{InLine}
 use Rattle.uc_system.proofs.PrintedFacts.{facts_read}
-use Rattle.uc_system.proofs.PrintedSymbols.{ranked, unranked, AreGood, IsGood, header_of, weighed_read, bare_read}
+use Rattle.uc_system.proofs.PrintedSymbols.{ranked, unranked, AreGood, header_of, weighed_read, bare_read}
 
 -- the lines behind the first two
 abbrev tail_text : Table → OrderSpec → List Equation → List ℕ
@@ -93,6 +89,7 @@ module _ (table : Table) (w0 : ℕ) (f : Sym) (w : ℕ) where
     where
       small : nat_lt MAX_WEIGHT w ≡ false
       small = not_over w (at_most w (λ h. none (inl h)))
+
       by_tests : (a : Bool) → (arity_of table f == 0) ≡ a → (b : Bool) → nat_lt w w0 ≡ b → (c : Bool) → (w == 0) ≡ c → (d : Bool) → (arity_of table f == 1) ≡ d → is_bad_weight (Weighing w0) (arity_of table f) w ≡ false
       by_tests true p true q c r d s = absurd (none (inr (inl (is_equal _ _ p, is_below _ _ q))))
       by_tests a p b q true r false s = absurd (none (inr (inr (is_equal _ _ r, λ h. isnt_equal _ _ s h.0))))
@@ -121,16 +118,15 @@ module _ (table : Table) where
   good_weights : (light : Bool) (w0 : ℕ) (fs : List Sym) (ws : List ℕ) → length ws ≡ length fs → NoneBad w0 (weighed table fs ws) → (list_any (λ w. w == 0) ws ≡ true → light ≡ true) → AreGood table 1 light w0 fs ws
   good_weights light w0 [] ws many none some = tt
   good_weights light w0 (f ∷ fs) [] many none some = tt
-  good_weights light w0 (f ∷ fs) (w ∷ ws) many none some =
-      (
-        record {
-          small = omega (arith, at_most w (λ h. none.0 (inl h)));
-          fine = fine_weight table w0 f w (weighed table fs ws) none.0;
-          light_is = λ e. some (or_left (w == 0) _ e);
-          last = λ e. no_more w0 f w fs ws (omega arith) e none.0;
-        },
-        good_weights light w0 fs ws (omega arith) none.1 (λ e. some (or_right (w == 0) _ e)),
-      )
+  good_weights light w0 (f ∷ fs) (w ∷ ws) many none some = (
+    record {
+      small = omega (arith, at_most w (λ h. none.0 (inl h)));
+      fine = fine_weight table w0 f w (weighed table fs ws) none.0;
+      light_is = λ e. some (or_left (w == 0) _ e);
+      last = λ e. no_more w0 f w fs ws (omega arith) e none.0;
+    },
+    good_weights light w0 fs ws (omega arith) none.1 (λ e. some (or_right (w == 0) _ e)),
+  )
 
   symbols_are : (fs : List Sym) (ws : List ℕ) → length ws ≡ length fs → symbols_in (ranked fs ws) ≡ fs
   symbols_are [] ws h = refl

@@ -1,8 +1,7 @@
 -- What the readers of lines answer, one behind the other.
-use Rattle.std.proofs.Common.{◌≡◌, ◌≢◌, ℕ, ◌<◌, ◌≤◌, List, [], length, length-drop, drop, refl, sym, ap, ◌∙◌, subst, arith, Option, Some, None}
+use Rattle.std.proofs.Common.{◌≡◌, ◌≢◌, ℕ, ◌<◌, ◌≤◌, List, [], length, length-drop, drop, refl, sym, ap, subst, arith, Some, None}
 use Rattle.std.specs.Prelude.{Result, Ok, Err}
 use Rattle.std.proofs.lemmas.List.{drop_all}
-use Rattle.uc_term.specs.declared.node.Sym.{Sym}
 use Rattle.uc_term.specs.declared.equation.Equation.{Equation}
 use Rattle.uc_term.specs.Table.{Table, Grows, Has}
 use Rattle.uc_clause.specs.Printable.{IsPrintableSymbol}
@@ -23,7 +22,7 @@ use Rattle.uc_system.specs.Symbols.{symbols_in, symbols_fault, are_complete}
 use Rattle.uc_system.specs.Facts.{fact_lines}
 use Rattle.uc_system.specs.Written.{AreSame}
 use Rattle.uc_system.specs.Reads.{Gives, GivesIn, ReadsSymbols}
-use Rattle.uc_system.specs.Reading.{spec_of, text_of, system_body, system_lines, ReadsSystem, reads, goes_further, fails_within, IsReading, SaysSystem, IsSystem, precedence_of}
+use Rattle.uc_system.specs.Reading.{spec_of, text_of, system_body, system_lines, reads, goes_further, fails_within, IsReading, SaysSystem, IsSystem, precedence_of}
 use Rattle.uc_system.proofs.Precedence.{each_map, symbols_printable}
 use Rattle.uc_system.proofs.Stays.{complete_stays}
 use Rattle.uc_system.proofs.SystemsRead.{system_is}
@@ -89,8 +88,8 @@ module _ (header : Header) (table : Table) (bytes : List ℕ) (at here : Cursor)
     facts_give later grows es end spec f e =
         let said : made_of spec es ≡ text_of header.kind ranks.ranked.items es = ap (λ (x : OrderSpec). made_of x es) e in
         let there : (last : Table) → Grows later last → system_body last header at.number (drop at.from bytes) (gets (made_of spec es) end.number (drop end.from bytes)) =
-            λ last g. (let both = grows_twice table later last grows g in
-                goes_on (given.0 last both) (goes_on (complete_in last both) (goes_on (subst (λ fs. fact_lines last fs here.number (drop here.from bytes) (gets es end.number (drop end.from bytes))) known (f.0 last g)) (ap (λ (x : SystemText). gets x end.number (drop end.from bytes)) said)))) in
+        λ last g. (let both = grows_twice table later last grows g in
+        goes_on (given.0 last both) (goes_on (complete_in last both) (goes_on (subst (λ fs. fact_lines last fs here.number (drop here.from bytes) (gets es end.number (drop end.from bytes))) known (f.0 last g)) (ap (λ (x : SystemText). gets x end.number (drop end.from bytes)) said)))) in
         (there, f.1)
 
 -- the whole text

@@ -2,9 +2,6 @@
 use Rattle.std.proofs.Common.{◌≡◌, ℕ, ◌==◌, Bool, true, false, not, ◌&&◌, List, [], ◌∷◌, ◌++◌, refl, sym, ap, ap₂, ◌∙◌, subst, arith}
 use Rattle.std.specs.List.{list_all}
 use Rattle.std.proofs.lemmas.Bool.Decides.{nat_tests}
-use Rattle.std.proofs.lemmas.Bool.{cases_Bool}
-use Rattle.uc_clause.specs.declared.token.Kind.{Kind}
-use Rattle.uc_clause.specs.declared.token.Kind.TheVariants.{Lower, Quoted}
 use Rattle.uc_clause.specs.Bytes.{is_digit, is_lower, is_name}
 use Rattle.uc_clause.specs.Names.{stands_for, spelling, kind_of_word}
 use Rattle.uc_clause.proofs.Joined.{stands_for_spelling}

@@ -1,9 +1,9 @@
 -- What a text reads as in a table it reads as in each table that begins with it.
-use Rattle.std.proofs.Common.{◌≡◌, ℕ, ◌+◌, ◌==◌, Bool, true, false, ◌||◌, List, [], ◌∷◌, ◌++◌, length, refl, sym, ap, ap₂, ◌∙◌, subst, length-append, arith}
-use Rattle.std.specs.Prelude.{Result, Ok, Err, Some, None, ◌&&◌, not, if◌then◌else◌}
+use Rattle.std.proofs.Common.{◌≡◌, ℕ, ◌==◌, Bool, true, ◌||◌, List, [], ◌∷◌, ◌++◌, length, refl, sym, ap, ap₂, ◌∙◌, subst, length-append, arith}
+use Rattle.std.specs.Prelude.{Result, Some, None, ◌&&◌, not, if◌then◌else◌}
 use Rattle.uc_term.specs.declared.node.Sym.{Sym}
 use Rattle.uc_term.specs.declared.equation.Equation.{Equation}
-use Rattle.uc_term.specs.Tree.{Tree, var, app, Trees, none, more, count}
+use Rattle.uc_term.specs.Tree.{Tree, var, app, Trees, none, more}
 use Rattle.uc_term.specs.Over.{IsTerm, AreOver}
 use Rattle.uc_term.specs.Table.{Table, Grows, Has, name_of, arity_of}
 use Rattle.uc_term.proofs.Grown.{name-grows, arity-grows}
@@ -16,8 +16,8 @@ use Rattle.uc_system.specs.declared.fault.SystemFault.{SystemFault}
 use Rattle.uc_system.specs.declared.header.Header.{Header}
 use Rattle.uc_system.specs.declared.symbols.Ranked.{Ranked}
 use Rattle.uc_system.specs.declared.system.SystemText.{SystemText}
-use Rattle.uc_system.specs.Lines.{departs, Outcome, gets, passed_or, goes_on, fails_first}
-use Rattle.uc_system.specs.Symbols.{symbols_in, SymbolAt, is_no_whole_line, is_no_symbol, has_too_many, is_symbol, SymbolsAt, no_more_symbols, one_more_symbol, fails_in_symbol, has_light, has_constant, symbols_fault, are_complete}
+use Rattle.uc_system.specs.Lines.{departs, Outcome, passed_or, goes_on, fails_first}
+use Rattle.uc_system.specs.Symbols.{symbols_in, SymbolAt, is_no_whole_line, is_no_symbol, has_too_many, is_symbol, SymbolsAt, no_more_symbols, one_more_symbol, fails_in_symbol, has_light, has_constant, are_complete}
 use Rattle.uc_system.specs.Facts.{fact_front, fact_end, IsSide, IsFact, IsFactLine, FactsAt, no_more_facts, one_more_fact, has_large_term, is_no_fact}
 use Rattle.uc_system.specs.Facts as facts
 use Rattle.uc_system.specs.Unread.{IsFactText}

@@ -1,15 +1,14 @@
 -- What the reader of a symbol's line answers.
-use Rattle.std.proofs.Common.{◌≡◌, ℕ, ◌+◌, ◌<◌, ◌≤◌, ◌^◌, List, length, drop, Bool, refl, sym, ap, ap₂, ◌∙◌, subst, arith, Option, Some, None}
+use Rattle.std.proofs.Common.{◌≡◌, ℕ, ◌+◌, ◌<◌, ◌≤◌, ◌^◌, List, length, drop, Bool, sym, ap, ap₂, ◌∙◌, subst, arith, Option, Some, None}
 use Rattle.std.specs.Prelude.{Result, Ok, Err}
 use Rattle.uc_term.specs.declared.node.Sym.{Sym}
 use Rattle.uc_term.specs.Table.{Table, IsSymbol}
-use Rattle.uc_clause.specs.Names.{IsSpellable, spelling}
 use Rattle.uc_system.specs.declared.fault.SystemFault.{SystemFault}
-use Rattle.uc_system.specs.declared.fault.SystemFault.TheVariants.{Syntax, Version, Limit, NoMemory}
+use Rattle.uc_system.specs.declared.fault.SystemFault.TheVariants.{Limit}
 use Rattle.uc_system.specs.declared.header.Header.{Header}
 use Rattle.uc_system.specs.declared.lines.Cursor.{Cursor}
 use Rattle.uc_system.specs.declared.symbols.Ranked.{Ranked}
-use Rattle.uc_system.specs.Lines.{Cut, first_line, place_in, departs, gets, fails}
+use Rattle.uc_system.specs.Lines.{Cut, first_line, place_in, departs, gets}
 use Rattle.uc_system.specs.Symbols.{begins_symbol, is_one_of, symbol_fault, SymbolAt, is_no_whole_line, is_no_symbol}
 use Rattle.uc_system.specs.Places.{IsNext}
 use Rattle.uc_system.specs.Written.{IsWritten, IsNotWritten, IsWordOf}

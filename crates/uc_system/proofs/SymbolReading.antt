@@ -1,5 +1,5 @@
 -- The reader of a symbol's line.
-use Rattle.std.proofs.Common.{◌≡◌, ℕ, ◌+◌, ◌-◌, ◌<◌, ◌≤◌, ◌^◌, ◌==◌, ◌&&◌, ◌||◌, not, min, nat_lt, Bool, true, false, List, [], ◌∷◌, ◌++◌, length, length-append, refl, sym, ap, ap₂, ◌∙◌, subst, append_assoc, arith, Option, Some, None, inl, inr, ◌⊎◌}
+use Rattle.std.proofs.Common.{◌≡◌, ℕ, ◌+◌, ◌<◌, ◌≤◌, nat_lt, Bool, true, List, [], ◌∷◌, ◌++◌, length, length-append, refl, sym, ap, ◌∙◌, subst, arith, Option, Some, None, inl, inr, ◌⊎◌}
 use Rattle.std.specs.Prelude.{codes}
 use Rattle.std.proofs.lemmas.Bool.Decides.{nat_tests}
 use Rattle.std.proofs.lemmas.List.{append_cancel_left}
@@ -11,12 +11,11 @@ use Rattle.uc_system.specs.declared.fault.SystemFault.TheVariants.{Limit}
 use Rattle.uc_system.specs.declared.header.Kind.{Kind}
 use Rattle.uc_system.specs.declared.header.Kind.TheVariants.{Weighing, Paths}
 use Rattle.uc_system.specs.declared.header.Header.{Header}
-use Rattle.uc_system.specs.declared.symbols.Ranked.{Ranked}
 use Rattle.uc_system.specs.Numerals.{is_numeral, value_of}
 use Rattle.uc_system.specs.Lines.{Cut, first_line, place_in, departs, gets, fails}
 use Rattle.uc_ordering.specs.Weights.{MAX_WEIGHT}
-use Rattle.uc_system.specs.Symbols.{symbol_words, begins_symbol, Parts, symbol_front, symbol_line, IsWeight, IsSymbolLine, is_bad_weight, weighs_nothing, is_one_of, symbol_fault, ranked_or, SymbolAt, is_no_symbol, has_too_many, is_symbol}
-use Rattle.uc_system.specs.Written.{HasNoSpace, written_line, kept, IsWritten, IsNotWritten, IsWordOf}
+use Rattle.uc_system.specs.Symbols.{symbol_words, begins_symbol, Parts, symbol_front, symbol_line, IsWeight, IsSymbolLine, is_one_of, symbol_fault, SymbolAt, has_too_many, is_symbol}
+use Rattle.uc_system.specs.Written.{written_line, kept, IsWritten, IsNotWritten}
 use Rattle.uc_system.proofs.Splits.{split_once, numeral_no_space}
 use Rattle.uc_system.proofs.Taken.{named_text, weighed_line_is, bare_line_is}
 
@@ -65,9 +64,9 @@ heavy_fault header w0 k repeated followed n a w h = let big = heavy w h in rw (k
 
 kept_or : (header : Header) (repeated followed : Bool) (n a : ℕ) (digits : List ℕ) (kind : Kind) → header.kind ≡ kind → IsWeight kind digits → (symbol_fault header repeated followed n a (kept digits) ≡ symbol_fault header repeated followed n a (value_of digits)) × (symbol_fault header repeated followed n a (kept digits) ≡ None → kept digits ≡ value_of digits)
 kept_or header repeated followed n a digits (Weighing w0) k i = elim (below_or MAX_WEIGHT (value_of digits)) [
-    inl h ↦ (let f = heavy_fault header w0 k repeated followed n a (kept digits) (omega arith) in (f ∙ sym (heavy_fault header w0 k repeated followed n a (value_of digits) h), λ e. absurd (let both = sym f ∙ e in cc)))
+  | inl h ↦ (let f = heavy_fault header w0 k repeated followed n a (kept digits) (omega arith) in (f ∙ sym (heavy_fault header w0 k repeated followed n a (value_of digits) h), λ e. absurd (let both = sym f ∙ e in cc)))
   | inr h ↦ (let same : kept digits ≡ value_of digits = omega arith in (ap (symbol_fault header repeated followed n a) same, λ e. same))
-  ]
+]
 kept_or header repeated followed n a digits Paths k i = let none : digits ≡ [] = i in rw none (refl, λ e. refl)
 
 module _ (table : Table) (header : Header) (earlier : List Sym) (n : ℕ) (text : List ℕ) (c : Cut) (cut : first_line text ≡ Some c) (spelled : List ℕ) (a w : ℕ) (h : IsWritten header.kind c.line spelled a w) (name : List ℕ) (s : IsSpellable name) (e : spelled ≡ spelling name) where

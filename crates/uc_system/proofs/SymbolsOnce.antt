@@ -1,19 +1,17 @@
 -- The symbols' lines are read in one way, and what is read of them.
-use Rattle.std.proofs.Common.{◌≡◌, ℕ, ◌+◌, ◌<◌, ◌≤◌, true, false, List, [], ◌∷◌, ◌++◌, length, refl, sym, ap, ap₂, ◌∙◌, subst, append_assoc, arith, Option, Some, None}
-use Rattle.std.specs.Prelude.{codes}
+use Rattle.std.proofs.Common.{◌≡◌, ℕ, List, [], ◌∷◌, ◌++◌, length, refl, sym, ap, ◌∙◌, subst, append_assoc, arith, Option, Some, None}
 use Rattle.std.proofs.lemmas.List.{append_cancel_left}
 use Rattle.uc_term.specs.declared.node.Sym.{Sym}
 use Rattle.uc_term.specs.Table.{Table, IsSymbol, IsDistinct}
 use Rattle.uc_clause.specs.Names.{spelling}
-use Rattle.uc_system.specs.declared.fault.SystemFault.{SystemFault}
 use Rattle.uc_system.specs.declared.fault.SystemFault.TheVariants.{Limit}
 use Rattle.uc_system.specs.declared.header.Kind.{Kind}
 use Rattle.uc_system.specs.declared.header.Kind.TheVariants.{Weighing, Paths}
 use Rattle.uc_system.specs.declared.header.Header.{Header}
 use Rattle.uc_system.specs.declared.symbols.Ranked.{Ranked}
 use Rattle.uc_system.specs.Numerals.{value_of}
-use Rattle.uc_system.specs.Lines.{Cut, first_line, place_in, departs, Outcome, gets, fails}
-use Rattle.uc_system.specs.Symbols.{symbol_words, begins_symbol, Parts, symbol_front, symbol_line, IsSymbolLine, is_one_of, symbol_fault, ranked_or, symbols_in, SymbolAt, is_no_whole_line, is_no_symbol, has_too_many, is_symbol, SymbolsAt, no_more_symbols, one_more_symbol, fails_in_symbol, symbol_lines}
+use Rattle.uc_system.specs.Lines.{Cut, first_line, place_in, Outcome, gets, fails}
+use Rattle.uc_system.specs.Symbols.{symbol_words, begins_symbol, Parts, symbol_front, IsSymbolLine, is_one_of, symbol_fault, ranked_or, symbols_in, SymbolAt, is_no_whole_line, is_no_symbol, has_too_many, is_symbol, SymbolsAt, no_more_symbols, one_more_symbol, fails_in_symbol, symbol_lines}
 use Rattle.uc_system.proofs.LinesOnce.{Once}
 use Rattle.uc_system.proofs.Splits.{split_once, numeral_no_space, name_once}
 
@@ -34,7 +32,7 @@ same_parts p q a b c = rw (a, b, c) refl
 pub parts_once : (kind : Kind) (line : List ℕ) (p q : Parts) → IsSymbolLine kind line p → IsSymbolLine kind line q → p ≡ q
 parts_once (Weighing w0) line p q i j =
     let e : (symbol_front p.name ++ p.arity) ++ 32 ∷ p.weight ≡ (symbol_front q.name ++ q.arity) ++ 32 ∷ q.weight =
-        sym (append_assoc (symbol_front p.name ++ p.arity) (32 ∷ []) p.weight) ∙ sym i.is ∙ j.is ∙ append_assoc (symbol_front q.name ++ q.arity) (32 ∷ []) q.weight in
+    sym (append_assoc (symbol_front p.name ++ p.arity) (32 ∷ []) p.weight) ∙ sym i.is ∙ j.is ∙ append_assoc (symbol_front q.name ++ q.arity) (32 ∷ []) q.weight in
     let r = split_once (symbol_front p.name ++ p.arity) (symbol_front q.name ++ q.arity) p.weight q.weight (numeral_no_space p.weight i.weight) (numeral_no_space q.weight j.weight) e in
     let b = bare_once p.name q.name p.arity q.arity (bare (Weighing w0) line p i) (bare (Weighing w0) line q j) r.0 in
     same_parts p q b.0 b.1 r.1

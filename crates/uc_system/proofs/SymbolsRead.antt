@@ -1,6 +1,6 @@
 -- The symbols' lines, read one behind the other.
-use Rattle.std.proofs.Common.{◌≡◌, ℕ, ◌+◌, Bool, true, false, if◌then◌else◌, List, [], ◌∷◌, ◌++◌, length, drop, refl, sym, ap, ◌∙◌, subst, arith}
-use Rattle.std.specs.Prelude.{Result, Ok, Err}
+use Rattle.std.proofs.Common.{◌≡◌, ℕ, Bool, true, false, if◌then◌else◌, List, [], ◌∷◌, ◌++◌, drop, sym, ap, ◌∙◌, subst}
+use Rattle.std.specs.Prelude.{Ok, Err}
 use Rattle.std.proofs.lemmas.List.{map-append}
 use Rattle.uc_term.specs.declared.node.Sym.{Sym}
 use Rattle.uc_term.specs.Table.{Table, Grows}
@@ -9,7 +9,6 @@ use Rattle.uc_system.specs.declared.fault.SystemFault.TheVariants.{Syntax, Versi
 use Rattle.uc_system.specs.declared.header.Header.{Header}
 use Rattle.uc_system.specs.declared.lines.Cursor.{Cursor}
 use Rattle.uc_system.specs.declared.symbols.Ranked.{Ranked}
-use Rattle.uc_system.specs.declared.symbols.Ranks.{Ranks}
 use Rattle.uc_system.specs.Lines.{Outcome, gets, fails}
 use Rattle.uc_system.specs.Symbols.{begins_symbol, is_one_of, symbols_in, SymbolAt, SymbolsAt, no_more_symbols, one_more_symbol, fails_in_symbol}
 use Rattle.uc_system.specs.Reads.{GivesIn, ReadsSymbols}

@@ -1,5 +1,5 @@
 -- A text reads as one system, or is refused for one reason.
-use Rattle.std.proofs.Common.{◌≡◌, ℕ, List, [], refl, ap}
+use Rattle.std.proofs.Common.{◌≡◌, ℕ, List, [], ap}
 use Rattle.std.specs.Prelude.{Result, Ok, Err}
 use Rattle.uc_term.specs.Table.{Table, IsDistinct}
 use Rattle.uc_system.specs.declared.fault.SystemFault.{SystemFault}

@@ -1,5 +1,5 @@
 -- What is read is a description of an order of its own symbols, and facts over them.
-use Rattle.std.proofs.Common.{◌≡◌, ℕ, ◌+◌, ◌<◌, ◌≤◌, ◌==◌, ◌&&◌, ◌||◌, not, nat_lt, nat_le, Bool, true, false, List, [], ◌∷◌, ◌++◌, length, map, refl, sym, ap, ap₂, ◌∙◌, subst, append_assoc, append-nil, arith, Option, Some, None, inl, inr, ◌⊎◌, if◌then◌else◌}
+use Rattle.std.proofs.Common.{◌≡◌, ℕ, ◌<◌, ◌≤◌, ◌==◌, ◌&&◌, ◌||◌, not, nat_lt, nat_le, Bool, true, false, List, [], ◌∷◌, ◌++◌, length, refl, sym, ap, ◌∙◌, subst, append_assoc, append-nil, arith, Option, Some, None, inl, inr, ◌⊎◌, if◌then◌else◌}
 use Rattle.std.specs.Prelude.{bytes_eq, drop, nat_eq}
 use Rattle.std.specs.List.{starts_with}
 use Rattle.std.proofs.lemmas.Bool.Decides.{nat_tests}
@@ -11,7 +11,6 @@ use Rattle.uc_clause.specs.Printable.{IsPrintableSymbol}
 use Rattle.uc_order.specs.Members.{In, in_front, in_rest, Each, AreDistinct}
 use Rattle.uc_kbo.specs.declared.weights.Weighed.{Weighed}
 use Rattle.uc_kbo.specs.Faults.{weighed, IsBad, NoneBad, HasConstant}
-use Rattle.uc_ordering.specs.Fits.{Fits}
 use Rattle.uc_ordering.specs.Weights.{MAX_WEIGHT}
 use Rattle.uc_system.specs.declared.fault.SystemFault.{SystemFault}
 use Rattle.uc_system.specs.declared.header.Kind.{Kind}
@@ -20,7 +19,7 @@ use Rattle.uc_system.specs.declared.header.Header.{Header}
 use Rattle.uc_system.specs.declared.symbols.Ranked.{Ranked}
 use Rattle.uc_system.specs.declared.system.SystemText.{SystemText}
 use Rattle.uc_system.specs.Numerals.{is_numeral, value_of}
-use Rattle.uc_system.specs.Lines.{Cut, first_line, departs, Outcome, gets, fails, goes_on, fails_first, passed_or, value_or, picked}
+use Rattle.uc_system.specs.Lines.{Cut, first_line, departs, Outcome, gets, goes_on, passed_or, value_or, picked}
 use Rattle.uc_system.specs.Header.{weighing_words, paths_line, weighing_of, kind_of, header_lines}
 use Rattle.uc_system.specs.Symbols.{begins_symbol, symbols_in, weights_in, is_bad_weight, weighs_nothing, is_one_of, symbol_fault, has_light, has_constant, SymbolAt, is_no_whole_line, is_no_symbol, has_too_many, is_symbol, SymbolsAt, no_more_symbols, one_more_symbol, fails_in_symbol, symbols_fault}
 use Rattle.uc_system.specs.Facts.{IsFact, FactsAt, no_more_facts, one_more_fact, has_large_term, is_no_fact}

@@ -1,5 +1,5 @@
 -- What is printed of names, terms and facts stands in one line.
-use Rattle.std.proofs.Common.{◌≡◌, ℕ, ◌+◌, ◌<◌, ◌≤◌, ◌^◌, ◌==◌, ◌||◌, Bool, true, false, not, ◌&&◌, List, [], ◌∷◌, ◌++◌, refl, sym, ap, ◌∙◌, arith, decimal, cond}
+use Rattle.std.proofs.Common.{◌≡◌, ℕ, ◌+◌, ◌<◌, ◌^◌, ◌==◌, ◌||◌, Bool, true, false, List, [], ◌∷◌, ◌++◌, refl, arith, decimal}
 use Rattle.std.specs.Prelude.{codes}
 use Rattle.std.specs.List.{list_all}
 use Rattle.std.proofs.lemmas.Bool.Decides.{nat_tests}
@@ -58,7 +58,7 @@ module _ (table : Table) where
   pub fact_in_line : (k : ℕ) (e : Equation) → k < 2 ^ 64 → IsReadable table e.left → IsReadable table e.right → InLine (fact_line table k e)
   fact_in_line k e small left right =
       all_append in_line (fact_front k ++ equation_text table true e.left e.right) fact_end
-          (all_append in_line (fact_front k) (equation_text table true e.left e.right)
-              (all_append in_line (codes "cnf(s" ++ decimal k) (codes ", plain, ") (all_append in_line (codes "cnf(s") (decimal k) refl (decimal_in_line k small)) refl)
-              (all_append in_line (term_text table e.left ++ sign_text true) (term_text table e.right) (all_append in_line (term_text table e.left) (sign_text true) (term_in_line e.left left) refl) (term_in_line e.right right)))
-          refl
+      (all_append in_line (fact_front k) (equation_text table true e.left e.right)
+      (all_append in_line (codes "cnf(s" ++ decimal k) (codes ", plain, ") (all_append in_line (codes "cnf(s") (decimal k) refl (decimal_in_line k small)) refl)
+      (all_append in_line (term_text table e.left ++ sign_text true) (term_text table e.right) (all_append in_line (term_text table e.left) (sign_text true) (term_in_line e.left left) refl) (term_in_line e.right right)))
+      refl

@@ -4,7 +4,7 @@
 --   % end
 --
 -- An equation stands as it is printed, with its variables numbered by first occurrence and symbols of the symbols' lines alone.
-use Rattle.std.specs.Prelude.{◌≡◌, ◌≢◌, ℕ, ◌+◌, ◌<◌, ◌≤◌, true, List, [], ◌∷◌, ◌++◌, length, codes, decimal, slice_get, Some, None}
+use Rattle.std.specs.Prelude.{◌≡◌, ◌≢◌, ℕ, ◌+◌, ◌≤◌, true, List, [], ◌∷◌, ◌++◌, length, codes, decimal, slice_get, Some, None}
 use Rattle.uc_term.specs.declared.node.Sym.{Sym}
 use Rattle.uc_term.specs.declared.equation.Equation.{Equation}
 use Rattle.uc_term.specs.Tree.{Tree, nodes}
@@ -21,7 +21,6 @@ use Rattle.uc_clause.specs.Parse.{Parse}
 use Rattle.uc_clause.specs.Terms.{Term}
 use Rattle.uc_clause.specs.Printing.{equation_text}
 use Rattle.uc_order.specs.Members.{In}
-use Rattle.uc_system.specs.declared.fault.SystemFault.{SystemFault}
 use Rattle.uc_system.specs.declared.fault.SystemFault.TheVariants.{Limit}
 use Rattle.uc_system.specs.Lines.{Cut, first_line, place_in, departs, Outcome, gets, fails, Rule}
 

@@ -16,7 +16,7 @@ use Rattle.uc_system.specs.declared.header.Kind.TheVariants.{Weighing, Paths}
 use Rattle.uc_system.specs.declared.header.Header.{Header}
 use Rattle.uc_system.specs.declared.symbols.Ranked.{Ranked}
 use Rattle.uc_system.specs.declared.system.SystemText.{SystemText}
-use Rattle.uc_system.specs.Lines.{departs, Outcome, gets, fails, Rule, ◌>>=◌, gives}
+use Rattle.uc_system.specs.Lines.{departs, gets, fails, Rule, ◌>>=◌, gives}
 use Rattle.uc_system.specs.Header.{header_lines}
 use Rattle.uc_system.specs.Symbols.{symbols_in, weights_in, symbol_lines, are_complete}
 use Rattle.uc_system.specs.Facts.{fact_lines, IsFact}

@@ -53,8 +53,11 @@ impl<T: Drop> From<AllocFailed<T>> for Unread {
 }
 
 const FRONT: &[u8] = b"cnf(s";
+
 const ROLE: &[u8] = b", plain, ";
+
 const END: &[u8] = b").";
+
 const END_LINE: &[u8] = b"% end";
 
 // What stands before the equation of the fact of this number.

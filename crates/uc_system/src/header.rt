@@ -89,6 +89,7 @@ fn version_at(bytes: &[u8], at: Cursor) -> Result<(bool, Cursor), SystemFault>
 }
 
 const WEIGHING: &[u8] = b"% order kbo ";
+
 const PATHS: &[u8] = b"% order lpo";
 
 // The order with this weight of a variable.

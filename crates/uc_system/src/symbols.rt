@@ -298,9 +298,7 @@ pub(crate) fn symbols_fault(
 fn has_light(header: Header, ranked: &[Ranked]) -> bool
     ensures { result ≡ has_light header ranked.now }
 {
-    ranked
-        .iter()
-        .any(|s| weighs_nothing(header.kind, s.weight))
+    ranked.iter().any(|s| weighs_nothing(header.kind, s.weight))
 }
 
 fn has_constant(ranked: &[Ranked], symbols: &Symbols) -> bool

@@ -1,6 +1,3 @@
-use Rattle.std.proofs.Common.{◌≡◌, ◌++◌, List, ℕ, sym, ap, ◌∙◌, subst, Ok}
-use Rattle.uc_system.specs.Reading.{ReadsSystem}
-use Rattle.uc_system.specs.Printing.{system_text}
 use Rattle.uc_system.proofs.PrintedSystem.{printed_read}
 use Rattle.uc_system.proofs.printing.print_system.Goals as goal
 
