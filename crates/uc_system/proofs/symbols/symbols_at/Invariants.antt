@@ -1,0 +1,18 @@
+use Rattle.std.proofs.Common.{◌≡◌, ◌-◌, List, [], length, drop}
+use Rattle.uc_term.specs.Table.{Table, Grows}
+use Rattle.uc_system.specs.declared.symbols.Ranked.{Ranked}
+use Rattle.uc_system.specs.Lines.{Outcome}
+use Rattle.uc_system.specs.Places.{IsAt}
+use Rattle.uc_system.specs.Symbols.{symbols_in, SymbolsAt}
+use Rattle.uc_system.proofs.symbols.symbols_at.Given as goal
+
+abbrev pub invariant-lines : goal.invariant-lines
+invariant-lines l = record {
+  stands : IsAt l.bytes l.here;
+  same : l.known.keys ≡ symbols_in l.ranked.items;
+  grows : Grows l.initial.symbols l.symbols;
+  leads : (later : Table) → Grows l.symbols later → (o : Outcome (List Ranked)) → SymbolsAt later l.header l.ranked.items l.here.number (drop l.here.from l.bytes) o → SymbolsAt later l.header [] l.fn.at.number (drop l.fn.at.from l.bytes) o;
+}
+
+abbrev pub decreases-lines : goal.decreases-lines
+decreases-lines l = length l.bytes - l.here.from

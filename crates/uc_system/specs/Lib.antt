@@ -1,0 +1,12 @@
+pub mod Numerals
+pub mod Lines
+pub mod Header
+pub mod Symbols
+pub mod Facts
+pub mod Reading
+pub mod Printing
+pub mod Printable
+pub mod Places
+pub mod Written
+pub mod Reads
+pub mod Unread
