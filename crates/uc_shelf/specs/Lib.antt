@@ -1,0 +1,5 @@
+pub mod Sights
+pub mod Fronts
+pub mod Entries
+pub mod Viewing
+pub mod Rising
