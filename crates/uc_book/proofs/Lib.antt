@@ -1,0 +1,14 @@
+pub mod Lists
+pub mod Kept
+pub mod Accounts
+pub mod Blocks
+pub mod Found
+pub mod Steps
+pub mod Calls
+pub mod Meetings
+pub mod Grows
+pub mod Promises
+pub mod Fronts
+pub mod Runs
+pub mod Earlier
+pub mod AtRest

@@ -1,0 +1,12 @@
+use Rattle.std.proofs.Common.{◌≤◌, drop}
+use Rattle.uc_term.specs.Flat.{tree_of}
+use Rattle.uc_fact.specs.Live.{rules_of}
+use Rattle.uc_shelf.specs.Entries.{live, living}
+use Rattle.uc_shelf.proofs.Viewed.{Passes}
+use Rattle.uc_shelf.proofs.view.ViewIndex.first_that.Given as goal
+
+abbrev pub invariant-loop-k : goal.invariant-loop-k
+invariant-loop-k g l = record {
+  few : l.number ≤ l.k;
+  passes : Passes (tree_of l.term) (g.T.Test.accepts l.test) (rules_of (live l.self-inside.front.now.entries)) (rules_of (living l.self-inside.front.now.entries l.number (drop l.k l.self-inside.front.now.entries)));
+}

@@ -1,0 +1,4 @@
+pub mod Sights
+pub mod Fronts
+pub mod Entries
+pub mod Viewing

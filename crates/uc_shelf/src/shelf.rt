@@ -1,0 +1,160 @@
+//! The shelf, and the fronts that stand on it.
+
+ghost use Rattle.std.specs.Prelude.{◌≡◌, ◌↔◌, ◌+◌, ◌<◌, ◌≤◌, ◌^◌, ◌++◌, ◌∷◌, [], length, slice_get, Some, IsTrue, IfOk, OnOk, OnErr};
+ghost use Rattle.boxcar.specs.Table.{Shows};
+ghost use Rattle.uc_shelf.specs.Fronts.{IsOf};
+
+use crate::Entry;
+use boxcar::Pushed;
+use std::alloc::{AllocError, Global};
+use std::marker::Model;
+use std::sync::{Arc, Wait};
+
+/// Entries that workers share. It only grows, and an entry stays where it was put. A contract sees which shelf it is, and
+/// not what stands on it.
+#[derive(Drop)]
+pub struct Shelf {
+    slots: boxcar::Vec<Entry>,
+}
+
+impl Model for Shelf {
+    ghost use Rattle.boxcar.specs.Table.{Shelves, shelves_coded};
+
+    ghost Value = { Shelves };
+
+    ghost coded = { shelves_coded };
+
+    ghost view = { λ s. s.slots };
+}
+
+/// A list of entries, by their places on a shelf. No other front's entries are changed by what is put on it, and it isn't
+/// changed by what is put on others.
+#[derive(Drop)]
+pub struct Front {
+    places: Vec<Arc<Pushed<Entry>>>,
+}
+
+impl Model for Front {
+    ghost use Rattle.std.specs.Prelude.{◌≤◌, ◌^◌, length};
+    ghost use Rattle.std.specs.Coded.{codes};
+    ghost use Rattle.uc_term.specs.Code.{tree_code};
+    ghost use Rattle.uc_shelf.specs.Sights.{Sight, entries_at, homes_of};
+
+    ghost Value = { Sight };
+
+    ghost coded = { Prim.hlevel (codes, tree_code) };
+
+    ghost view = { λ f. record { entries = entries_at f.places.items; homes = homes_of f.places.items } };
+
+    ghost invariant = { λ f. length f.places.items ≤ 2 ^ 31 };
+}
+
+impl Shelf {
+    /// A shelf with nothing on it.
+    pub fn new(alloc: Global) -> Result<Shelf, AllocError> {
+        Ok(Shelf {
+            slots: boxcar::Vec::new(alloc)?,
+        })
+    }
+
+    /// Puts one more entry on the shelf, at the end of the front, by one push. For want of memory the entry is dropped and
+    /// the front stays; the shelf may then hold an entry that no front has.
+    pub fn publish<R: Wait>(
+        &self,
+        rt: &R,
+        alloc: Global,
+        front: &mut Front,
+        entry: Entry,
+    ) -> Result<(), AllocError>
+        requires of { IsOf self.now front.old }
+        requires room { length front.old.entries < 2 ^ 31 }
+        ensures ok { OnOk result (front.new.entries ≡ front.old.entries ++ entry ∷ []) }
+        ensures err { OnErr result (front.new ≡ front.old) }
+        ensures of { IsOf self.now front.new }
+    {
+        front.places.reserve(1)?;
+        let Ok(pushed) = self.slots.push_shown(rt, entry) else {
+            return Err(AllocError);
+        };
+        let place = Arc::new(alloc, pushed)?;
+        front.places.push_reserved(place);
+        Ok(())
+    }
+
+    /// The entry of a number, from 0, of the front.
+    pub fn read<'a>(&'a self, front: &Front, k: u32) -> &'a Entry
+        requires of { IsOf self.now front.now }
+        requires inside { k < length front.now.entries }
+        ensures { Some result.now ≡ slice_get front.now.entries k }
+    {
+        self.slots.value(&*front.places[k as usize])
+    }
+
+    /// Whether the two lists of entries are equal.
+    pub fn same(&self, a: &Front, b: &Front) -> bool
+        requires a_of { IsOf self.now a.now }
+        requires b_of { IsOf self.now b.now }
+        ensures { IsTrue result ↔ (a.now.entries ≡ b.now.entries) }
+    {
+        if a.places.len() != b.places.len() {
+            return false;
+        }
+        for k in 0..a.places.len() {
+            if !self.same_place(&*a.places[k], &*b.places[k]) {
+                return false;
+            }
+        }
+        true
+    }
+
+    /// Whether the entries at two places are equal. Equal places show it without a look at the entries.
+    fn same_place(&self, a: &Pushed<Entry>, b: &Pushed<Entry>) -> bool
+        requires { Shows self.now a.now × Shows self.now b.now }
+        ensures { IsTrue result ↔ (a.now.value ≡ b.now.value) }
+    {
+        if a.index() == b.index() {
+            self.slots.agrees(a, b);
+            return true;
+        }
+        self.slots.value(a).same(self.slots.value(b))
+    }
+}
+
+impl Front {
+    /// The front with no entry. It takes no memory.
+    pub fn empty(alloc: Global) -> Front
+        ensures entries { result.entries ≡ [] }
+        ensures homes { result.homes ≡ [] }
+    {
+        Front {
+            places: Vec::new(alloc),
+        }
+    }
+
+    /// How many entries there are.
+    pub fn len(&self) -> u32
+        ensures value { result ≡ length self.now.entries }
+        ensures few { result ≤ 2 ^ 31 }
+    {
+        self.places.len() as u32
+    }
+
+    /// Whether there is no entry.
+    pub fn is_empty(&self) -> bool
+        ensures { IsTrue result ↔ (self.now.entries ≡ []) }
+    {
+        self.places.is_empty()
+    }
+
+    /// A front of the same entries, at the same places.
+    pub fn copy(&self, alloc: Global) -> Result<Front, AllocError>
+        ensures { IfOk result (λ front. front ≡ self.now) }
+    {
+        let mut places = Vec::new(alloc);
+        places.reserve(self.places.len())?;
+        for place in &self.places {
+            places.push(Arc::try_clone(place)?)?;
+        }
+        Ok(Front { places })
+    }
+}
