@@ -9,3 +9,16 @@ pub mod Finals
 pub mod Runs
 pub mod Events
 pub mod Promises
+pub mod Openings
+pub mod Origins
+pub mod Answers
+pub mod Bounds
+pub mod RowViews
+pub mod GoalRows
+pub mod FactRows
+pub mod PairRows
+pub mod TaskRows
+pub mod Parts
+pub mod Drawing
+pub mod Ending
+pub mod Committing

@@ -1,0 +1,69 @@
+//! Chains that go on.
+
+ghost use Rattle.std.specs.Prelude.{◌≡◌, ◌+◌, ◌≤◌, ◌++◌, [], length, vec_len, vec_capacity, OnOk, OnErr, IfErr};
+ghost use Rattle.uc_book.specs.Chains.{end_of, followed_by};
+ghost use Rattle.uc_book.specs.Effects.{goes_on};
+ghost use Rattle.uc_book.specs.GoalRows.{target_of};
+
+use crate::goals::GoalRow;
+use std::alloc::Global;
+use std::mem;
+use uc_fact::{Chain, Step};
+use uc_term::{Seq, Term};
+
+/// The term to which a chain leads.
+pub(crate) fn end_of(chain: &Chain) -> &Term
+    ensures { result.now ≡ end_of chain.now }
+{
+    match chain.steps.as_slice().last() {
+        None => &chain.start,
+        Some(step) => &step.to,
+    }
+}
+
+/// Takes the steps of a chain out, for more to be put behind them.
+fn steps_of(alloc: Global, chain: &mut Chain) -> Vec<Step>
+    ensures steps { result.items ≡ chain.old.steps }
+    ensures rest { chain.new ≡ record chain.old { steps = [] } }
+{
+    mem::replace(&mut chain.steps, Seq::new(alloc)).into_vec()
+}
+
+/// Puts the steps of two chains behind those of a goal. For want of memory nothing changes, and the chains are handed back.
+pub(crate) fn go_on(
+    alloc: Global,
+    row: &mut GoalRow,
+    left: Chain,
+    right: Chain,
+) -> Result<(), (Chain, Chain)>
+    ensures ok { OnOk result (target_of row.new ≡ goes_on left right (target_of row.old)) }
+    ensures err { OnErr result (row.new ≡ row.old) }
+    ensures back { IfErr result (λ e. (e.0 ≡ left) × (e.1 ≡ right)) }
+{
+    let mut left_steps = steps_of(alloc, &mut row.left);
+    let mut right_steps = steps_of(alloc, &mut row.right);
+    let has_room = left_steps.reserve(left.steps.len()).is_ok()
+        && right_steps.reserve(right.steps.len()).is_ok();
+    if !has_room {
+        row.left.steps = Seq::from_vec(left_steps);
+        row.right.steps = Seq::from_vec(right_steps);
+        return Err((left, right));
+    }
+    put_behind(&mut left_steps, left);
+    put_behind(&mut right_steps, right);
+    row.left.steps = Seq::from_vec(left_steps);
+    row.right.steps = Seq::from_vec(right_steps);
+    Ok(())
+}
+
+/// Puts the steps of a chain behind others, in room that is there.
+fn put_behind(steps: &mut Vec<Step>, chain: Chain)
+    requires { vec_len steps.old + length chain.steps ≤ vec_capacity steps.old }
+    ensures { steps.new.items ≡ steps.old.items ++ chain.steps }
+{
+    let mut more = chain.steps.into_vec();
+    match steps.append(&mut more) {
+        Ok(()) => (),
+        Err(_) => prove!(false),
+    }
+}
