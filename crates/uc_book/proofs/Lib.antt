@@ -12,3 +12,16 @@ pub mod Fronts
 pub mod Runs
 pub mod Earlier
 pub mod AtRest
+pub mod Items
+pub mod Histories
+pub mod Sound
+pub mod Handing
+pub mod Fitting
+pub mod Dropping
+pub mod Fitness
+pub mod Booked
+pub mod GoalCount
+pub mod Drawn
+pub mod FactRows
+pub mod GoalRows
+pub mod Returning

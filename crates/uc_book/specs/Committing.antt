@@ -26,6 +26,19 @@ IsGoalJob (More g l r) n = g ≡ n
 IsGoalJob (Meet i) n = ⊥
 IsGoalJob (Join p o) n = ⊥
 
+abbrev pub HasGoal : Job → Type 0
+HasGoal (Goal g l r) = ⊤
+HasGoal (More g l r) = ⊤
+HasGoal (Meet i) = ⊥
+HasGoal (Join p o) = ⊥
+
+-- the job is about this pair
+abbrev pub IsPairJob : Job → ℕ → Type 0
+IsPairJob (Goal g l r) n = ⊥
+IsPairJob (More g l r) n = ⊥
+IsPairJob (Meet i) n = ⊥
+IsPairJob (Join p o) n = p ≡ n
+
 -- the event of its commit
 abbrev pub commit_word : Job → ℕ → ℕ → GoalEnd → Happening
 commit_word (Goal g l r) n steps end = CommitGoal n steps end
@@ -52,3 +65,14 @@ IsFor (Join p o) (Kept f) = ⊤
 IsFor (Meet i) (Stale k) = ⊤
 IsFor (Meet i) (Met ks fs) = AreRising 0 ks × AreBelow i ks
 IsFor j f = ⊥
+
+-- the result is that of a goal
+abbrev pub HasEnds : Finding → Type 0
+HasEnds (Ends a b stop) = ⊤
+HasEnds (Joined why) = ⊥
+HasEnds (Kept f) = ⊥
+HasEnds (Stale k) = ⊥
+HasEnds (Met ks fs) = ⊥
+
+abbrev pub HasNoEnds : Finding → Type 0
+HasNoEnds f = HasEnds f → ⊥

@@ -1,5 +1,5 @@
 -- The entries and the facts as the code holds them.
-use Rattle.std.specs.Prelude.{◌≡◌, ℕ, ◌+◌, ◌<◌, ◌^◌, ◌-◌, List, [], ◌∷◌, ◌++◌, Bool, false, map, length, cond, Option, Some, None, slice_get, slice_index_or, vec_len, vec_capacity}
+use Rattle.std.specs.Prelude.{◌≡◌, ℕ, ◌+◌, ◌<◌, ◌≤◌, ◌^◌, ◌-◌, List, [], ◌∷◌, ◌++◌, Bool, false, map, length, cond, Option, Some, None, slice_get, slice_index_or, vec_len, vec_capacity}
 use Rattle.uc_shelf.specs.declared.entry.Entry.{Entry}
 use Rattle.uc_shelf.specs.declared.entry.Entry.TheVariants.{Born, Dies}
 use Rattle.uc_term.specs.Tree.{nodes}
@@ -41,6 +41,8 @@ NoneUnmetBelow n rows = (k : ℕ) (d : FactRow) → k < n → k < length rows �
 pub record AreFacts (f : Inside) : Type 0 where
   pub rows : AreRows f.front.entries f.rows.items
   pub met : NoneUnmetBelow f.unmet_from f.rows.items
+  pub within : f.unmet_from ≤ length f.rows.items
+  pub few : length f.rows.items ≤ 2 ^ 31
 
 -- the entries have one more, the birth of a fact whose sides have this weight
 pub record HasOneMore (es fs : List Entry) (weight : ℕ) : Type 0 where

@@ -39,6 +39,7 @@ pub record Fit (shelf : Shelves) (p : Parts) : Type 0 where
   pub next : p.next ≡ next_ticket (state_of p)
   pub fronts : Each (HasFront shelf p.facts.front.entries) p.tasks.items
   pub few : length p.tasks.items < 2 ^ 32
+  pub workers : length p.numbers.items ≡ 65
 
 -- a close may still come
 abbrev pub closings : Option Verdict → ℕ
@@ -87,10 +88,10 @@ IsAtHead p (More g l r) = ⊤
 IsAtHead p (Meet i) = ⊤
 IsAtHead p (Join n o) = option_map (λ (e : Place). e.number) (head_in p.pairs) ≡ Some n
 
--- the pair of a Join is out to the worker
+-- the goal is one of the book's; the pair of a Join is out to the worker
 abbrev pub IsSubjectOut : Parts → ℕ → Job → Type 0
-IsSubjectOut p w (Goal g l r) = ⊤
-IsSubjectOut p w (More g l r) = ⊤
+IsSubjectOut p w (Goal g l r) = g < length p.goals
+IsSubjectOut p w (More g l r) = g < length p.goals
 IsSubjectOut p w (Meet i) = ⊤
 IsSubjectOut p w (Join n o) = map_option (λ (x : Pair). x.condition) (slice_get p.pairs.pairs n) ≡ Some (OutTo w)
 

@@ -144,8 +144,17 @@ impl<'a, O: Order> Book<'a, O> {
         ensures refused { IfErr result (λ e. (e.0 ≡ done) × IsRefused self.old.state pass.old.worker done e.1) }
         ensures err { OnErr result ((self.new ≡ self.old) × (pass.new ≡ pass.old)) }
     {
-        let _ = (rt, alloc, pass);
-        Err((done, CommitFault::NoMemory))
+        let opening = self.opening();
+        match self
+            .parts
+            .commit(rt, alloc, self.shelf, &opening, pass.worker(), done)
+        {
+            Ok(receipt) => {
+                pass.count();
+                Ok(receipt)
+            }
+            Err(refused) => Err(refused),
+        }
     }
 
     /// Lets a task wait again. `NotOut` comes exactly where the ticket isn't out to this worker. It takes no memory.
@@ -185,8 +194,8 @@ impl<'a, O: Order> Book<'a, O> {
         ensures book { IsSameBook self.old self.new }
         ensures err { OnErr result (self.new ≡ self.old) }
     {
-        let _ = (rt, alloc, missing);
-        Err(AllocError)
+        let opening = self.opening();
+        self.parts.audit(rt, alloc, self.shelf, &opening, missing.fact)
     }
 
     /// Closes a drained book by what its final pass answers. It takes no memory.

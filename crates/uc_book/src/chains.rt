@@ -6,7 +6,7 @@ ghost use Rattle.uc_book.specs.Effects.{goes_on};
 ghost use Rattle.uc_book.specs.GoalRows.{target_of};
 
 use crate::goals::GoalRow;
-use std::alloc::Global;
+use std::alloc::{AllocError, Global};
 use std::mem;
 use uc_fact::{Chain, Step};
 use uc_term::{Seq, Term};
@@ -29,6 +29,22 @@ fn steps_of(alloc: Global, chain: &mut Chain) -> Vec<Step>
     mem::replace(&mut chain.steps, Seq::new(alloc)).into_vec()
 }
 
+/// Makes room for so many more steps of each.
+fn make_room(
+    left: &mut Vec<Step>,
+    right: &mut Vec<Step>,
+    more_left: usize,
+    more_right: usize,
+) -> Result<(), AllocError>
+    ensures left { left.new.items ≡ left.old.items }
+    ensures right { right.new.items ≡ right.old.items }
+    ensures room_left { OnOk result (vec_len left.new + more_left ≤ vec_capacity left.new) }
+    ensures room_right { OnOk result (vec_len right.new + more_right ≤ vec_capacity right.new) }
+{
+    left.reserve(more_left)?;
+    right.reserve(more_right)
+}
+
 /// Puts the steps of two chains behind those of a goal. For want of memory nothing changes, and the chains are handed back.
 pub(crate) fn go_on(
     alloc: Global,
@@ -42,18 +58,25 @@ pub(crate) fn go_on(
 {
     let mut left_steps = steps_of(alloc, &mut row.left);
     let mut right_steps = steps_of(alloc, &mut row.right);
-    let has_room = left_steps.reserve(left.steps.len()).is_ok()
-        && right_steps.reserve(right.steps.len()).is_ok();
-    if !has_room {
-        row.left.steps = Seq::from_vec(left_steps);
-        row.right.steps = Seq::from_vec(right_steps);
-        return Err((left, right));
+    match make_room(
+        &mut left_steps,
+        &mut right_steps,
+        left.steps.len(),
+        right.steps.len(),
+    ) {
+        Ok(()) => {
+            put_behind(&mut left_steps, left);
+            put_behind(&mut right_steps, right);
+            row.left.steps = Seq::from_vec(left_steps);
+            row.right.steps = Seq::from_vec(right_steps);
+            Ok(())
+        }
+        Err(_) => {
+            row.left.steps = Seq::from_vec(left_steps);
+            row.right.steps = Seq::from_vec(right_steps);
+            Err((left, right))
+        }
     }
-    put_behind(&mut left_steps, left);
-    put_behind(&mut right_steps, right);
-    row.left.steps = Seq::from_vec(left_steps);
-    row.right.steps = Seq::from_vec(right_steps);
-    Ok(())
 }
 
 /// Puts the steps of a chain behind others, in room that is there.

@@ -1,21 +1,28 @@
 //! Commits: what the result of a task changes.
 
-ghost use Rattle.std.specs.Prelude.{◌≡◌, ◌+◌, ◌<◌, ◌^◌, ◌++◌, ◌∷◌, [], length, IfOk, IfErr, OnOk, OnErr, IfSome, MatchOption, Some, None};
-ghost use Rattle.uc_order.specs.Laws.{Meaning};
+ghost use Rattle.std.specs.Prelude.{◌≡◌, ⊤, ◌+◌, ◌<◌, ◌≤◌, ◌++◌, ◌∷◌, [], true, false, nat_lt, length, remove, IfOk, IfErr, OnOk, OnErr, IfSome, MatchOption, Some, None, vec_len, vec_capacity};
+ghost use Rattle.uc_fact.specs.declared.fact.Fact.{Fact as AnyFact};
+ghost use Rattle.uc_ledger.specs.declared.ledger.State.TheVariants.{Done as IsDone};
 ghost use Rattle.uc_shelf.specs.Fronts.{IsOf};
-ghost use Rattle.uc_book.specs.State.{Out};
-ghost use Rattle.uc_book.specs.Commits.{Commits, IsOutTo, end_word, next_event};
+ghost use Rattle.uc_shelf.specs.declared.entry.Entry.TheVariants.{Born};
+ghost use Rattle.uc_book.specs.declared.event.Verdict.TheVariants.{Proved};
+ghost use Rattle.uc_book.specs.declared.event.GoalEnd.TheVariants.{Met as EndsMet};
+ghost use Rattle.uc_book.specs.declared.task.Finding.TheVariants.{Kept};
+ghost use Rattle.uc_book.specs.State.{Opening, Out, is_draw_what};
+ghost use Rattle.uc_book.specs.Effects.{accepts, closes, stages, turns, publishes};
+ghost use Rattle.uc_book.specs.Commits.{Commits, IsOutTo, end_word};
 ghost use Rattle.uc_book.specs.Openings.{opening_of};
-ghost use Rattle.uc_book.specs.Results.{IsResult};
-ghost use Rattle.uc_book.specs.Answers.{IsNotOut, IsRefusedBy, IsTakenIn};
+ghost use Rattle.uc_book.specs.Answers.{IsCommitted, IsNotOut, IsRefused};
+ghost use Rattle.uc_book.specs.FactRows.{HasOneMore};
 ghost use Rattle.uc_book.specs.TaskRows.{StandsAt};
-ghost use Rattle.uc_book.specs.Parts.{state_of, Fit, HasRoom};
-ghost use Rattle.uc_book.specs.Ending.{CanEnd};
-ghost use Rattle.uc_book.specs.Committing.{stage_by, IsGoalJob, commit_word};
+ghost use Rattle.uc_book.specs.Parts.{state_of, closings, Fit, HasRoom, SameSubjects, SameCounts};
+ghost use Rattle.uc_book.specs.Ending.{CanEnd, AnyAt, CanAccept, HasEnded};
+ghost use Rattle.uc_book.specs.Committing.{stage_by, commit_word, HasGoal, IsGoalJob, IsPairJob, IsFor, HasEnds, HasNoEnds};
 
 use crate::answer::{CommitFault, Receipt};
 use crate::chains::end_of;
 use crate::event::{GoalEnd, Happening, Verdict};
+use crate::opened::Opened;
 use crate::parts::Parts;
 use crate::state::Stage;
 use crate::task::{Finding, Job};
@@ -26,8 +33,8 @@ use std::sync::Wait;
 use uc_fact::{Fact, Stop};
 use uc_shelf::{Entry, Front, Shelf};
 
-/// The most entries that a front may have before one more is published.
-pub(crate) const MAX_ENTRIES: u32 = 0x7fff_ffff;
+/// The most entries of a front.
+pub(crate) const MAX_ENTRIES: u32 = 0x8000_0000;
 
 /// How the normalising of a goal ended, where its ends differ.
 fn end_word(stop: Stop) -> GoalEnd
@@ -60,6 +67,18 @@ fn stage_after(stop: Stop, has_grown: bool) -> Stage
                 Stage::Stuck
             }
         }
+    }
+}
+
+/// The goal that a job is about.
+fn goal_of(job: &Job) -> u32
+    requires { HasGoal job.now }
+    ensures { IsGoalJob job.now result }
+{
+    match job {
+        Job::Goal { goal, .. } => *goal,
+        Job::More { goal, .. } => *goal,
+        Job::Meet(_) | Job::Join { .. } => unreachable!(),
     }
 }
 
@@ -152,7 +171,7 @@ impl Parts {
         ensures room { HasRoom self.new }
     {
         if let Finding::Ends { .. } = &done.found {
-            return self.take_ends(alloc, at, done);
+            return self.take_ends(alloc, opening, at, done);
         }
         match self.take_found(rt, alloc, shelf, opening, at, &done.job, &done.found) {
             Ok(()) => Ok(()),
@@ -259,8 +278,9 @@ impl Parts {
     /// Takes over a front with one fact more, which is Unmet; goals that rest become Due.
     pub(crate) fn publish(&mut self, front: Front, weight: u32)
         requires grew { HasOneMore self.old.facts.front.entries front.entries weight }
+        requires few { length front.entries ≤ 2 ^ 31 }
         requires room { 1 ≤ self.old.facts.room }
-        ensures state { (f : Fact) → front.entries ≡ self.old.facts.front.entries ++ Born f ∷ [] → state_of self.new ≡ publishes f (state_of self.old) }
+        ensures state { (f : AnyFact) → front.entries ≡ self.old.facts.front.entries ++ Born f ∷ [] → state_of self.new ≡ publishes f (state_of self.old) }
         ensures front { self.new.facts.front ≡ front }
         ensures rest { SameCounts self.old self.new }
     {
@@ -269,39 +289,100 @@ impl Parts {
     }
 
     /// The two ends of a goal go on, where no verdict stands.
-    fn take_ends(&mut self, alloc: Global, at: usize, done: Done) -> Result<(), Done>
-        requires can { (shelf : Shelves) (o : Opening) × CanEnd shelf o self.old }
+    fn take_ends(&mut self, alloc: Global, opening: &Opened, at: usize, done: Done) -> Result<(), Done>
+        requires can { CanEnd opening.now.shelf (opening_of opening.now) self.old }
+        requires open { self.old.verdict ≡ None }
+        requires found { IsFor done.job done.found }
+        requires ends { HasEnds done.found }
+        requires at { AnyAt self.old at }
+        requires job { (t : Out) → StandsAt self.old.tasks.items at t → t.job ≡ done.job }
+        ensures ok { OnOk result ((t : Out) → StandsAt self.old.tasks.items at t → Commits (opening_of opening.now) t done.found (state_of self.old) (state_of self.new)) }
+        ensures back { IfErr result (λ e. e ≡ done) }
+        ensures err { OnErr result ((state_of self.new ≡ state_of self.old) × (self.new.facts.front ≡ self.old.facts.front)) }
+        ensures fit { Fit opening.now.shelf self.new }
+        ensures room { HasRoom self.new }
     {
         let Done {
             ticket,
             job,
             front,
             found,
-            opening,
+            opening: of,
         } = done;
         let Finding::Ends { left, right, stop } = found else {
             unreachable!()
         };
-        let (Job::Goal { goal, .. } | Job::More { goal, .. }) = &job else {
-            unreachable!()
-        };
-        let goal = *goal;
+        let goal = goal_of(&job);
         let met = end_of(&left).same(end_of(&right));
         let steps = (left.steps.len() + right.steps.len()) as u32;
-        if let Err((left, right)) = self.goals.go_on(alloc, goal, left, right) {
-            return Err(Done {
+        match self.goals.go_on(alloc, goal, left, right) {
+            Ok(()) => {
+                self.end_goal(at, &job, goal, steps, met, stop);
+                Ok(())
+            }
+            Err((left, right)) => Err(Done {
                 ticket,
                 job,
                 front,
                 found: Finding::Ends { left, right, stop },
-                opening,
-            });
+                opening: of,
+            }),
         }
+    }
+
+    /// A goal whose ends went on has met, or gets its state.
+    fn end_goal(&mut self, at: usize, job: &Job, goal: u32, steps: u32, met: bool, stop: Stop)
+        requires at { AnyAt self.old at }
+        requires can { (t : Out) → StandsAt self.old.tasks.items at t → CanAccept self.old t }
+        requires room { vec_len self.old.history + 1 < vec_capacity self.old.history }
+        requires job { IsGoalJob job.now goal }
+        ensures met { (t : Out) → StandsAt self.old.tasks.items at t → met ≡ true → state_of self.new ≡ closes t.worker (Proved goal) (accepts t (commit_word job.now goal steps EndsMet) (state_of self.old)) }
+        ensures apart { (t : Out) → StandsAt self.old.tasks.items at t → met ≡ false → state_of self.new ≡ stages (stage_by stop (nat_lt t.front (length self.old.facts.front.entries))) goal (accepts t (commit_word job.now goal steps (end_word stop)) (state_of self.old)) }
+        ensures facts { self.new.facts ≡ self.old.facts }
+        ensures pairs { self.new.pairs ≡ self.old.pairs }
+        ensures tasks { self.new.tasks.items ≡ remove self.old.tasks.items at }
+        ensures next { self.new.next ≡ self.old.next }
+        ensures history { vec_len self.new.history + closings self.new.verdict ≡ vec_len self.old.history + (1 + closings self.old.verdict) }
+        ensures capacity { vec_capacity self.new.history ≡ vec_capacity self.old.history }
+    {
         if met {
-            self.prove(at, &job, goal, steps);
+            self.prove(at, job, goal, steps);
         } else {
-            self.go_on(at, &job, goal, steps, stop);
+            self.rest(at, job, goal, steps, stop);
         }
-        Ok(())
+    }
+
+    /// The ends of a goal are equal, so it is proved.
+    fn prove(&mut self, at: usize, job: &Job, goal: u32, steps: u32)
+        requires at { AnyAt self.old at }
+        requires can { (t : Out) → StandsAt self.old.tasks.items at t → CanAccept self.old t }
+        requires room { vec_len self.old.history + 1 < vec_capacity self.old.history }
+        requires job { IsGoalJob job.now goal }
+        ensures state { (t : Out) → StandsAt self.old.tasks.items at t → state_of self.new ≡ closes t.worker (Proved goal) (accepts t (commit_word job.now goal steps EndsMet) (state_of self.old)) }
+        ensures subjects { SameSubjects self.old self.new }
+        ensures tasks { self.new.tasks.items ≡ remove self.old.tasks.items at }
+        ensures next { self.new.next ≡ self.old.next }
+        ensures verdict { self.new.verdict ≡ Some (Proved goal) }
+        ensures history { vec_len self.new.history ≡ vec_len self.old.history + 2 }
+        ensures capacity { vec_capacity self.new.history ≡ vec_capacity self.old.history }
+    {
+        let worker = self.tasks[at].worker;
+        self.accept(at, goal_event(job, goal, steps, GoalEnd::Met));
+        self.close(worker, Verdict::Proved(goal));
+    }
+
+    /// The ends of a goal differ, so it gets its state.
+    fn rest(&mut self, at: usize, job: &Job, goal: u32, steps: u32, stop: Stop)
+        requires at { AnyAt self.old at }
+        requires can { (t : Out) → StandsAt self.old.tasks.items at t → CanAccept self.old t }
+        requires job { IsGoalJob job.now goal }
+        ensures state { (t : Out) → StandsAt self.old.tasks.items at t → state_of self.new ≡ stages (stage_by stop (nat_lt t.front (length self.old.facts.front.entries))) goal (accepts t (commit_word job.now goal steps (end_word stop)) (state_of self.old)) }
+        ensures facts { self.new.facts ≡ self.old.facts }
+        ensures pairs { self.new.pairs ≡ self.old.pairs }
+        ensures ended { HasEnded self.old at self.new }
+    {
+        let has_grown = self.tasks[at].front.len() < self.facts.front().len();
+        self.accept(at, goal_event(job, goal, steps, end_word(stop)));
+        self.goals.turn(goal, stage_after(stop, has_grown));
     }
 }

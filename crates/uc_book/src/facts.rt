@@ -10,6 +10,7 @@ ghost use Rattle.uc_book.specs.State.{is_unmet};
 ghost use Rattle.uc_book.specs.Effects.{sides_weight};
 ghost use Rattle.uc_book.specs.FactRows.{HasOneMore};
 
+use crate::goals::back_to;
 use crate::state::Meeting;
 use std::alloc::{AllocError, Global};
 use std::marker::Model;
@@ -59,6 +60,7 @@ fn is_unmet(meeting: Meeting) -> bool
 fn unmet_from(rows: &[FactRow], from: usize) -> usize
     ensures none { (k : ℕ) (d : AnyRow) → from ≤ k → k < result → k < length rows.now → is_unmet (slice_index_or rows.now k d).meeting ≡ false }
     ensures some { (d : AnyRow) → result < length rows.now → is_unmet (slice_index_or rows.now result d).meeting ≡ true }
+    ensures within { result ≤ length rows.now }
 {
     for k in from..rows.len() {
         if is_unmet(rows[k].meeting) {
@@ -91,7 +93,8 @@ impl Facts {
 
     /// How many facts are born.
     pub(crate) fn count(&self) -> usize
-        ensures { result ≡ length (born self.now.front.entries) }
+        ensures value { result ≡ length (born self.now.front.entries) }
+        ensures few { result ≤ 2 ^ 31 }
     {
         self.rows.len()
     }
@@ -118,7 +121,6 @@ impl Facts {
 
     /// The least fact that is Unmet.
     pub(crate) fn first_unmet(&mut self) -> Option<u32>
-        requires { length (born self.old.front.entries) < 2 ^ 32 }
         ensures found { result ≡ map_option (λ (f : At AnyMeeting). f.number) (first is_unmet self.old.meetings) }
         ensures same { self.new ≡ self.old }
     {
@@ -139,9 +141,7 @@ impl Facts {
             return;
         }
         self.rows[number].meeting = meeting;
-        if is_unmet(meeting) {
-            self.unmet_from = self.unmet_from.min(number);
-        }
+        self.unmet_from = back_to(self.unmet_from, number, is_unmet(meeting));
     }
 
     /// The meeting of a fact won't be held now: it is Unmet again, or Met where the fact died meanwhile.
@@ -169,6 +169,7 @@ impl Facts {
     /// Takes over a front with one fact more, of this weight, which is Unmet.
     pub(crate) fn adopt(&mut self, front: Front, weight: u32)
         requires grew { HasOneMore self.old.front.entries front.entries weight }
+        requires few { length front.entries ≤ 2 ^ 31 }
         requires room { 1 ≤ self.old.room }
         ensures front { self.new.front ≡ front }
         ensures meetings { self.new.meetings ≡ self.old.meetings ++ Unmet ∷ [] }

@@ -1,6 +1,6 @@
 //! The goals: the chains that lead to their present ends, and what is to be done for each.
 
-ghost use Rattle.std.specs.Prelude.{◌≡◌, ℕ, ◌<◌, ◌≤◌, ◌^◌, length, map, true, false, Some, [], slice_get, slice_index_or, IfOk, IfErr, OnOk, OnErr, MatchOption, None};
+ghost use Rattle.std.specs.Prelude.{◌≡◌, ℕ, ◌<◌, ◌≤◌, ◌^◌, length, map, min, cond, true, false, Some, [], slice_get, slice_index_or, IfOk, IfErr, OnOk, OnErr, MatchOption, None};
 ghost use Rattle.uc_book.specs.declared.goals.GoalRow.{GoalRow as AnyRow};
 ghost use Rattle.uc_book.specs.Lists.{At, first, change, map_option};
 ghost use Rattle.uc_book.specs.Chains.{end_of};
@@ -98,6 +98,14 @@ fn woken(stage: Stage) -> Stage
         Stage::Settled | Stage::Stuck => Stage::Due,
         Stage::Due | Stage::Busy | Stage::Continued => stage,
     }
+}
+
+/// Where a search goes on that found nothing before `from`, where it is to find this number or not.
+#[inline]
+pub(crate) fn back_to(from: usize, number: usize, is_wanted: bool) -> usize
+    ensures { result ≡ cond is_wanted (min from number) from }
+{
+    if is_wanted { from.min(number) } else { from }
 }
 
 /// The least number, from one on, of a goal that is Due; how many goals there are, where there is none.
@@ -217,11 +225,8 @@ impl Goals {
             return;
         }
         self.rows[number].stage = stage;
-        match stage {
-            Stage::Due => self.due_from = self.due_from.min(number),
-            Stage::Continued => self.continued_from = self.continued_from.min(number),
-            Stage::Busy | Stage::Settled | Stage::Stuck => {}
-        }
+        self.due_from = back_to(self.due_from, number, is_due(stage));
+        self.continued_from = back_to(self.continued_from, number, is_continued(stage));
     }
 
     /// There is a new entry: each goal that rests becomes Due.

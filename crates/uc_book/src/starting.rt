@@ -1,10 +1,11 @@
 //! The start of a book.
 
-ghost use Rattle.std.specs.Prelude.{◌≡◌, ℕ, ◌<◌, ◌^◌, [], length, None, IfOk};
+ghost use Rattle.std.specs.Prelude.{◌≡◌, ℕ, ◌<◌, ◌^◌, length, None, IfOk};
+ghost use Rattle.boxcar.specs.Table.{Shelves};
 ghost use Rattle.uc_book.specs.declared.event.Verdict.TheVariants as Verdict;
 ghost use Rattle.uc_book.specs.State.{Opening};
 ghost use Rattle.uc_book.specs.Runs.{Starts, axiom_pairs, opened};
-ghost use Rattle.uc_book.specs.Parts.{state_of, HasRoom};
+ghost use Rattle.uc_book.specs.Parts.{state_of, Fit, HasRoom};
 
 use crate::event::Verdict;
 use crate::facts::Facts;
@@ -40,9 +41,7 @@ impl Parts {
         requires axioms { length problem.now.axioms < 2 ^ 31 }
         requires goals { length problem.now.goals < 2 ^ 31 }
         ensures starts { IfOk result (λ p. (budget : ℕ) → Starts (record { axioms = problem.now.axioms; goals = problem.now.goals; budget = budget; limit = limit }) (state_of p)) }
-        ensures homes { IfOk result (λ p. p.facts.front.homes ≡ []) }
-        ensures next { IfOk result (λ p. p.next ≡ 0) }
-        ensures tasks { IfOk result (λ p. p.tasks.items ≡ []) }
+        ensures fit { IfOk result (λ p. (shelf : Shelves) → Fit shelf p) }
         ensures room { IfOk result HasRoom }
     {
         let axioms = problem.axioms.as_slice();
@@ -67,12 +66,9 @@ fn opened(alloc: Global, problem: &Encoded, pairs: Pairs) -> Result<Parts, Alloc
     requires goals { length problem.now.goals < 2 ^ 31 }
     requires draws { pairs.draws ≡ 0 }
     ensures state { IfOk result (λ p. (o : Opening) → o.goals ≡ problem.now.goals → state_of p ≡ opened o pairs.pairs) }
-    ensures homes { IfOk result (λ p. p.facts.front.homes ≡ []) }
-    ensures next { IfOk result (λ p. p.next ≡ 0) }
-    ensures tasks { IfOk result (λ p. p.tasks.items ≡ []) }
+    ensures fit { IfOk result (λ p. (shelf : Shelves) → Fit shelf p) }
     ensures room { IfOk result HasRoom }
     ensures verdict { IfOk result (λ p. p.verdict ≡ None) }
-    ensures history { IfOk result (λ p. p.history.items ≡ []) }
 {
     let mut history = Vec::new(alloc);
     history.reserve(1)?;

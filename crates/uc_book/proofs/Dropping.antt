@@ -1,0 +1,27 @@
+-- Orphans that leave the queue: it gets shorter, and the rules before stay gone through.
+use Rattle.std.proofs.Common.{◌≡◌, ℕ, zero, suc, ◌+◌, ◌≤◌, ◌<◌, List, [], ◌∷◌, length, Bool, true, false, cond, ◌==◌, Option, Some, None, refl, ap, sym, ◌∙◌, arith, inl, inr, subst, slice_get}
+use Rattle.std.proofs.lemmas.Bool.{cases_Bool}
+use Rattle.uc_queue.specs.declared.entry.Entry.{Entry as Place}
+use Rattle.uc_ledger.specs.declared.ledger.State.{State as Condition}
+use Rattle.uc_ledger.specs.declared.ledger.State.TheVariants.{Orphan}
+use Rattle.uc_book.specs.Lists.{change}
+use Rattle.uc_book.specs.State.{State, Pair, is_waiting, queue_from, queue, peek}
+use Rattle.uc_book.specs.Effects.{drops}
+use Rattle.uc_book.specs.Draws.{NoneUnmet}
+use Rattle.uc_book.proofs.Found.{IsPlace, peek_is}
+
+-- a pair that waited and doesn't wait any more leaves the queue by one
+pub queue_shorter : (c : Condition) → is_waiting c ≡ false → (n k : ℕ) (ps : List Pair) (x : Pair) → slice_get ps k ≡ Some x → is_waiting x.condition ≡ true
+    → length (queue_from n (change (λ (y : Pair). record y { condition = c }) ps k)) + 1 ≡ length (queue_from n ps)
+queue_shorter c w n k [] x e y = absurd (cc)
+queue_shorter c w n zero (p ∷ ps) x e y = (let same : p ≡ x = cc in let b : is_waiting p.condition ≡ true = ap (λ (z : Pair). is_waiting z.condition) same ∙ y in rw (w, b) (omega arith))
+queue_shorter c w n (suc k) (p ∷ ps) x e y = (let ih = queue_shorter c w (suc n) k ps x e y in elim (cases_Bool (is_waiting p.condition)) as (λ _. length (queue_from n (change (λ (y : Pair). record y { condition = c }) (p ∷ ps) (suc k))) + 1 ≡ length (queue_from n (p ∷ ps))) [ inl b ↦ rw b (omega arith) | inr b ↦ rw b ih ])
+
+pub dropped_shorter : (w : ℕ) (s : State) (q : Place) → peek s ≡ Some q → length (queue (drops w q.number s)) + 1 ≡ length (queue s)
+dropped_shorter w s q e =
+    let i : IsPlace 0 s.pairs q = peek_is s q e in
+    let at : slice_get s.pairs q.number ≡ Some i.pair = ap (λ n. slice_get s.pairs n) (let z : q.number ≡ 0 + i.place = i.number in let y : q.number ≡ i.place = omega arith in y) ∙ i.at in
+    queue_shorter Orphan refl 0 q.number s.pairs i.pair at i.waits
+
+pub still_none_unmet : (w n : ℕ) (s : State) → NoneUnmet s → NoneUnmet (drops w n s)
+still_none_unmet w n s h = record { none_due = record { open_ = h.none_due.open_; none_due = h.none_due.none_due }; none_unmet = h.none_unmet }

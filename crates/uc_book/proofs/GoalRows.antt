@@ -1,0 +1,45 @@
+-- The rows of the goals when one changes, and when all wake.
+use Rattle.std.proofs.Common.{◌≡◌, ℕ, zero, suc, ◌+◌, ◌<◌, ◌≤◌, List, [], ◌∷◌, length, get_or, set, map, Bool, true, false, refl, ap, sym, ◌∙◌, arith, inl, inr}
+use Rattle.std.proofs.lemmas.Bool.{cases_eq}
+use Rattle.std.proofs.lemmas.List.{length-set, get_or-set_same, get_or-set_other}
+use Rattle.uc_book.specs.declared.state.Stage.{Stage}
+use Rattle.uc_book.specs.declared.state.Stage.TheVariants.{Due, Busy, Continued, Settled, Stuck}
+use Rattle.uc_book.specs.declared.goals.GoalRow.{GoalRow}
+use Rattle.uc_book.specs.State.{Target, is_continued}
+use Rattle.uc_book.specs.Effects.{wakes, wakes_stage}
+use Rattle.uc_book.specs.GoalRows.{target_of, targets_of, NoneBelow}
+
+pub none-set : (p : Stage → Bool) (rows : List GoalRow) (k from to : ℕ) (y : GoalRow) → k < length rows → to ≤ from → (p y.stage ≡ true → to ≤ k) → NoneBelow p from rows → NoneBelow p to (set rows k y)
+none-set p rows k from to y l low here h j d a b = elim (cases_eq j k) [
+  | inl e ↦ ap (λ i. p (get_or (set rows k y) i d).stage) e ∙ ap (λ (r : GoalRow). p r.stage) (get_or-set_same rows k y d l) ∙ not_here (p y.stage) refl e
+  | inr ne ↦ (let c : j < length rows = omega (arith, length-set rows k y) in ap (λ (r : GoalRow). p r.stage) (get_or-set_other rows k j y d ne) ∙ h j d (omega arith) c)
+]
+  where
+    not_here : (u : Bool) → p y.stage ≡ u → j ≡ k → p y.stage ≡ false
+    not_here true e q = (let low2 : to ≤ k = here e in absurd (omega arith))
+    not_here false e q = e
+
+wakes-twice : (s : Stage) → wakes_stage (wakes_stage s) ≡ wakes_stage s
+wakes-twice Due = refl
+wakes-twice Busy = refl
+wakes-twice Continued = refl
+wakes-twice Settled = refl
+wakes-twice Stuck = refl
+
+pub still_continued : (s : Stage) → is_continued (wakes_stage s) ≡ is_continued s
+still_continued Due = refl
+still_continued Busy = refl
+still_continued Continued = refl
+still_continued Settled = refl
+still_continued Stuck = refl
+
+-- where each goal is awake
+pub awake : (rows : List GoalRow) → ((k : ℕ) (d : GoalRow) → k < length rows → wakes_stage (get_or rows k d).stage ≡ (get_or rows k d).stage) → map wakes (targets_of rows) ≡ targets_of rows
+awake [] h = refl
+awake (r ∷ rs) h = (let e : wakes_stage r.stage ≡ r.stage = h 0 r (omega arith) in ap (λ s. (let t : Target = record { left = r.left; right = r.right; stage = s } in t) ∷ map wakes (targets_of rs)) e ∙ ap (λ ts. target_of r ∷ ts) (awake rs (λ k d l. h (suc k) d (omega arith))))
+
+-- one goal woken before all are
+pub woken-set : (rows : List GoalRow) (k : ℕ) (s : Stage) (row : GoalRow) → k < length rows → ((d : GoalRow) → row ≡ get_or rows k d) → s ≡ wakes_stage row.stage → map wakes (targets_of (set rows k (record row { stage = s }))) ≡ map wakes (targets_of rows)
+woken-set [] k s row l e q = absurd (omega arith)
+woken-set (r ∷ rs) zero s row l e q = ap (λ x. (let t : Target = record { left = row.left; right = row.right; stage = x } in t) ∷ map wakes (targets_of rs)) (ap wakes_stage q ∙ wakes-twice row.stage) ∙ ap (λ (y : GoalRow). wakes (target_of y) ∷ map wakes (targets_of rs)) (e r)
+woken-set (r ∷ rs) (suc k) s row l e q = ap (λ ts. wakes (target_of r) ∷ ts) (woken-set rs k s row (omega arith) e q)
