@@ -11,7 +11,7 @@ use Rattle.uc_rewrite.specs.declared.normal.Normal.{Normal}
 use Rattle.uc_rewrite.specs.Normalising.{Normalises, is_full, is_spent, is_large, goes_on}
 use Rattle.uc_shelf.specs.declared.entry.Entry.{Entry}
 use Rattle.uc_shelf.specs.Entries.{live}
-use Rattle.uc_shelf.specs.Viewing.{live_rise}
+use Rattle.uc_shelf.specs.Rising.{live_rise}
 use Rattle.uc_book.specs.declared.task.Job.{Job}
 use Rattle.uc_book.specs.declared.task.Finding.{Finding}
 use Rattle.uc_book.specs.Results.{IsResult, goal_comes_to, more_comes_to, pair_is_joined, pair_is_kept, fact_is_stale, fact_meets, NormaliseBoth, AreKills, no_facts, kills_it, spares_it, is_no_earlier}

@@ -21,7 +21,7 @@ pub mod Dropping
 pub mod Fitness
 pub mod Booked
 pub mod GoalCount
-pub mod Drawn
+pub mod Drawable
 pub mod FactRows
 pub mod GoalRows
-pub mod Returning
+pub mod PutBack

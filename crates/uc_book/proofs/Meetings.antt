@@ -47,7 +47,7 @@ use Rattle.uc_fact.specs.Live.{Live, Rule, RiseFrom, numbered_from}
 use Rattle.uc_pair.specs.Overlapping.{read_from, overlap_at}
 use Rattle.uc_pair.specs.Listing.{Lists, no_more_places, at_variable, no_unifier, repeats, goes_nowhere, leads_up, is_listed, ListsEach, no_rules, next_rules, AreOverlaps}
 use Rattle.uc_shelf.specs.Entries.{equations, live}
-use Rattle.uc_shelf.specs.Viewing.{live_rise}
+use Rattle.uc_shelf.specs.Rising.{live_rise}
 use Rattle.uc_book.specs.Results.{AreKills, no_facts, kills_it, spares_it, is_no_earlier, AreMeetings, with_itself, with_earlier, not_with_later}
 use Rattle.uc_book.proofs.Lists.{Each-map}
 use Rattle.uc_book.proofs.Calls.{AllDiffer, MeetsRightly}

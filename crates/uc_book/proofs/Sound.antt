@@ -11,6 +11,8 @@ use Rattle.uc_book.specs.declared.parts.Parts.{Parts}
 use Rattle.uc_book.specs.declared.task.Job.{Job}
 use Rattle.uc_book.specs.declared.task.Job.TheVariants.{Goal, More, Meet, Join}
 use Rattle.uc_book.specs.declared.state.Stage.TheVariants.{Busy}
+use Rattle.uc_book.specs.declared.state.Meeting.TheVariants.{Visiting}
+use Rattle.uc_shelf.specs.Entries.{born}
 use Rattle.uc_book.specs.Lists.{map_option}
 use Rattle.uc_book.specs.State.{Opening, State, Target, Out, is_draw, draws_in, out_at}
 use Rattle.uc_book.specs.Effects.{unit_of}
@@ -46,18 +48,18 @@ sound_from o p k few many next l = record {
 there : (gs : List Target) (g : ℕ) → map_option (λ (x : Target). x.stage) (slice_get gs g) ≡ Some Busy → g < length gs
 there gs g e = let h = has_item (λ (x : Target). x.stage) (slice_get gs g) Busy e in below gs g h.item_ h.is
 
-busy_is_out : (p : Parts) (w : ℕ) (j : Job) → IsBusy p.pairs.pairs p.goals p.facts.meetings w j → IsSubjectOut p w j
-busy_is_out p w (Goal g l r) b = there p.goals g b
-busy_is_out p w (More g l r) b = there p.goals g b
-busy_is_out p w (Meet i) b = tt
-busy_is_out p w (Join n a) b = b
+busy_is_out : (p : Parts) (w : ℕ) (j : Job) → length p.facts.meetings ≡ length (born p.facts.front.entries) → IsBusy p.pairs.pairs p.goals p.facts.meetings w j → IsSubjectOut p w j
+busy_is_out p w (Goal g l r) e b = there p.goals g b
+busy_is_out p w (More g l r) e b = there p.goals g b
+busy_is_out p w (Meet i) e b = subst (λ n. i < n) e (below p.facts.meetings i Visiting b)
+busy_is_out p w (Join n a) e b = b
 
 pub can_end : (shelf : Shelves) (o : Opening) (p : Parts) → Kept o (state_of p) → IsSound o p → Fit shelf p → HasRoom p → CanEnd shelf o p
 can_end shelf o p k s f r = record {
   sound = s;
   fit = f;
   room = r;
-  subjects = λ t at. busy_is_out p t.worker t.job (at_task o (state_of p) t k at);
+  subjects = λ t at. busy_is_out p t.worker t.job k.facts.each_meets (at_task o (state_of p) t k at);
   units = λ t at. (let all : p.reserved ≡ sum_by (λ (u : Out). unit_of u.job) (map out_of p.tasks.items) = k.accounts.reserved_is in let one = sum-without (λ (u : Out). unit_of u.job) t.ticket (map out_of p.tasks.items) t at in omega arith);
 }
 

@@ -3,6 +3,7 @@ use Rattle.std.specs.Prelude.{◌≡◌, ⊤, ℕ, ◌+◌, ◌<◌, ◌≤◌, 
 use Rattle.boxcar.specs.Table.{Shelves}
 use Rattle.uc_order.specs.Laws.{Meaning}
 use Rattle.uc_shelf.specs.Fronts.{IsOf}
+use Rattle.uc_shelf.specs.Entries.{born}
 use Rattle.uc_queue.specs.declared.entry.Entry.{Entry as Place}
 use Rattle.uc_ledger.specs.declared.ledger.State.TheVariants.{Out as OutTo}
 use Rattle.uc_book.specs.declared.event.Verdict.{Verdict}
@@ -88,11 +89,11 @@ IsAtHead p (More g l r) = ⊤
 IsAtHead p (Meet i) = ⊤
 IsAtHead p (Join n o) = option_map (λ (e : Place). e.number) (head_in p.pairs) ≡ Some n
 
--- the goal is one of the book's; the pair of a Join is out to the worker
+-- the goal is one of the book's, the fact is born, the pair of a Join is out to the worker
 abbrev pub IsSubjectOut : Parts → ℕ → Job → Type 0
 IsSubjectOut p w (Goal g l r) = g < length p.goals
 IsSubjectOut p w (More g l r) = g < length p.goals
-IsSubjectOut p w (Meet i) = ⊤
+IsSubjectOut p w (Meet i) = i < length (born p.facts.front.entries)
 IsSubjectOut p w (Join n o) = map_option (λ (x : Pair). x.condition) (slice_get p.pairs.pairs n) ≡ Some (OutTo w)
 
 -- what isn't a fact or a goal is as it was

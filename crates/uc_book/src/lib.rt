@@ -5,8 +5,10 @@
 #![tactic(auto)]
 
 mod answer;
+mod auditing;
 mod book;
 mod chains;
+mod committing;
 mod drawing;
 mod event;
 mod facts;
@@ -21,6 +23,7 @@ mod state;
 mod task;
 mod tasks;
 mod token;
+mod visiting;
 mod workers;
 
 pub use answer::{Audited, CommitFault, Drawn, Receipt};

@@ -4,7 +4,7 @@ use Rattle.uc_book.specs.State.{Opening, State, queue}
 use Rattle.uc_book.specs.Draws.{Reply, Draws, NoneUnmet}
 use Rattle.uc_book.specs.Effects.{next_ticket}
 use Rattle.uc_book.specs.Parts.{state_of}
-use Rattle.uc_book.proofs.drawing.Parts.drop_orphans.Given as goal
+use Rattle.uc_book.proofs.parts.Parts.drop_orphans.Given as goal
 
 abbrev pub invariant-loop-number : goal.invariant-loop-number
 invariant-loop-number l = record {
