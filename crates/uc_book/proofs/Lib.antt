@@ -25,3 +25,9 @@ pub mod Drawable
 pub mod FactRows
 pub mod GoalRows
 pub mod PutBack
+pub mod PairRows
+pub mod Deaths
+pub mod BuriedRows
+pub mod RisingNumbers
+pub mod NewPairs
+pub mod Visits
