@@ -25,3 +25,6 @@ pub mod Drawable
 pub mod FactRows
 pub mod GoalRows
 pub mod PutBack
+pub mod Rules
+pub mod Ends
+pub mod Jobs
