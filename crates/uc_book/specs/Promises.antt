@@ -9,10 +9,12 @@ use Rattle.uc_fact.specs.declared.fact.Overlap.{Overlap}
 use Rattle.uc_fact.specs.declared.fact.Origin.TheVariants.{Overlap as OfOverlap}
 use Rattle.uc_fact.specs.declared.fact.Stop.{Stop}
 use Rattle.uc_fact.specs.declared.fact.Stop.TheVariants.{Full}
-use Rattle.uc_fact.specs.Live.{Live, Rule, equations_of}
+use Rattle.uc_fact.specs.Live.{Live, Rule, equation_of, equations_of}
 use Rattle.uc_fact.specs.Ordered.{IsIrreducible}
 use Rattle.uc_rewrite.specs.Normalising.{FirstStep}
 use Rattle.uc_rewrite.specs.Replay.{Replays}
+use Rattle.uc_pair.specs.declared.formed.Formed.{Formed}
+use Rattle.uc_pair.specs.Listing.{AreOverlaps}
 use Rattle.uc_ledger.specs.declared.ledger.State.{State as Condition}
 use Rattle.uc_ledger.specs.declared.ledger.State.TheVariants.{Waiting}
 use Rattle.uc_queue.specs.declared.entry.Entry.{Entry as Place}
@@ -106,18 +108,18 @@ later_fact o = cond (nat_lt o.outer o.inner) o.inner o.outer
 abbrev pub IsOf : List Pair → ℕ → Overlap → Type 0
 IsOf ps p o = map_option (λ (x : Pair). x.origin) (slice_get ps p) ≡ Some (OfOverlap o)
 
--- the states of an overlap: Unmet; that of its pair; or Orphan without a number
+-- the states of an overlap: Unmet; that of its pair, which has this number; or Orphan without a number
 pub data OverlapState : Type 0 where
   NotMet : OverlapState
-  Numbered : Condition → OverlapState
+  Numbered : ℕ → Condition → OverlapState
   NoNumber : OverlapState
 
--- an overlap is Unmet until the meeting of its later fact is over; then it has the state of its pair, or is an Orphan without a
--- number
+-- an overlap is Unmet until the meeting of its later fact is over; then it has the state of its pair, of which there is one, or
+-- is an Orphan without a number
 pub data StandsAs (s : State) (o : Overlap) : OverlapState → Type 0 where
   not_met : slice_get s.meetings (later_fact o) ≡ Some Unmet → StandsAs s o NotMet
   meeting : slice_get s.meetings (later_fact o) ≡ Some Visiting → StandsAs s o NotMet
-  numbered : (p : ℕ) (x : Pair) → slice_get s.pairs p ≡ Some x → IsOf s.pairs p o → StandsAs s o (Numbered x.condition)
+  numbered : (p : ℕ) (x : Pair) → slice_get s.pairs p ≡ Some x → IsOf s.pairs p o → StandsAs s o (Numbered p x.condition)
   no_number : slice_get s.meetings (later_fact o) ≡ Some Met → ((p : ℕ) → IsOf s.pairs p o → ⊥) → StandsAs s o NoNumber
 
 -- some state
@@ -139,9 +141,34 @@ pub record OneState (s : State) : Type 0 where
   pub queued : Each (IsQueued s) (queue s)
   pub all_queued : (p : ℕ) (x : Pair) → slice_get s.pairs p ≡ Some x → x.condition ≡ Waiting → count_by (λ (q : Place). q.number == p) (queue s) ≡ 1
 
+-- THE OVERLAPS OF MEETINGS
+
+-- some pair is that of the overlap
+pub record HasNumber (ps : List Pair) (o : Overlap) : Type 0 where
+  pub number : ℕ
+  pub is : IsOf ps number o
+
+module _ (m : Meaning) where
+  -- each overlap of an outer with an inner fact has its pair
+  pub record AreNumbered (ps : List Pair) (j : ℕ) (a : Equation) (i : ℕ) (b : Equation) : Type 0 where
+    pub overlaps : List Formed
+    pub are : AreOverlaps m.greater j a i b overlaps
+    pub numbered : Each (λ (f : Formed). HasNumber ps f.overlap) overlaps
+
+  -- each overlap of two facts, whichever of them is the outer one
+  pub record BothAreNumbered (ps : List Pair) (j : ℕ) (a : Equation) (i : ℕ) (b : Equation) : Type 0 where
+    pub inside : AreNumbered ps j a i b
+    pub round : AreNumbered ps i b j a
+
+  -- While no verdict stands, no meeting loses an overlap: of two facts that live, the meeting of the later one being over, each
+  -- overlap has its pair. So an Orphan without a number has a parent that is dead.
+  abbrev pub MeetingsAreWhole : State → Type 0
+  MeetingsAreWhole s = s.verdict ≡ None → (j i : ℕ) (a b : Fact) → j ≤ i → slice_get (born s.entries) j ≡ Some a → slice_get (born s.entries) i ≡ Some b
+      → is_dead s.entries j ≡ false → is_dead s.entries i ≡ false → slice_get s.meetings i ≡ Some Met → BothAreNumbered s.pairs j (equation_of a) i (equation_of b)
+
 -- THE COMMITS OF PAIRS
 
--- each pair is ended by at most one commit
+-- each pair is ended by at most one commit, and so is in at most one counted unit
 abbrev pub EndsPairsOnce : State → Type 0
 EndsPairsOnce s = (p : ℕ) → ended_by p s.history ≤ 1
 
@@ -185,7 +212,14 @@ abbrev pub names : ℕ → Entry → Bool
 names i (Born f) = false
 names i (Dies f k) = f == i
 
--- a fact is dead exactly if a Dies entry names it, and at most one does
+-- each Dies entry names a fact that is born before it; so many are born before these entries
+abbrev pub DieLater : ℕ → List Entry → Type 0
+DieLater n [] = Unit {0}
+DieLater n (Born f ∷ es) = DieLater (suc n) es
+DieLater n (Dies i k ∷ es) = (i < n) × DieLater n es
+
+-- a fact is dead exactly if a Dies entry names it, at most one does, and that one stands behind its birth
 pub record DiesOnce (s : State) : Type 0 where
   pub dead : (i : ℕ) → (is_dead s.entries i ≡ true) ↔ (0 < count_by (names i) s.entries)
   pub once : (i : ℕ) → count_by (names i) s.entries ≤ 1
+  pub later : DieLater 0 s.entries
