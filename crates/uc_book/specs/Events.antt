@@ -2,6 +2,7 @@
 use Rattle.std.specs.Prelude.{ℕ, ◌+◌, ◌==◌, ◌&&◌, List, [], ◌∷◌, ◌++◌, Bool, true, false, cond, Option, Some, None, slice_get, count_by}
 use Rattle.uc_book.specs.declared.state.Numbers.{Numbers}
 use Rattle.uc_book.specs.declared.event.Event.{Event}
+use Rattle.uc_book.specs.declared.event.GoalEnd.{GoalEnd}
 use Rattle.uc_book.specs.declared.event.Happening.{Happening}
 use Rattle.uc_book.specs.declared.event.Happening.TheVariants.{DrawGoal, DrawMore, DrawMeet, DrawJoin, CommitGoal, CommitMore, CommitMeet, CommitJoined, CommitKept, CommitLate, Dropped, ReclaimGoal, ReclaimMore, ReclaimMeet, ReclaimJoin, AuditKept, Close}
 use Rattle.uc_book.specs.State.{Out, is_draw}
@@ -94,3 +95,22 @@ ended_after ds p (e ∷ es) = ending_in ds p e.what + ended_after (ds ++ draw_in
 -- by how many commits a pair was ended, late ones too
 abbrev pub ended_by : ℕ → List Event → ℕ
 ended_by p h = ended_after [] p h
+
+-- the commit of a goal: how many steps it made, and how it ended
+pub record GoalCommit : Type 0 where
+  pub steps : ℕ
+  pub end : GoalEnd
+
+abbrev pub goal_commit : ℕ → Happening → Option GoalCommit
+goal_commit g (CommitGoal h n e) = cond (h == g) (Some (record { steps = n; end = e })) None
+goal_commit g (CommitMore h n e) = cond (h == g) (Some (record { steps = n; end = e })) None
+goal_commit g h = None
+
+abbrev pub else_this : Option GoalCommit → Option GoalCommit → Option GoalCommit
+else_this None this = this
+else_this (Some later) this = Some later
+
+-- the last commit of a goal among some events
+abbrev pub last_commit : ℕ → List Event → Option GoalCommit
+last_commit g [] = None
+last_commit g (e ∷ es) = else_this (last_commit g es) (goal_commit g e.what)

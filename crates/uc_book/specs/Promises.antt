@@ -23,13 +23,16 @@ use Rattle.uc_shelf.specs.declared.entry.Entry.TheVariants.{Born, Dies}
 use Rattle.uc_shelf.specs.Entries.{born, is_dead, live}
 use Rattle.uc_book.specs.declared.state.Meeting.{Meeting}
 use Rattle.uc_book.specs.declared.state.Meeting.TheVariants.{Unmet, Visiting, Met}
-use Rattle.uc_book.specs.declared.state.Stage.TheVariants.{Settled, Stuck}
+use Rattle.uc_book.specs.declared.state.Stage.TheVariants.{Continued, Settled, Stuck}
 use Rattle.uc_book.specs.declared.event.Event.{Event}
+use Rattle.uc_book.specs.declared.event.GoalEnd.TheVariants.{Steps}
+use Rattle.uc_book.specs.declared.task.Job.{Job}
+use Rattle.uc_book.specs.declared.task.Job.TheVariants.{Goal, More, Meet, Join}
 use Rattle.uc_book.specs.Lists.{Each, map_option}
 use Rattle.uc_book.specs.Chains.{end_of}
 use Rattle.uc_book.specs.State.{Opening, State, Target, Pair, Out, draws_in, is_unit, queue}
 use Rattle.uc_book.specs.Effects.{draw_event}
-use Rattle.uc_book.specs.Events.{units, numbers_of, out_to, draws_by, commits_by, reclaims_by, ended_by}
+use Rattle.uc_book.specs.Events.{units, numbers_of, out_to, draws_by, commits_by, reclaims_by, ended_by, last_commit}
 
 -- THE ENTRIES
 
@@ -205,6 +208,21 @@ module _ (m : Meaning) where
 
   abbrev pub GoalsAtRest : State → Type 0
   GoalsAtRest s = Each (StaysAtRest s.entries) s.goals
+
+-- the last commit of the goal made exactly 4,096 steps, and a further one was possible
+abbrev pub WasSpent : ℕ → List Event → Type 0
+WasSpent g h = last_commit g h ≡ Some (record { steps = 4096; end = Steps })
+
+abbrev pub GoesOn : List Event → Job → Type 0
+GoesOn h (Goal g l r) = Unit {0}
+GoesOn h (More g l r) = WasSpent g h
+GoesOn h (Meet i) = Unit {0}
+GoesOn h (Join p o) = Unit {0}
+
+-- so it is of each goal that is Continued, and of the goal of each More that is out
+pub record MoresGoOn (s : State) : Type 0 where
+  pub continued : (g : ℕ) (x : Target) → slice_get s.goals g ≡ Some x → x.stage ≡ Continued → WasSpent g s.history
+  pub out : Each (λ (t : Out). GoesOn s.history t.job) s.out
 
 -- THE DEAD
 
