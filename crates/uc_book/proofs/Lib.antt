@@ -12,3 +12,12 @@ pub mod Fronts
 pub mod Runs
 pub mod Earlier
 pub mod AtRest
+pub mod Replacing
+pub mod Replayed
+pub mod Replaying
+pub mod Whole
+pub mod OneDraw
+pub mod OneCall
+pub mod OneResult
+pub mod Continuing
+pub mod Origins
