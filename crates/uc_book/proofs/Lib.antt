@@ -8,6 +8,7 @@ pub mod Calls
 pub mod Meetings
 pub mod Grows
 pub mod Promises
+pub mod Renumbered
 pub mod Fronts
 pub mod Runs
 pub mod Earlier

@@ -8,7 +8,7 @@ use Rattle.uc_fact.specs.declared.fact.Fact.{Fact}
 use Rattle.uc_fact.specs.declared.fact.Overlap.{Overlap}
 use Rattle.uc_fact.specs.declared.fact.Origin.TheVariants.{Overlap as OfOverlap}
 use Rattle.uc_fact.specs.declared.fact.Stop.{Stop}
-use Rattle.uc_fact.specs.declared.fact.Stop.TheVariants.{Full}
+use Rattle.uc_fact.specs.declared.fact.Stop.TheVariants.{Full, Steps as Spent, Size as TooLarge}
 use Rattle.uc_fact.specs.Live.{Live, Rule, equation_of, equations_of}
 use Rattle.uc_fact.specs.Ordered.{IsIrreducible}
 use Rattle.uc_rewrite.specs.Normalising.{FirstStep}
@@ -83,19 +83,43 @@ pub record ChainsReplay (o : Opening) (s : State) : Type 0 where
   pub as_many : length s.goals ≡ length o.goals
   pub goals : (n : ℕ) (g : Target) → slice_get s.goals n ≡ Some g → (goal : Equation) → slice_get o.goals n ≡ Some goal → GoalReplays o s goal g
 
--- THE FRONTS OF KEPT FACTS
+-- HOW TERMS STAND
 
 module _ (m : Meaning) where
   -- no ordered step leads on from the term, by the facts that live in these entries
   abbrev pub IsNormalIn : List Entry → Tree → Type 0
   IsNormalIn es t = IsIrreducible m.greater m.least (equations_of (live es)) t
 
-  -- the fact's front names a prefix of the entries before its birth, and a side whose stop is Full has no ordered step by the
-  -- facts that live there
+  -- a further step is possible
+  pub record CanGoOnIn (es : List Entry) (t : Tree) : Type 0 where
+    pub place : ℕ
+    pub rule : Rule
+    pub v : Tree
+    pub first : FirstStep m.greater m.least (live es) t place rule v
+
+  -- the next ordered step from a term, by the facts that live in these entries, leads to a term that is too large
+  pub record IsStuckIn (es : List Entry) (t : Tree) : Type 0 where
+    pub place : ℕ
+    pub rule : Rule
+    pub v : Tree
+    pub first : FirstStep m.greater m.least (live es) t place rule v
+    pub large : 4096 < nodes v
+
+  -- so the term stands by the stop of its normalising
+  abbrev pub StandsBy : List Entry → Stop → Tree → Type 0
+  StandsBy es Full t = IsNormalIn es t
+  StandsBy es Spent t = CanGoOnIn es t
+  StandsBy es TooLarge t = IsStuckIn es t
+
+-- THE FRONTS OF KEPT FACTS
+
+module _ (m : Meaning) where
+  -- the fact's front names a prefix of the entries before its birth, and each side stands by its stop there: Full, no ordered
+  -- step by the facts that live there; else one is possible, or leads to a term that is too large
   pub record IsKeptOver (before : List Entry) (f : Fact) : Type 0 where
     pub front : f.front ≤ length before
-    pub left : f.stops.0 ≡ Full → IsNormalIn (take f.front before) f.left
-    pub right : f.stops.1 ≡ Full → IsNormalIn (take f.front before) f.right
+    pub left : StandsBy m (take f.front before) f.stops.0 f.left
+    pub right : StandsBy m (take f.front before) f.stops.1 f.right
 
   -- it is so for each kept fact
   abbrev pub FrontsAreEarlier : State → Type 0
@@ -192,14 +216,6 @@ pub record CountsWorkers (s : State) : Type 0 where
 -- THE GOALS
 
 module _ (m : Meaning) where
-  -- the next ordered step from a term, by the facts that live in these entries, leads to a term that is too large
-  pub record IsStuckIn (es : List Entry) (t : Tree) : Type 0 where
-    pub place : ℕ
-    pub rule : Rule
-    pub v : Tree
-    pub first : FirstStep m.greater m.least (live es) t place rule v
-    pub large : 4096 < nodes v
-
   -- a Settled goal's ends have no ordered step by the facts that live now, and a Stuck goal has an end whose next ordered step
   -- by these facts leads to a term that is too large
   pub record StaysAtRest (es : List Entry) (g : Target) : Type 0 where

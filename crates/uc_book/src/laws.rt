@@ -89,8 +89,9 @@ pub fn dies_once<O: Order>(order: &O)
     ensures { (o : Opening) (s : State) → Reaches (O.meaning order.now) o s → DiesOnce s }
 {}
 
-/// Each kept fact's front names a prefix of the entries before its birth, and a side whose stop is `Full` has no ordered step
-/// by the facts that live in that front.
+/// Each kept fact's front names a prefix of the entries before its birth, and each side stands by its stop in that front: after
+/// `Full` it has no ordered step by the facts that live there, else a step is possible, after `Size` one to a term that is too
+/// large.
 pub fn fronts_are_earlier<O: Order>(order: &O)
     ensures { (o : Opening) (s : State) → Reaches (O.meaning order.now) o s → FrontsAreEarlier (O.meaning order.now) s }
 {}
