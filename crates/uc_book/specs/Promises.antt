@@ -220,7 +220,7 @@ module _ (m : Meaning) where
   -- by these facts leads to a term that is too large
   pub record StaysAtRest (es : List Entry) (g : Target) : Type 0 where
     pub settled : g.stage ≡ Settled → IsNormalIn m es (end_of g.left) × IsNormalIn m es (end_of g.right)
-    pub stuck : g.stage ≡ Stuck → IsStuckIn es (end_of g.left) ⊎ IsStuckIn es (end_of g.right)
+    pub stuck : g.stage ≡ Stuck → IsStuckIn m es (end_of g.left) ⊎ IsStuckIn m es (end_of g.right)
 
   abbrev pub GoalsAtRest : State → Type 0
   GoalsAtRest s = Each (StaysAtRest s.entries) s.goals
