@@ -37,7 +37,7 @@ use Rattle.uc_book.specs.declared.task.Job.TheVariants.{Goal, More, Meet, Join}
 use Rattle.uc_book.specs.Lists.{At, first, later, change, each, Each, map_option}
 use Rattle.uc_book.specs.State.{Opening, State, Pair, Target, Out, dead_of, is_draw, draws_in, is_unit, out_at, without, is_waiting, queue_from, queue, peek, is_due, is_continued, is_unmet}
 use Rattle.uc_book.specs.Effects.{records, closes, ending_of, publishes, enters, appends, dies, kills, settles, turns, stages, hands_out, takes, ends, restores, reclaim_event, reclaims, recalls, draw_event, wakes, wakes_stage, meets_unmet, unit_of, one_drawn, one_commit, one_reclaim, sides_weight, numbers_rise, task_for, drops, accepts, takes_ends, goes_on, is_met, pair_by, forms, visits, keeps}
-use Rattle.uc_book.specs.Events.{units, units_after, unit_in, unit_draw, is_unit_draw, draw_in, draws_by, commits_by, reclaims_by, out_to, numbers_of, is_commit_what, is_reclaim_what, ends_pair, ended_by}
+use Rattle.uc_book.specs.Events.{units, units_after, unit_in, unit_draw, is_unit_draw, draw_in, draws_by, commits_by, reclaims_by, out_to, numbers_of, is_commit_what, is_reclaim_what, ending_in, ended_after, ended_by}
 use Rattle.uc_book.specs.Promises.{Rising, WasDrawn, later_fact, IsOf}
 use Rattle.uc_book.proofs.Kept.{Accounts, IsKnown}
 use Rattle.uc_book.proofs.Lists.{get-append, get-push, below, get-change_same, get-change_other, Each-map, Each-push, Each-without, Each-at, sum-without, Rising-push, Rising-without}
@@ -62,6 +62,17 @@ units_after-push ds (x ∷ h) e =
 
 pub units-push : (h : List Event) (e : Event) → units (h ++ e ∷ []) ≡ units h + unit_in (draws_in h) e.what
 units-push h e = units_after-push [] h e
+
+ended_after-push : (ds : List Event) (p : ℕ) (h : List Event) (e : Event) → ended_after ds p (h ++ e ∷ []) ≡ ended_after ds p h + ending_in (ds ++ draws_in h) p e.what
+ended_after-push ds p [] e = rw append-nil (omega arith)
+ended_after-push ds p (x ∷ h) e =
+    let ih = ended_after-push (ds ++ draw_in x) p h e in
+    let same : (ds ++ draw_in x) ++ draws_in h ≡ ds ++ draws_in (x ∷ h) = append_assoc ds (draw_in x) (draws_in h) ∙ ap (λ y. ds ++ y) (sym (draws_in-cons x h)) in
+    let ih2 : ended_after (ds ++ draw_in x) p (h ++ e ∷ []) ≡ ended_after (ds ++ draw_in x) p h + ending_in (ds ++ draws_in (x ∷ h)) p e.what = subst (λ y. ended_after (ds ++ draw_in x) p (h ++ e ∷ []) ≡ ended_after (ds ++ draw_in x) p h + ending_in y p e.what) same ih in
+    omega arith
+
+pub ended-push : (p : ℕ) (h : List Event) (e : Event) → ended_by p (h ++ e ∷ []) ≡ ended_by p h + ending_in (draws_in h) p e.what
+ended-push p h e = ended_after-push [] p h e
 
 known_more : (n m : ℕ) (h : List Event) (e : Event) → n ≤ m → (t : Out) → IsKnown n h t → IsKnown m (h ++ e ∷ []) t
 known_more n m h e l t k = let f : t.front ≤ n = k.front in record {

@@ -38,7 +38,7 @@ use Rattle.uc_book.specs.declared.task.Job.TheVariants.{Goal, More, Meet, Join}
 use Rattle.uc_book.specs.Lists.{At, first, later, change, each, Each, map_option}
 use Rattle.uc_book.specs.State.{Opening, State, Pair, Target, Out, dead_of, is_draw, draws_in, is_unit, out_at, without, is_waiting, queue_from, queue, peek, is_due, is_continued, is_unmet}
 use Rattle.uc_book.specs.Effects.{records, closes, ending_of, publishes, enters, appends, dies, kills, settles, turns, stages, hands_out, takes, ends, restores, reclaim_event, reclaims, recalls, draw_event, wakes, wakes_stage, meets_unmet, unit_of, one_drawn, one_commit, one_reclaim, sides_weight, numbers_rise, task_for, drops, accepts, takes_ends, goes_on, is_met, pair_by, forms, visits, keeps}
-use Rattle.uc_book.specs.Events.{units, units_after, unit_in, unit_draw, is_unit_draw, draw_in, draws_by, commits_by, reclaims_by, out_to, numbers_of, is_commit_what, is_reclaim_what, ends_pair, ended_by}
+use Rattle.uc_book.specs.Events.{units, units_after, unit_in, unit_draw, is_unit_draw, draw_in, draws_by, commits_by, reclaims_by, out_to, numbers_of, is_commit_what, is_reclaim_what, ending_in, ended_after, ended_by}
 use Rattle.uc_book.specs.Promises.{Rising, WasDrawn, later_fact, IsOf}
 use Rattle.std.proofs.Math.ListN.{take_of_length-le}
 use Rattle.std.proofs.lemmas.List.{length-map}
@@ -62,7 +62,7 @@ use Rattle.uc_book.specs.Results.{NormaliseBoth, stop_of, IsResult, goal_comes_t
 use Rattle.uc_book.specs.Runs.{goal_of, Starts, axioms_wait, too_many_axioms, AuditReply, Audits, is_closed, is_spent, is_kept, Closes, converges, has_large, has_stuck, Reaches, starts, draws_on, commits_on, reclaims_on, recalls_on, audits_on, closes_on}
 use Rattle.uc_book.specs.Promises.{IsStuckIn, StaysAtRest, GoalsAtRest, IsNormalIn}
 use Rattle.uc_book.proofs.Kept.{Kept, IsBusy, is_same, Apart}
-use Rattle.uc_book.proofs.Lists.{Each-map, Each-push, Each-without, Each-at, get-change_same, get-change_other, length-change}
+use Rattle.uc_book.proofs.Lists.{Each-map, Each-push, Each-without, Each-at, get-changed, get-change_same, get-change_other, length-change}
 use Rattle.uc_book.proofs.Found.{IsFound, first_is}
 use Rattle.uc_book.proofs.Blocks.{apart_from}
 use Rattle.uc_book.proofs.Steps.{at_task}
@@ -70,7 +70,7 @@ use Rattle.uc_book.proofs.Runs.{kept_reaches}
 
 -- where chains end
 
-last_of_both : (t : Tree) (xs ys : List Step) → last_term t (xs ++ ys) ≡ last_term (last_term t xs) ys
+pub last_of_both : (t : Tree) (xs ys : List Step) → last_term t (xs ++ ys) ≡ last_term (last_term t xs) ys
 last_of_both t [] ys = refl
 last_of_both t (x ∷ xs) ys = last_of_both x.to xs ys
 
@@ -89,15 +89,8 @@ JobEnds gs (Join p a) = Unit {0}
 
 -- a change of a stage leaves the ends
 
-get_changed : (f : Target → Target) (gs : List Target) (g h : ℕ) (y : Target) → slice_get (change f gs g) h ≡ Some y → (slice_get gs h ≡ Some y) ⊎ ((g ≡ h) × ((x : Target) × (slice_get gs h ≡ Some x) × (y ≡ f x)))
-get_changed f [] g h y e = absurd (cc)
-get_changed f (x ∷ gs) zero zero y e = inr (refl, (x, refl, (cc)))
-get_changed f (x ∷ gs) zero (suc h) y e = inl e
-get_changed f (x ∷ gs) (suc g) zero y e = inl e
-get_changed f (x ∷ gs) (suc g) (suc h) y e = elim (get_changed f gs g h y e) [ inl a ↦ inl a | inr b ↦ inr (ap suc b.0, b.1) ]
-
 has_ends_stage : (c : Stage) (gs : List Target) (k g : ℕ) (l r : Tree) → HasEnds gs g l r → HasEnds (change (λ (x : Target). record x { stage = c }) gs k) g l r
-has_ends_stage c gs k g l r a y e = elim (get_changed (λ (x : Target). record x { stage = c }) gs k g y e) [
+has_ends_stage c gs k g l r a y e = elim (get-changed (λ (x : Target). record x { stage = c }) gs k g y e) [
   | inl b ↦ a y b
   | inr b ↦ (let q = a b.1.0 b.1.1 in (ap (λ (z : Target). end_of z.left) b.1.2 ∙ q.0, ap (λ (z : Target). end_of z.right) b.1.2 ∙ q.1))
 ]
@@ -158,7 +151,7 @@ one_large Steps b e = absurd (cc)
 one_large Size b e = inl refl
 
 module _ (m : Meaning) where
-  normal_end : (ls : List Live) (limit : ℕ) (t end : Tree) (steps : List Step) (stop : Stop) → Normalises m.greater m.least ls limit t steps end stop → last_term t steps ≡ end
+  pub normal_end : (ls : List Live) (limit : ℕ) (t end : Tree) (steps : List Step) (stop : Stop) → Normalises m.greater m.least ls limit t steps end stop → last_term t steps ≡ end
   normal_end ls limit t _ _ _ (is_full i) = refl
   normal_end ls _ t _ _ _ (is_spent f) = refl
   normal_end ls _ t _ _ _ (is_large f l) = refl
@@ -314,7 +307,7 @@ module _ (m : Meaning) where
           }
 
       staged : (y : Target) → slice_get (change (goes_on left.chain right.chain) s.goals g) g ≡ Some y → StaysAtRest m s.entries (record y { stage = c })
-      staged y at = elim (get_changed (goes_on left.chain right.chain) s.goals g g y at) [
+      staged y at = elim (get-changed (goes_on left.chain right.chain) s.goals g g y at) [
         | inl b ↦ (let h : slice_get (change (goes_on left.chain right.chain) s.goals g) g ≡ Some (goes_on left.chain right.chain y) = get-change_same (goes_on left.chain right.chain) s.goals g y b in
             let same : goes_on left.chain right.chain y ≡ y = cc in
             subst (λ z. StaysAtRest m s.entries (record z { stage = c })) same (resting y b c (stop_of left.stop right.stop) refl after))
@@ -322,15 +315,15 @@ module _ (m : Meaning) where
       ]
 
   -- what a goal's result is made of
-  record GoalResult (es : List Entry) (x y : Tree) (c d : Chain) (stop : Stop) : Type 0 where
-    left : Normal
-    right : Normal
-    both : NormaliseBoth m es x y left right
-    left_is : left.chain ≡ c
-    right_is : right.chain ≡ d
-    stop_is : stop_of left.stop right.stop ≡ stop
+  pub record GoalResult (es : List Entry) (x y : Tree) (c d : Chain) (stop : Stop) : Type 0 where
+    pub left : Normal
+    pub right : Normal
+    pub both : NormaliseBoth m es x y left right
+    pub left_is : left.chain ≡ c
+    pub right_is : right.chain ≡ d
+    pub stop_is : stop_of left.stop right.stop ≡ stop
 
-  result_goal : (axioms : List Equation) (es : List Entry) (j : Job) (f : Finding) → IsResult m axioms es j f → (g : ℕ) (x y : Tree) (c d : Chain) (stop : Stop) → j ≡ Goal g x y → f ≡ Ends c d stop → GoalResult es x y c d stop
+  pub result_goal : (axioms : List Equation) (es : List Entry) (j : Job) (f : Finding) → IsResult m axioms es j f → (g : ℕ) (x y : Tree) (c d : Chain) (stop : Stop) → j ≡ Goal g x y → f ≡ Ends c d stop → GoalResult es x y c d stop
   result_goal axioms es _ _ (goal_comes_to {l = l} {r = r} {left = left} {right = right} both) g x y c d stop e q =
       let lx : l ≡ x = cc in
       let ry : r ≡ y = cc in
@@ -341,7 +334,7 @@ module _ (m : Meaning) where
   result_goal axioms es _ _ (comes_stale a b) g x y c d stop e q = absurd (cc)
   result_goal axioms es _ _ (comes_to_meet a b h k) g x y c d stop e q = absurd (cc)
 
-  result_more : (axioms : List Equation) (es : List Entry) (j : Job) (f : Finding) → IsResult m axioms es j f → (g : ℕ) (x y : Tree) (c d : Chain) (stop : Stop) → j ≡ More g x y → f ≡ Ends c d stop → GoalResult es x y c d stop
+  pub result_more : (axioms : List Equation) (es : List Entry) (j : Job) (f : Finding) → IsResult m axioms es j f → (g : ℕ) (x y : Tree) (c d : Chain) (stop : Stop) → j ≡ More g x y → f ≡ Ends c d stop → GoalResult es x y c d stop
   result_more axioms es _ _ (goal_comes_to a) g x y c d stop e q = absurd (cc)
   result_more axioms es _ _ (more_comes_to {l = l} {r = r} {left = left} {right = right} both) g x y c d stop e q =
       let lx : l ≡ x = cc in
@@ -352,7 +345,7 @@ module _ (m : Meaning) where
   result_more axioms es _ _ (comes_stale a b) g x y c d stop e q = absurd (cc)
   result_more axioms es _ _ (comes_to_meet a b h k) g x y c d stop e q = absurd (cc)
 
-  is_busy : (gs : List Target) (g : ℕ) → map_option (λ (x : Target). x.stage) (slice_get gs g) ≡ Some Busy → (x : Target) → slice_get gs g ≡ Some x → x.stage ≡ Busy
+  pub is_busy : (gs : List Target) (g : ℕ) → map_option (λ (x : Target). x.stage) (slice_get gs g) ≡ Some Busy → (x : Target) → slice_get gs g ≡ Some x → x.stage ≡ Busy
   is_busy gs g b x at = let c : map_option (λ (y : Target). y.stage) (Some x) ≡ Some Busy = rw at at b in cc
 
   rests_accepted : (o : Opening) (s : State) (t : Out) (h : Happening) → Rests o s → Rests o (accepts t h s)

@@ -37,10 +37,11 @@ use Rattle.uc_book.specs.declared.task.Job.TheVariants.{Goal, More, Meet, Join}
 use Rattle.uc_book.specs.Lists.{At, first, later, change, each, Each, map_option}
 use Rattle.uc_book.specs.State.{Opening, State, Pair, Target, Out, dead_of, is_draw, draws_in, is_unit, out_at, without, is_waiting, queue_from, queue, peek, is_due, is_continued, is_unmet}
 use Rattle.uc_book.specs.Effects.{records, closes, ending_of, publishes, enters, appends, dies, kills, settles, turns, stages, hands_out, takes, ends, restores, reclaim_event, reclaims, recalls, draw_event, wakes, wakes_stage, meets_unmet, unit_of, one_drawn, one_commit, one_reclaim, sides_weight, numbers_rise, task_for, drops, accepts, takes_ends, goes_on, is_met, pair_by, forms, visits, keeps}
-use Rattle.uc_book.specs.Events.{units, units_after, unit_in, unit_draw, is_unit_draw, draw_in, draws_by, commits_by, reclaims_by, out_to, numbers_of, is_commit_what, is_reclaim_what, ends_pair, ended_by}
-use Rattle.uc_book.specs.Promises.{Rising, WasDrawn, later_fact, IsOf}
-use Rattle.uc_book.proofs.Kept.{NotIn, Distinct, Facts, is_among, dead_is, IsBusy, is_same, Apart, AllApart, Tasks, may_end, to_end, EndsOnce, Numbered}
-use Rattle.uc_book.proofs.Lists.{get-append, get-push, below, get-change_same, get-change_other, length-change, Each-map, Each-push, Each-without, Each-at}
+use Rattle.uc_book.specs.Events.{units, units_after, unit_in, unit_draw, is_unit_draw, draw_in, draws_by, commits_by, reclaims_by, out_to, numbers_of, is_commit_what, is_reclaim_what, ending_in, ended_after, ended_by}
+use Rattle.uc_book.specs.Promises.{Rising, WasDrawn, DieLater, later_fact, IsOf}
+use Rattle.uc_book.proofs.Kept.{NotIn, Distinct, Facts, is_among, dead_is, IsBusy, is_same, Apart, AllApart, Tasks, may_draw, to_draw, is_join, joins, EndsOnce, Numbered}
+use Rattle.uc_book.proofs.Lists.{get-append, get-push, below, get-change_same, get-change_other, length-change, Each-map, Each-push, Each-without, Each-at, sum-without}
+use Rattle.uc_book.proofs.Accounts.{ended-push}
 
 -- facts
 
@@ -49,7 +50,7 @@ dead-append [] ys = refl
 dead-append (Born f ∷ xs) ys = dead-append xs ys
 dead-append (Dies f k ∷ xs) ys = ap (λ zs. f ∷ zs) (dead-append xs ys)
 
-born-append : (xs ys : List Entry) → born (xs ++ ys) ≡ born xs ++ born ys
+pub born-append : (xs ys : List Entry) → born (xs ++ ys) ≡ born xs ++ born ys
 born-append [] ys = refl
 born-append (Born f ∷ xs) ys = ap (λ zs. f ∷ zs) (born-append xs ys)
 born-append (Dies f k ∷ xs) ys = born-append xs ys
@@ -69,6 +70,16 @@ Distinct-push : (ms : List ℕ) (m : ℕ) → Distinct ms → NotIn m ms → Dis
 Distinct-push [] m d n = (tt, tt)
 Distinct-push (k ∷ ms) m d n = (NotIn-push k m ms d.0 (λ q. n.0 (sym q)), Distinct-push ms m d.1 n.1)
 
+die-born : (n : ℕ) (es : List Entry) (f : Fact) → DieLater n es → DieLater n (es ++ Born f ∷ [])
+die-born n [] f h = tt
+die-born n (Born g ∷ es) f h = die-born (suc n) es f h
+die-born n (Dies i k ∷ es) f h = (h.0, die-born n es f h.1)
+
+die-dies : (n : ℕ) (es : List Entry) (i k : ℕ) → i < n + length (born es) → DieLater n es → DieLater n (es ++ Dies i k ∷ [])
+die-dies n [] i k l h = (omega arith, tt)
+die-dies n (Born g ∷ es) i k l h = die-dies (suc n) es i k (omega arith) h
+die-dies n (Dies j c ∷ es) i k l h = (h.0, die-dies n es i k l h.1)
+
 pub facts_born : (es : List Entry) (ms : List Meeting) (f : Fact) → Facts es ms → Facts (es ++ Born f ∷ []) (ms ++ Unmet ∷ [])
 facts_born es ms f a =
     let d : dead_of (es ++ Born f ∷ []) ≡ dead_of es = dead-append es (Born f ∷ []) ∙ append-nil (dead_of es) in
@@ -78,6 +89,7 @@ facts_born es ms f a =
     let e : length ms ≡ length (born es) = a.each_meets in
     record {
       once = rw d a.once;
+      later = die-born 0 es f a.later;
       are_born = rw (d, b, l) (Each-map (λ (i : ℕ) (h : i < length (born es)). (let r : i < length (born es) + 1 = omega arith in r)) (dead_of es) a.are_born);
       each_meets = rw (b, l) (omega arith);
     }
@@ -90,12 +102,13 @@ facts_dies es ms i k g a l alive =
     let e : length ms ≡ length (born es) = a.each_meets in
     record {
       once = rw d (Distinct-push (dead_of es) i a.once (NotIn-among i (dead_of es) (sym (dead_is es i) ∙ alive)));
+      later = die-dies 0 es i k (omega arith) a.later;
       are_born = rw (d, b) (Each-push (λ (j : ℕ). j < length (born es)) (dead_of es) i a.are_born l);
       each_meets = rw b (omega arith);
     }
 
 pub facts_meeting : (es : List Entry) (ms : List Meeting) (i : ℕ) (g : Meeting → Meeting) → Facts es ms → Facts es (change g ms i)
-facts_meeting es ms i g a = record { once = a.once; are_born = a.are_born; each_meets = length-change g ms i ∙ a.each_meets }
+facts_meeting es ms i g a = record { once = a.once; later = a.later; are_born = a.are_born; each_meets = length-change g ms i ∙ a.each_meets }
 
 -- tasks
 
@@ -201,7 +214,7 @@ busy-wakes ps gs ms w (More g l r) b = woken gs g b
 busy-wakes ps gs ms w (Meet i) b = b
 busy-wakes ps gs ms w (Join p a) b = b
 
-option-append : {A B : Type 0} (f : A → B) (xs ys : List A) (n : ℕ) (b : B) → map_option f (slice_get xs n) ≡ Some b → map_option f (slice_get (xs ++ ys) n) ≡ Some b
+pub option-append : {A B : Type 0} (f : A → B) (xs ys : List A) (n : ℕ) (b : B) → map_option f (slice_get xs n) ≡ Some b → map_option f (slice_get (xs ++ ys) n) ≡ Some b
 option-append f [] ys n b e = absurd (cc)
 option-append f (x ∷ xs) ys zero b e = e
 option-append f (x ∷ xs) ys (suc n) b e = option-append f xs ys n b e
@@ -223,64 +236,121 @@ busy-dies ps qs gs ms i w (Join p a) b = option-append (λ (x : Pair). x.conditi
 
 -- pairs: how they end
 
-to_end-small : (x : Option Pair) → to_end x ≤ 1
-to_end-small None = omega arith
-to_end-small (Some p) = may_end-small p.condition
+to_draw-small : (x : Option Pair) → to_draw x ≤ 1
+to_draw-small None = omega arith
+to_draw-small (Some p) = may_draw-small p.condition
   where
-    may_end-small : (c : Condition) → may_end c ≤ 1
-    may_end-small Waiting = omega arith
-    may_end-small (OutTo w) = omega arith
-    may_end-small Done = omega arith
-    may_end-small Orphan = omega arith
-    may_end-small Large = omega arith
+    may_draw-small : (c : Condition) → may_draw c ≤ 1
+    may_draw-small Waiting = omega arith
+    may_draw-small (OutTo w) = omega arith
+    may_draw-small Done = omega arith
+    may_draw-small Orphan = omega arith
+    may_draw-small Large = omega arith
 
-to_end-append : (ps qs : List Pair) (p : ℕ) → to_end (slice_get (ps ++ qs) p) ≤ to_end (slice_get ps p)
-to_end-append [] qs p = to_end-small (slice_get qs p)
-to_end-append (x ∷ ps) qs zero = omega arith
-to_end-append (x ∷ ps) qs (suc p) = to_end-append ps qs p
+to_draw-append : (ps qs : List Pair) (p : ℕ) → to_draw (slice_get (ps ++ qs) p) ≤ to_draw (slice_get ps p)
+to_draw-append [] qs p = to_draw-small (slice_get qs p)
+to_draw-append (x ∷ ps) qs zero = omega arith
+to_draw-append (x ∷ ps) qs (suc p) = to_draw-append ps qs p
 
-pub ends-append : (ps qs : List Pair) (h : List Event) → EndsOnce ps h → EndsOnce (ps ++ qs) h
-ends-append ps qs h e p = let a : ended_by p h + to_end (slice_get ps p) ≤ 1 = e p in let b : to_end (slice_get (ps ++ qs) p) ≤ to_end (slice_get ps p) = to_end-append ps qs p in omega arith
+-- a pair that won't be drawn again
+pub to_draw-less : (f : Pair → Pair) → ((x : Pair) → may_draw (f x).condition ≡ 0) → (ps : List Pair) (q p : ℕ) → to_draw (slice_get (change f ps q) p) ≤ to_draw (slice_get ps p)
+to_draw-less f none [] q p = omega arith
+to_draw-less f none (x ∷ ps) zero zero = let z : may_draw (f x).condition ≡ 0 = none x in omega arith
+to_draw-less f none (x ∷ ps) zero (suc p) = omega arith
+to_draw-less f none (x ∷ ps) (suc q) zero = omega arith
+to_draw-less f none (x ∷ ps) (suc q) (suc p) = to_draw-less f none ps q p
 
--- an event that ends no pair
-pub ends-other : (ps : List Pair) (h : List Event) (e : Event) → ((p : ℕ) → ends_pair p e.what ≡ false) → EndsOnce ps h → EndsOnce ps (h ++ e ∷ [])
-ends-other ps h e never k p =
-    let a : ended_by p h + to_end (slice_get ps p) ≤ 1 = k p in
-    let c : ended_by p (h ++ e ∷ []) ≡ ended_by p h + cond {A = ℕ} (ends_pair p e.what) 1 0 = sum_by_push (λ (x : Event). cond (ends_pair p x.what) 1 0) h e in
-    let z : cond {A = ℕ} (ends_pair p e.what) 1 0 ≡ 0 = rw (never p) refl in
+pub ends-append : (ps qs : List Pair) (out : List Out) (h : List Event) → EndsOnce ps out h → EndsOnce (ps ++ qs) out h
+ends-append ps qs out h e p =
+    let a : ended_by p h + (to_draw (slice_get ps p) + joins p out) ≤ 1 = e p in
+    let b : to_draw (slice_get (ps ++ qs) p) ≤ to_draw (slice_get ps p) = to_draw-append ps qs p in
     omega arith
 
--- a pair that waits or is out may become anything
-pub ends-change : (ps : List Pair) (h : List Event) (f : Pair → Pair) (q : ℕ) → to_end (slice_get ps q) ≡ 1 → EndsOnce ps h → EndsOnce (change f ps q) h
-ends-change ps h f q open_ k p =
-    let a : ended_by p h + to_end (slice_get ps p) ≤ 1 = k p in
-    let s : to_end (slice_get (change f ps q) p) ≤ 1 = to_end-small (slice_get (change f ps q) p) in
+-- an event that ends no pair
+pub ends-other : (ps : List Pair) (out : List Out) (h : List Event) (e : Event) → ((p : ℕ) → ending_in (draws_in h) p e.what ≡ 0) → EndsOnce ps out h → EndsOnce ps out (h ++ e ∷ [])
+ends-other ps out h e never k p =
+    let a : ended_by p h + (to_draw (slice_get ps p) + joins p out) ≤ 1 = k p in
+    let c : ended_by p (h ++ e ∷ []) ≡ ended_by p h + ending_in (draws_in h) p e.what = ended-push p h e in
+    let z : ending_in (draws_in h) p e.what ≡ 0 = never p in
+    omega arith
+
+-- a pair that waits may become anything
+pub ends-change : (ps : List Pair) (out : List Out) (h : List Event) (f : Pair → Pair) (q : ℕ) → to_draw (slice_get ps q) ≡ 1 → EndsOnce ps out h → EndsOnce (change f ps q) out h
+ends-change ps out h f q open_ k p =
+    let a : ended_by p h + (to_draw (slice_get ps p) + joins p out) ≤ 1 = k p in
+    let s : to_draw (slice_get (change f ps q) p) ≤ 1 = to_draw-small (slice_get (change f ps q) p) in
     elim (cases_eq q p) [
-      | inl e ↦ let o2 : to_end (slice_get ps p) ≡ 1 = subst (λ n. to_end (slice_get ps n) ≡ 1) e open_ in omega arith
-      | inr ne ↦ let o3 : to_end (slice_get (change f ps q) p) ≡ to_end (slice_get ps p) = ap to_end (get-change_other f ps q p ne) in omega arith
+      | inl e ↦ let o2 : to_draw (slice_get ps p) ≡ 1 = subst (λ n. to_draw (slice_get ps n) ≡ 1) e open_ in omega arith
+      | inr ne ↦ let o3 : to_draw (slice_get (change f ps q) p) ≡ to_draw (slice_get ps p) = ap to_draw (get-change_other f ps q p ne) in omega arith
     ]
 
--- the commit that ends a pair
-pub ends-commit : (ps : List Pair) (h : List Event) (e : Event) (f : Pair → Pair) (q : ℕ) (x : Pair) → slice_get ps q ≡ Some x → may_end x.condition ≡ 1 → may_end (f x).condition ≡ 0
-    → ((p : ℕ) → ends_pair p e.what ≡ (q == p)) → EndsOnce ps h → EndsOnce (change f ps q) (h ++ e ∷ [])
-ends-commit ps h e f q x at open_ shut is k p =
-    let a : ended_by p h + to_end (slice_get ps p) ≤ 1 = k p in
-    let c : ended_by p (h ++ e ∷ []) ≡ ended_by p h + cond {A = ℕ} (ends_pair p e.what) 1 0 = sum_by_push (λ (x : Event). cond (ends_pair p x.what) 1 0) h e in
+joins-push : (p : ℕ) (out : List Out) (t : Out) → joins p (out ++ t ∷ []) ≡ joins p out + cond {A = ℕ} (is_join p t.job) 1 0
+joins-push p out t = sum_by_push (λ (u : Out). cond (is_join p u.job) 1 0) out t
+
+joins-without : (p n : ℕ) (out : List Out) (t : Out) → out_at n out ≡ Some t → joins p (without n out) + cond {A = ℕ} (is_join p t.job) 1 0 ≡ joins p out
+joins-without p n out t at = sum-without (λ (u : Out). cond (is_join p u.job) 1 0) n out t at
+
+-- a task that is no Join goes out
+pub ends-out : (ps : List Pair) (out : List Out) (h : List Event) (t : Out) → ((p : ℕ) → is_join p t.job ≡ false) → EndsOnce ps out h → EndsOnce ps (out ++ t ∷ []) h
+ends-out ps out h t never k p =
+    let a : ended_by p h + (to_draw (slice_get ps p) + joins p out) ≤ 1 = k p in
+    let c : joins p (out ++ t ∷ []) ≡ joins p out + cond {A = ℕ} (is_join p t.job) 1 0 = joins-push p out t in
+    let z : cond {A = ℕ} (is_join p t.job) 1 0 ≡ 0 = rw (never p) refl in
+    omega arith
+
+-- the Join of a pair that waits goes out
+pub ends-drawn : (ps : List Pair) (out : List Out) (h : List Event) (f : Pair → Pair) (q n w fr : ℕ) (o : Origin) → to_draw (slice_get ps q) ≡ 1 → to_draw (slice_get (change f ps q) q) ≡ 0
+    → EndsOnce ps out h → EndsOnce (change f ps q) (out ++ record { ticket = n; worker = w; job = Join q o; front = fr } ∷ []) h
+ends-drawn ps out h f q n w fr o open_ shut k p =
+    let t : Out = record { ticket = n; worker = w; job = Join q o; front = fr } in
+    let a : ended_by p h + (to_draw (slice_get ps p) + joins p out) ≤ 1 = k p in
+    let c : joins p (out ++ t ∷ []) ≡ joins p out + cond {A = ℕ} (q == p) 1 0 = joins-push p out t in
     elim (cases_eq q p) [
-      | inl s ↦
-          let o2 : to_end (slice_get ps p) ≡ 1 = subst (λ n. to_end (slice_get ps n) ≡ 1) s (rw at open_) in
-          let o3 : to_end (slice_get (change f ps q) p) ≡ 0 = subst (λ n. to_end (slice_get (change f ps q) n) ≡ 0) s (rw (get-change_same f ps q x at) shut) in
-          let z : cond {A = ℕ} (ends_pair p e.what) 1 0 ≡ 1 = rw (is p, eq-eqb q p s) refl in
+      | inl e ↦
+          let o2 : to_draw (slice_get ps p) ≡ 1 = subst (λ n. to_draw (slice_get ps n) ≡ 1) e open_ in
+          let o3 : to_draw (slice_get (change f ps q) p) ≡ 0 = subst (λ n. to_draw (slice_get (change f ps q) n) ≡ 0) e shut in
+          let z : cond {A = ℕ} (q == p) 1 0 ≡ 1 = rw (eq-eqb q p e) refl in
           omega arith
       | inr ne ↦
-          let o3 : to_end (slice_get (change f ps q) p) ≡ to_end (slice_get ps p) = ap to_end (get-change_other f ps q p ne) in
-          let z : cond {A = ℕ} (ends_pair p e.what) 1 0 ≡ 0 = rw (is p, ne_eqb q p ne) refl in
+          let o3 : to_draw (slice_get (change f ps q) p) ≡ to_draw (slice_get ps p) = ap to_draw (get-change_other f ps q p ne) in
+          let z : cond {A = ℕ} (q == p) 1 0 ≡ 0 = rw (ne_eqb q p ne) refl in
           omega arith
+    ]
+
+-- a task ends that is no Join, or whose pair isn't touched
+pub ends-gone : (ps : List Pair) (out : List Out) (h : List Event) (t : Out) → out_at t.ticket out ≡ Some t → EndsOnce ps out h → EndsOnce ps (without t.ticket out) h
+ends-gone ps out h t at k p =
+    let a : ended_by p h + (to_draw (slice_get ps p) + joins p out) ≤ 1 = k p in
+    let c : joins p (without t.ticket out) + cond {A = ℕ} (is_join p t.job) 1 0 ≡ joins p out = joins-without p t.ticket out t at in
+    omega arith
+
+-- a task ends by a commit
+pub ends-commit : (ps qs : List Pair) (out : List Out) (h : List Event) (t : Out) (e : Event) → ((p : ℕ) → to_draw (slice_get qs p) ≤ to_draw (slice_get ps p)) → out_at t.ticket out ≡ Some t
+    → ((p : ℕ) → ending_in (draws_in h) p e.what ≡ cond {A = ℕ} (is_join p t.job) 1 0) → EndsOnce ps out h → EndsOnce qs (without t.ticket out) (h ++ e ∷ [])
+ends-commit ps qs out h t e less at is k p =
+    let a : ended_by p h + (to_draw (slice_get ps p) + joins p out) ≤ 1 = k p in
+    let b : to_draw (slice_get qs p) ≤ to_draw (slice_get ps p) = less p in
+    let c : ended_by p (h ++ e ∷ []) ≡ ended_by p h + ending_in (draws_in h) p e.what = ended-push p h e in
+    let d : joins p (without t.ticket out) + cond {A = ℕ} (is_join p t.job) 1 0 ≡ joins p out = joins-without p t.ticket out t at in
+    let z : ending_in (draws_in h) p e.what ≡ cond {A = ℕ} (is_join p t.job) 1 0 = is p in
+    omega arith
+
+-- the Join of a pair is put back
+pub ends-back : (ps : List Pair) (out : List Out) (h : List Event) (f : Pair → Pair) (q n w fr : ℕ) (o : Origin) → (let t : Out = record { ticket = n; worker = w; job = Join q o; front = fr } in out_at n out ≡ Some t
+    → EndsOnce ps out h → EndsOnce (change f ps q) (without n out) h)
+ends-back ps out h f q n w fr o at k p =
+    let t : Out = record { ticket = n; worker = w; job = Join q o; front = fr } in
+    let a : ended_by p h + (to_draw (slice_get ps p) + joins p out) ≤ 1 = k p in
+    let s : to_draw (slice_get (change f ps q) p) ≤ 1 = to_draw-small (slice_get (change f ps q) p) in
+    let d : joins p (without n out) + cond {A = ℕ} (q == p) 1 0 ≡ joins p out = joins-without p n out t at in
+    elim (cases_eq q p) [
+      | inl e ↦ let z : cond {A = ℕ} (q == p) 1 0 ≡ 1 = rw (eq-eqb q p e) refl in omega arith
+      | inr ne ↦ let o3 : to_draw (slice_get (change f ps q) p) ≡ to_draw (slice_get ps p) = ap to_draw (get-change_other f ps q p ne) in omega arith
     ]
 
 -- pairs: their numbers
 
-same-origin : (f : Pair → Pair) → ((x : Pair) → (f x).origin ≡ x.origin) → (ps : List Pair) (q p : ℕ) → map_option (λ (x : Pair). x.origin) (slice_get (change f ps q) p) ≡ map_option (λ (x : Pair). x.origin) (slice_get ps p)
+pub same-origin : (f : Pair → Pair) → ((x : Pair) → (f x).origin ≡ x.origin) → (ps : List Pair) (q p : ℕ) → map_option (λ (x : Pair). x.origin) (slice_get (change f ps q) p) ≡ map_option (λ (x : Pair). x.origin) (slice_get ps p)
 same-origin f k [] q p = refl
 same-origin f k (x ∷ ps) zero zero = ap (λ o. Some o) (k x)
 same-origin f k (x ∷ ps) zero (suc p) = refl

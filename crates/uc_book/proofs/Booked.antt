@@ -13,8 +13,15 @@ use Rattle.uc_book.specs.Draws.{Draws}
 use Rattle.uc_book.specs.Effects.{reclaims}
 use Rattle.uc_book.specs.Results.{IsResult}
 use Rattle.uc_book.specs.Runs.{Reaches, starts, draws_on, commits_on, reclaims_on, recalls_on, audits_on, closes_on, Starts}
-use Rattle.uc_book.specs.Openings.{Opened, opening_of}
-use Rattle.uc_book.specs.Answers.{reply_of, IsReclaimed, IsCommitted, IsRight}
+use Rattle.uc_book.specs.Openings.{Opened, BookView, opening_of}
+use Rattle.uc_shelf.specs.Fronts.{IsOf}
+use Rattle.uc_shelf.specs.Sights.{Sight}
+use Rattle.uc_book.specs.declared.answer.Drawn.TheVariants.{Task as DrawnTask, Idle as DrawnIdle, Drained as DrawnDrained, Closed as DrawnClosed}
+use Rattle.uc_book.specs.Answers.{reply_of, IfTask, IsTaskOf, IsReclaimed, IsCommitted, IsRight}
+use Rattle.uc_book.specs.Origins.{OriginsAreKnown, CanCompute}
+use Rattle.uc_book.proofs.GoalCount.{as_many_goals}
+use Rattle.uc_book.proofs.Runs.{kept_reaches}
+use Rattle.uc_book.proofs.Drawable.{can_drawn}
 use Rattle.uc_book.specs.Parts.{state_of, Fit, HasRoom, IsBook}
 
 pub at_ticket : (n : ℕ) (ts : List Out) (t : Out) → out_at n ts ≡ Some t → t.ticket ≡ n
@@ -43,3 +50,16 @@ committed_reaches m o w d receipt s u r right of c = commits_on c.task (at_own d
   where
     for_task : (j : Job) (n : ℕ) → j ≡ d.job → take n s.entries ≡ d.front.entries → IsResult m o.problem.axioms (take n s.entries) j d.found
     for_task j n a b = rw (a, b) (rw (← of) right)
+
+-- a drawn task is of its book, and can be computed
+pub task_known : {E O : Type 0} (m : Meaning) (b : BookView O) (w : ℕ) (u : State) (r : Result Drawn E) → Reaches m (opening_of b.opening) b.state → OriginsAreKnown m (opening_of b.opening) b.state → IsOf b.opening.shelf b.front → b.front.entries ≡ b.state.entries
+    → IfOk r (λ d. Draws (opening_of b.opening) w b.state (reply_of w d) u) → IfOk r (λ d. IfTask d (λ t. (t.opening ≡ b.opening) × (t.front ≡ b.front))) → IfOk r (λ d. IfTask d (IsTaskOf m b))
+task_known m b w u (Err e) reaches known of same a h = tt
+task_known m b w u (Ok (DrawnTask t)) reaches known of same a h =
+    let o = opening_of b.opening in
+    let es : t.front.entries ≡ b.state.entries = ap (λ (f : Sight). f.entries) h.1 ∙ same in
+    let can : CanCompute m o b.state.entries t.job = can_drawn m o w b.state (reply_of w (DrawnTask t)) u (as_many_goals m o b.state reaches) ((kept_reaches m o b.state reaches).facts.each_meets) known a in
+    record { opening = h.0; front = h.1; of = subst (IsOf b.opening.shelf) (sym h.1) of; can = subst (λ x. CanCompute m o x t.job) (sym es) can }
+task_known m b w u (Ok (DrawnIdle n)) reaches known of same a h = tt
+task_known m b w u (Ok DrawnDrained) reaches known of same a h = tt
+task_known m b w u (Ok (DrawnClosed v)) reaches known of same a h = tt

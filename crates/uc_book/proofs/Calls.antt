@@ -37,7 +37,7 @@ use Rattle.uc_book.specs.declared.task.Job.TheVariants.{Goal, More, Meet, Join}
 use Rattle.uc_book.specs.Lists.{At, first, later, change, each, Each, map_option}
 use Rattle.uc_book.specs.State.{Opening, State, Pair, Target, Out, dead_of, is_draw, draws_in, is_unit, out_at, without, is_waiting, queue_from, queue, peek, is_due, is_continued, is_unmet}
 use Rattle.uc_book.specs.Effects.{records, closes, ending_of, publishes, enters, appends, dies, kills, settles, turns, stages, hands_out, takes, ends, restores, reclaim_event, reclaims, recalls, draw_event, wakes, wakes_stage, meets_unmet, unit_of, one_drawn, one_commit, one_reclaim, sides_weight, numbers_rise, task_for, drops, accepts, takes_ends, goes_on, is_met, pair_by, forms, visits, keeps}
-use Rattle.uc_book.specs.Events.{units, units_after, unit_in, unit_draw, is_unit_draw, draw_in, draws_by, commits_by, reclaims_by, out_to, numbers_of, is_commit_what, is_reclaim_what, ends_pair, ended_by}
+use Rattle.uc_book.specs.Events.{units, units_after, unit_in, unit_draw, is_unit_draw, draw_in, draws_by, commits_by, reclaims_by, out_to, numbers_of, is_commit_what, is_reclaim_what, ending_in, ended_after, ended_by}
 use Rattle.uc_book.specs.Promises.{Rising, WasDrawn, later_fact, IsOf}
 use Rattle.std.proofs.lemmas.Bool.{ltb-true, cases_order}
 use Rattle.uc_order.specs.Laws.{Meaning}
@@ -52,7 +52,7 @@ use Rattle.uc_book.specs.Chains.{end_of}
 use Rattle.uc_book.specs.Draws.{Reply, NoneDue, NoneUnmet, IsLate, Waits, NothingWaits, Draws, verdict_stands, goal_is_due, fact_is_unmet, orphan_is_dropped, goal_is_continued, pair_is_drawn, budget_is_out, budget_is_spent, all_is_out, all_is_done}
 use Rattle.uc_book.specs.Commits.{GoalEnds, ends_meet, ends_differ, StageAfter, Meets, within_limit, past_limit, deaths, newly_waiting, stays, steps_of, end_word, Commits, is_late, goal_ends, more_ends, pair_joins, fact_is_kept, fact_is_stale, fact_is_dead, fact_meets}
 use Rattle.uc_book.specs.Runs.{AuditReply, axiom_pairs, opened, Starts, axioms_wait, too_many_axioms, Audits, is_closed, is_spent, is_kept, Closes, converges, has_large, has_stuck, IsDrained, IsAudited, not_yet, once_more, MayAudit}
-use Rattle.uc_book.proofs.Kept.{Facts, IsBusy, is_same, Tasks, to_end, EndsOnce, Numbered, Accounts, Kept}
+use Rattle.uc_book.proofs.Kept.{Facts, IsBusy, is_same, Tasks, EndsOnce, Numbered, Accounts, Kept}
 use Rattle.uc_book.proofs.Lists.{get-append, below, get-change_same, get-change_other, Each-map}
 use Rattle.uc_book.proofs.Found.{IsFound, first_is, IsPlace, peek_is}
 use Rattle.uc_book.proofs.Blocks.{busy-goal, busy-more, busy-append, ends-append, origin-append, born-dies}
@@ -72,12 +72,12 @@ unmet_is Unmet e = refl
 unmet_is Visiting e = absurd (false≢true e)
 unmet_is Met e = absurd (false≢true e)
 
-record WaitsAt (ps : List Pair) (n : ℕ) : Type 0 where
-  pair : Pair
-  at : slice_get ps n ≡ Some pair
-  is : pair.condition ≡ Waiting
+pub record WaitsAt (ps : List Pair) (n : ℕ) : Type 0 where
+  pub pair : Pair
+  pub at : slice_get ps n ≡ Some pair
+  pub is : pair.condition ≡ Waiting
 
-place_waits : (ps : List Pair) (q : Place) → IsPlace 0 ps q → WaitsAt ps q.number
+pub place_waits : (ps : List Pair) (q : Place) → IsPlace 0 ps q → WaitsAt ps q.number
 place_waits ps q i = let e : i.place ≡ q.number = (let f : q.number ≡ 0 + i.place = i.number in omega arith) in
     record { pair = i.pair; at = subst (λ n. slice_get ps n ≡ Some i.pair) e i.at; is = waits_is i.pair.condition i.waits }
 
@@ -170,7 +170,7 @@ kept_forms o i fs n u l d m = record {
   accounts = m.kept.accounts;
   facts = m.kept.facts;
   tasks = tasks_stay u.pairs _ u.goals u.goals u.meetings u.meetings u.out (λ v j b. subst (λ z. IsBusy (u.pairs ++ map (pair_by u.entries) fs) u.goals z v j) (append-nil u.meetings) (busy-append u.pairs (map (pair_by u.entries) fs) u.goals u.meetings [] v j b)) m.kept.tasks;
-  ends_once = ends-append u.pairs _ u.history m.kept.ends_once;
+  ends_once = ends-append u.pairs (map (pair_by u.entries) fs) u.out u.history m.kept.ends_once;
   numbered = numbered_forms i u.entries u.meetings m.met fs u.pairs l d m.new m.kept.numbered;
 }
 
@@ -182,13 +182,11 @@ new_for : (ps : List Pair) (ms : List Meeting) (i : ℕ) (fs : List Formed) → 
 new_for ps ms i [] n at l = tt
 new_for ps ms i (f ∷ fs) n at l = ((λ p a. (let b : slice_get ms (later_fact f.overlap) ≡ Some Met = n.met p f.overlap a in let c : slice_get ms i ≡ Some Met = subst (λ z. slice_get ms z ≡ Some Met) l.0 b in absurd (cc))), new_for ps ms i fs n at l.1)
 
-
 born-take : (n : ℕ) (es : List Entry) → length (born (take n es)) ≤ length (born es)
 born-take zero es = omega arith
 born-take (suc n) [] = omega arith
 born-take (suc n) (Born f ∷ es) = let h : length (born (take n es)) ≤ length (born es) = born-take n es in omega arith
 born-take (suc n) (Dies f k ∷ es) = born-take n es
-
 
 -- what the results of meetings owe: the kills are born in the front, and the overlaps differ, the fact that meets being the later
 -- one of each
@@ -219,10 +217,10 @@ met_by_job : (o : Opening) (s : State) (t : Out) (i : ℕ) → Kept o s → out_
 met_by_job o s t i k at is c d = subst (λ x. Kept o (is_met i (accepts (with_job t x) (CommitMeet i c d) s))) (sym is)
     (kept_met o s t.ticket t.worker i t.front (CommitMeet i c d) k (at_job t s.out (Meet i) is at) (record { no_draw = refl; commit = refl; no_reclaim = refl; unit = refl }) (λ q. refl))
 
-done_by_job : (o : Opening) (s : State) (t : Out) (p : ℕ) (a : Origin) (h : Happening) → Kept o s → out_at t.ticket s.out ≡ Some t → t.job ≡ Join p a → IsCommitOf (draws_in s.history) (with_job t (Join p a)) h → ((q : ℕ) → ends_pair q h ≡ (p == q)) → Kept o (turns Done p (accepts t h s))
+done_by_job : (o : Opening) (s : State) (t : Out) (p : ℕ) (a : Origin) (h : Happening) → Kept o s → out_at t.ticket s.out ≡ Some t → t.job ≡ Join p a → IsCommitOf (draws_in s.history) (with_job t (Join p a)) h → ((q : ℕ) → ending_in (draws_in s.history) q h ≡ cond {A = ℕ} (p == q) 1 0) → Kept o (turns Done p (accepts t h s))
 done_by_job o s t p a h k at is of never = subst (λ x. Kept o (turns Done p (accepts (with_job t x) h s))) (sym is) (kept_done o s t.ticket t.worker p t.front a h k (at_job t s.out (Join p a) is at) of never)
 
-goal_by_job : (o : Opening) (s : State) (t : Out) (j : Job) (gs : List Target) (h : Happening) → Kept o s → out_at t.ticket s.out ≡ Some t → t.job ≡ j → IsCommitOf (draws_in s.history) (with_job t j) h → ((q : ℕ) → ends_pair q h ≡ false)
+goal_by_job : (o : Opening) (s : State) (t : Out) (j : Job) (gs : List Target) (h : Happening) → Kept o s → out_at t.ticket s.out ≡ Some t → t.job ≡ j → IsCommitOf (draws_in s.history) (with_job t j) h → ((q : ℕ) → ending_in (draws_in s.history) q h ≡ 0)
     → ((v : ℕ) (i : Job) → is_same j i ≡ false → IsBusy s.pairs s.goals s.meetings v i → IsBusy s.pairs gs s.meetings v i) → Kept o (record (accepts t h s) { goals = gs })
 goal_by_job o s t j gs h k at is of never stay = subst (λ x. Kept o (record (accepts (with_job t x) h s) { goals = gs })) (sym is) (kept_ends o s t.ticket t.worker t.front j gs h k (at_job t s.out j is at) of never stay)
 
@@ -233,13 +231,13 @@ kept_commits o s t _ u k at right (goal_ends {l = c} {r = d} {stop = stop} g a b
     kept_goal_ends o s t g CommitGoal c d stop u
     (goal_by_job o s t (Goal g a b) (change (goes_on c d) s.goals g) (CommitGoal g (steps_of c d) EndsMet) k at is (record { no_draw = refl; commit = refl; no_reclaim = refl; unit = refl }) (λ q. refl) (λ v i x y. busy-goal s.pairs s.goals s.meetings (goes_on c d) g a b v i x y))
     (λ z. goal_by_job o s t (Goal g a b) (change (λ (x : Target). record x { stage = z }) (change (goes_on c d) s.goals g) g) (CommitGoal g (steps_of c d) (end_word stop)) k at is (record { no_draw = refl; commit = refl; no_reclaim = refl; unit = refl }) (λ q. refl)
-      (λ v i x y. busy-goal s.pairs (change (goes_on c d) s.goals g) s.meetings (λ (w : Target). record w { stage = z }) g a b v i x (busy-goal s.pairs s.goals s.meetings (goes_on c d) g a b v i x y)))
+    (λ v i x y. busy-goal s.pairs (change (goes_on c d) s.goals g) s.meetings (λ (w : Target). record w { stage = z }) g a b v i x (busy-goal s.pairs s.goals s.meetings (goes_on c d) g a b v i x y)))
     ends_
 kept_commits o s t _ u k at right (more_ends {l = c} {r = d} {stop = stop} g a b e is ends_) =
     kept_goal_ends o s t g CommitMore c d stop u
     (goal_by_job o s t (More g a b) (change (goes_on c d) s.goals g) (CommitMore g (steps_of c d) EndsMet) k at is (record { no_draw = refl; commit = refl; no_reclaim = refl; unit = refl }) (λ q. refl) (λ v i x y. busy-more s.pairs s.goals s.meetings (goes_on c d) g a b v i x y))
     (λ z. goal_by_job o s t (More g a b) (change (λ (x : Target). record x { stage = z }) (change (goes_on c d) s.goals g) g) (CommitMore g (steps_of c d) (end_word stop)) k at is (record { no_draw = refl; commit = refl; no_reclaim = refl; unit = refl }) (λ q. refl)
-      (λ v i x y. busy-more s.pairs (change (goes_on c d) s.goals g) s.meetings (λ (w : Target). record w { stage = z }) g a b v i x (busy-more s.pairs s.goals s.meetings (goes_on c d) g a b v i x y)))
+    (λ v i x y. busy-more s.pairs (change (goes_on c d) s.goals g) s.meetings (λ (w : Target). record w { stage = z }) g a b v i x (busy-more s.pairs s.goals s.meetings (goes_on c d) g a b v i x y)))
     ends_
 kept_commits o s t _ _ k at right (pair_joins p a e is) = done_by_job o s t p a (CommitJoined p) k at is (record { no_draw = refl; commit = refl; no_reclaim = refl; unit = refl }) (λ q. refl)
 kept_commits o s t _ _ k at right (fact_is_kept {f = f} p a e is) =
@@ -255,11 +253,11 @@ kept_commits o s t _ u k at right (fact_meets {ks = ks} {fs = fs} i e is alive m
     let low : Each (λ c. c < length (born s.entries)) ks = Each-map (λ (c : ℕ) (l : c < length (born (take t.front s.entries))). (let b = born-take t.front s.entries in let q : c < length (born s.entries) = omega arith in q)) ks r.kills_born in
     kept_meets o s t i (newly_waiting fs (each (λ c. kills i c) ks s)) (λ x. visits i ks fs x) u (met_by_job o s t i k at is)
     (λ x y h. kept_visits o i ks fs (length (born s.entries)) (is_met i (accepts t (CommitMeet i x y) s)) low r.later_is r.differ
-      (record { kept = h; met = get-change_same (λ (z : Meeting). Met) s.meetings i Visiting v; new = new_for s.pairs s.meetings i fs k.numbered v r.later_is; born = refl })) m
+    (record { kept = h; met = get-change_same (λ (z : Meeting). Met) s.meetings i Visiting v; new = new_for s.pairs s.meetings i fs k.numbered v r.later_is; born = refl })) m
 
 -- recall
 
-out_restored : (n w fr : ℕ) (j : Job) (s : State) → (let t : Out = record { ticket = n; worker = w; job = j; front = fr } in (reclaims t s).out ≡ without n s.out)
+pub out_restored : (n w fr : ℕ) (j : Job) (s : State) → (let t : Out = record { ticket = n; worker = w; job = j; front = fr } in (reclaims t s).out ≡ without n s.out)
 out_restored n w fr (Goal g l r) s = refl
 out_restored n w fr (More g l r) s = refl
 out_restored n w fr (Meet i) s = refl
@@ -329,9 +327,9 @@ kept_opened o ps none_of = record {
     rising = tt;
     known = tt;
   };
-  facts = record { once = tt; are_born = tt; each_meets = refl };
+  facts = record { once = tt; later = tt; are_born = tt; each_meets = refl };
   tasks = record { busy = tt; apart = tt };
-  ends_once = ends-append [] ps [] (λ p. omega arith);
+  ends_once = ends-append [] ps [] [] (λ p. omega arith);
   numbered = record { once = λ p q v a c. absurd (none_of p v a); met = λ p v a. absurd (none_of p v a) };
 }
 

@@ -26,7 +26,7 @@ module _ (m : Meaning) (o : Opening) where
   -- a pair that waited and is an orphan is still known
   known_dropped : (es : List Entry) (ps : List Pair) (k : ℕ) (x : Pair) → slice_get ps k ≡ Some x → x.condition ≡ Waiting → Each (Known es) ps → Each (Known es) (change (λ (y : Pair). record y { condition = Orphan }) ps k)
   known_dropped es [] k x at w e = tt
-  known_dropped es (p ∷ ps) zero x at w e = (let same : p ≡ x = cc in λ n. e.0 (λ l. (let f : p.condition ≡ Waiting = ap (λ (z : Pair). z.condition) same ∙ w in let g : Waiting ≡ Large = sym f ∙ l in absurd (cc))), e.1)
+  known_dropped es (p ∷ ps) zero x at w e = ((let same : p ≡ x = cc in let f : p.condition ≡ Waiting = ap (λ (z : Pair). z.condition) same ∙ w in λ n. (e.0 (λ l. (let g : Waiting ≡ Large = sym f ∙ l in absurd (cc))))), e.1)
   known_dropped es (p ∷ ps) (suc k) x at w e = (e.0, known_dropped es ps k x at w e.1)
 
   known_at : (es : List Entry) (ps : List Pair) (k : ℕ) (x : Pair) → slice_get ps k ≡ Some x → Each (Known es) ps → Known es x

@@ -1,7 +1,7 @@
 -- The rows of the facts when one changes or is added.
 use Rattle.std.proofs.Common.{◌≡◌, ℕ, zero, suc, ◌+◌, ◌<◌, ◌≤◌, ◌^◌, List, [], ◌∷◌, ◌++◌, length, get_or, set, Bool, true, false, cond, ◌==◌, Option, Some, None, refl, ap, sym, ◌∙◌, arith, inl, inr, subst, slice_get}
 use Rattle.std.specs.Prelude.{◌||◌}
-use Rattle.std.proofs.lemmas.Bool.{cases_eq}
+use Rattle.std.proofs.lemmas.Bool.{cases_eq, cases_order}
 use Rattle.std.proofs.lemmas.List.{length-set, length_push, get_or-set_same, get_or-set_other, get_or_append_left}
 use Rattle.uc_term.specs.Tree.{nodes}
 use Rattle.uc_fact.specs.declared.fact.Fact.{Fact}
@@ -11,7 +11,10 @@ use Rattle.uc_shelf.specs.Entries.{born, is_dead}
 use Rattle.uc_book.specs.declared.facts.FactRow.{FactRow}
 use Rattle.uc_book.specs.State.{is_unmet}
 use Rattle.uc_book.specs.Effects.{sides_weight}
-use Rattle.uc_book.specs.FactRows.{dead_in, weight_in, AreRows, NoneUnmetBelow}
+use Rattle.uc_book.specs.declared.state.Meeting.{Meeting}
+use Rattle.uc_book.specs.Lists.{At, first, map_option}
+use Rattle.uc_book.specs.FactRows.{dead_in, weight_in, meetings_of, AreRows, NoneUnmetBelow}
+use Rattle.uc_book.proofs.Items.{first-at, first-none}
 
 dead-set : (rows : List FactRow) (k n : ℕ) (y : FactRow) → ((d : FactRow) → y.is_dead ≡ (get_or rows k d).is_dead) → dead_in (slice_get (set rows k y) n) ≡ dead_in (slice_get rows n)
 dead-set [] k n y e = refl
@@ -88,3 +91,13 @@ born-few (Dies f k ∷ es) = let i : length (born es) ≤ length es = born-few e
 -- a front of few entries has few facts
 pub few-born : (es : List Entry) (rows : List FactRow) → AreRows es rows → length es ≤ 2 ^ 31 → length rows ≤ 2 ^ 31
 few-born es rows h l = let b : length (born es) ≤ length es = born-few es in let a : length rows ≡ length (born es) = h.as_many in omega arith
+
+-- the search for the least fact goes on where nothing was found before
+pub none_further : (rows : List FactRow) (from to : ℕ) → NoneUnmetBelow from rows → ((k : ℕ) (d : FactRow) → from ≤ k → k < to → k < length rows → is_unmet (get_or rows k d).meeting ≡ false) → NoneUnmetBelow to rows
+none_further rows from to h n k d a l = elim (cases_order k from) [ inl e ↦ n k d (omega arith) a l | inr o ↦ elim o [ inl b ↦ h k d b l | inr b ↦ n k d (omega arith) a l ] ]
+
+pub fact_found : (rows : List FactRow) (to : ℕ) → to < length rows → ((d : FactRow) → is_unmet (get_or rows to d).meeting ≡ true) → NoneUnmetBelow to rows → map_option (λ (f : At Meeting). f.number) (first is_unmet (meetings_of rows)) ≡ Some to
+fact_found rows to l y n = first-at (λ (r : FactRow). r.meeting) is_unmet rows to l y (λ k d b. n k d b (omega arith))
+
+pub no_fact : (rows : List FactRow) (to : ℕ) → length rows ≤ to → NoneUnmetBelow to rows → map_option (λ (f : At Meeting). f.number) (first is_unmet (meetings_of rows)) ≡ None
+no_fact rows to l n = first-none (λ (r : FactRow). r.meeting) is_unmet rows (λ k d b. n k d (omega arith) b)

@@ -17,7 +17,9 @@ use Rattle.uc_book.specs.declared.parts.Parts.{Parts}
 use Rattle.uc_book.specs.declared.event.Verdict.{Verdict}
 use Rattle.uc_book.specs.State.{State, draws_in}
 use Rattle.uc_book.specs.Effects.{hands_out, next_ticket, draw_event, one_drawn}
-use Rattle.uc_book.specs.Parts.{state_of, closings, Fit, HasRoom}
+use Rattle.uc_book.specs.Parts.{state_of, closings, Fit, HasRoom, RoomFor}
+use Rattle.uc_book.specs.Ending.{HasEnded}
+use Rattle.uc_book.proofs.PutBack.{joins_left}
 use Rattle.uc_book.proofs.Lists.{Each-map, Each-push, length-change}
 use Rattle.uc_book.proofs.Histories.{draws-one}
 use Rattle.uc_book.proofs.Items.{Each-remove, length-remove}
@@ -79,3 +81,25 @@ fit_ended shelf p q at more f inside of entries next tasks draws numbers = recor
   few = (let l : length p.tasks.items < 2 ^ 32 = f.few in let k : length (remove p.tasks.items at) + 1 ≡ length p.tasks.items = length-remove p.tasks.items at inside in let e : length q.tasks.items ≡ length (remove p.tasks.items at) = ap length tasks in omega arith);
   workers = numbers ∙ f.workers;
 }
+
+-- there is room after a task was given, where there was room for it
+pub room_given : (p q : Parts) (row : TaskRow) → HasRoom p → RoomFor 2 p → q.tasks.items ≡ p.tasks.items ++ row ∷ [] → q.verdict ≡ p.verdict → vec_len q.history ≡ vec_len p.history + 1 → vec_capacity q.history ≡ vec_capacity p.history
+    → p.pairs.spare + unit_if_join row.job ≤ q.pairs.spare → HasRoom q
+room_given p q row room two tasks verdict history capacity spare =
+    let l : length q.tasks.items ≡ length p.tasks.items + 1 = ap length tasks ∙ length_push p.tasks.items row in
+    let v : closings q.verdict ≡ closings p.verdict = ap closings verdict in
+    let n : joins q.tasks.items ≡ joins p.tasks.items + unit_if_join row.job = ap joins tasks ∙ sum_by_push (λ (t : TaskRow). cond (is_join t.job) 1 0) p.tasks.items row in
+    let w : joins p.tasks.items ≤ p.pairs.spare = room.waiting in
+    record { events = omega arith; waiting = omega arith }
+
+-- there is room after a task ended
+pub room_ended : (p q : Parts) (at : ℕ) (t : Out) → HasRoom p → StandsAt p.tasks.items at t → HasEnded p at q → p.pairs.spare ≤ q.pairs.spare + unit_if_join t.job → HasRoom q
+room_ended p q at t room stands ended spare =
+    let l : length (remove p.tasks.items at) + 1 ≡ length p.tasks.items = length-remove p.tasks.items at stands.inside in
+    let k : length q.tasks.items ≡ length (remove p.tasks.items at) = ap length ended.tasks in
+    let v : closings q.verdict ≡ closings p.verdict = ap closings ended.verdict in
+    let n : joins q.tasks.items ≡ joins (remove p.tasks.items at) = ap joins ended.tasks in
+    let j : joins (remove p.tasks.items at) + unit_if_join t.job ≡ joins p.tasks.items = joins_left p.tasks.items at t stands in
+    let w : joins p.tasks.items ≤ p.pairs.spare = room.waiting in
+    let e = room.events in
+    record { events = omega arith; waiting = omega arith }

@@ -37,7 +37,7 @@ use Rattle.uc_book.specs.declared.task.Job.TheVariants.{Goal, More, Meet, Join}
 use Rattle.uc_book.specs.Lists.{At, first, later, change, each, Each, map_option}
 use Rattle.uc_book.specs.State.{Opening, State, Pair, Target, Out, dead_of, is_draw, draws_in, is_unit, out_at, without, is_waiting, queue_from, queue, peek, is_due, is_continued, is_unmet}
 use Rattle.uc_book.specs.Effects.{records, closes, ending_of, publishes, enters, appends, dies, kills, settles, turns, stages, hands_out, takes, ends, restores, reclaim_event, reclaims, recalls, draw_event, wakes, wakes_stage, meets_unmet, unit_of, one_drawn, one_commit, one_reclaim, sides_weight, numbers_rise, task_for, drops, accepts, takes_ends, goes_on, is_met, pair_by, forms, visits, keeps}
-use Rattle.uc_book.specs.Events.{units, units_after, unit_in, unit_draw, is_unit_draw, draw_in, draws_by, commits_by, reclaims_by, out_to, numbers_of, is_commit_what, is_reclaim_what, ends_pair, ended_by}
+use Rattle.uc_book.specs.Events.{units, units_after, unit_in, unit_draw, is_unit_draw, draw_in, draws_by, commits_by, reclaims_by, out_to, numbers_of, is_commit_what, is_reclaim_what, ending_in, ended_after, ended_by}
 use Rattle.uc_book.specs.Promises.{Rising, WasDrawn, later_fact, IsOf}
 use Rattle.uc_fact.specs.declared.joinable.Reason.{Reason}
 use Rattle.uc_book.specs.declared.task.Finding.{Finding}
@@ -65,13 +65,13 @@ draws_grew o w s _ _ (budget_is_spent l a b c) = same s.entries
 draws_grew o w s _ _ (all_is_out l a b) = same s.entries
 draws_grew o w s _ _ (all_is_done l a b) = same s.entries
 
-kills_grew : (i k : ℕ) (s : State) → Grew s.entries ((kills i k s).entries)
+pub kills_grew : (i k : ℕ) (s : State) → Grew s.entries ((kills i k s).entries)
 kills_grew i k s = elim (cases_Bool (is_dead s.entries k)) as (λ _. Grew s.entries ((kills i k s).entries)) [
   | inl e ↦ rw e (same s.entries)
   | inr e ↦ rw e (record { more = Dies k i ∷ []; is = refl })
 ]
 
-each_grew : (i : ℕ) (ks : List ℕ) (s : State) → Grew s.entries ((each (kills i) ks s).entries)
+pub each_grew : (i : ℕ) (ks : List ℕ) (s : State) → Grew s.entries ((each (kills i) ks s).entries)
 each_grew i [] s = same s.entries
 each_grew i (k ∷ ks) s = further _ _ _ (kills_grew i k s) (each_grew i ks (kills i k s))
 

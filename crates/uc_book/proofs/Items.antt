@@ -1,6 +1,6 @@
 -- Lists as code has them, by index, and as the machine has them.
 use Rattle.std.proofs.Common.{◌≡◌, ℕ, zero, suc, ◌+◌, ◌-◌, ◌<◌, ◌≤◌, List, [], ◌∷◌, ◌++◌, length, get_or, set, take, drop, Bool, true, false, cond, Option, Some, None, refl, ap, sym, ◌∙◌, arith, subst, map, slice_get}
-use Rattle.std.specs.Prelude.{remove}
+use Rattle.std.specs.Prelude.{remove, min, Result, Ok, Err, OnOk}
 use Rattle.uc_book.specs.Lists.{At, first, later, change, map_option, Each}
 
 -- one item is changed
@@ -13,6 +13,11 @@ pub change-set_plain : {A : Type 0} (f : A → A) (xs : List A) (n : ℕ) (y : A
 change-set_plain f [] n y l e = absurd (omega arith)
 change-set_plain f (x ∷ xs) zero y l e = ap (λ z. z ∷ xs) (e x)
 change-set_plain f (x ∷ xs) (suc n) y l e = ap (λ z. x ∷ z) (change-set_plain f xs n y (omega arith) e)
+
+pub change-read : {A : Type 0} (f : A → A) (xs : List A) (n : ℕ) (x : A) → n < length xs → x ≡ get_or xs n x → set xs n (f x) ≡ change f xs n
+change-read f [] n x l e = absurd (omega arith)
+change-read f (y ∷ xs) zero x l e = ap (λ z. f z ∷ xs) e
+change-read f (y ∷ xs) (suc n) x l e = ap (λ z. y ∷ z) (change-read f xs n x (omega arith) e)
 
 pub change-past : {A : Type 0} (f : A → A) (xs : List A) (n : ℕ) → length xs ≤ n → change f xs n ≡ xs
 change-past f [] n l = refl
@@ -60,7 +65,8 @@ or-get (y ∷ xs) (suc n) x d e = or-get xs n x d e
 
 -- an item less
 pub Each-remove : {A : Type 0} (P : A → Type 0) (xs : List A) (i : ℕ) → Each P xs → Each P (remove xs i)
-Each-remove P [] i e = tt
+Each-remove P [] zero e = tt
+Each-remove P [] (suc i) e = tt
 Each-remove P (x ∷ xs) zero e = e.1
 Each-remove P (x ∷ xs) (suc i) e = (e.0, Each-remove P xs i e.1)
 
@@ -68,3 +74,16 @@ pub length-remove : {A : Type 0} (xs : List A) (i : ℕ) → i < length xs → l
 length-remove [] i l = absurd (omega arith)
 length-remove (x ∷ xs) zero l = omega arith
 length-remove (x ∷ xs) (suc i) l = omega (arith, length-remove xs i (omega arith))
+
+-- where a search goes on
+pub back-le : (b : Bool) (f n to : ℕ) → to ≡ cond {A = ℕ} b (min f n) f → to ≤ f
+back-le true f n to e = omega arith
+back-le false f n to e = omega arith
+
+pub back-at : (b : Bool) (f n to : ℕ) → to ≡ cond {A = ℕ} b (min f n) f → b ≡ true → to ≤ n
+back-at true f n to e q = omega arith
+back-at false f n to e q = absurd (cc)
+
+pub on_ok : {T E : Type 0} {P Q : Type 0} (r : Result T E) → (P → Q) → OnOk r P → OnOk r Q
+on_ok (Ok x) f h = f h
+on_ok (Err e) f h = h

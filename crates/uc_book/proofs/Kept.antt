@@ -37,8 +37,8 @@ use Rattle.uc_book.specs.declared.task.Job.TheVariants.{Goal, More, Meet, Join}
 use Rattle.uc_book.specs.Lists.{At, first, later, change, each, Each, map_option}
 use Rattle.uc_book.specs.State.{Opening, State, Pair, Target, Out, dead_of, is_draw, draws_in, is_unit, out_at, without, is_waiting, queue_from, queue, peek, is_due, is_continued, is_unmet}
 use Rattle.uc_book.specs.Effects.{records, closes, ending_of, publishes, enters, appends, dies, kills, settles, turns, stages, hands_out, takes, ends, restores, reclaim_event, reclaims, recalls, draw_event, wakes, wakes_stage, meets_unmet, unit_of, one_drawn, one_commit, one_reclaim, sides_weight, numbers_rise, task_for, drops, accepts, takes_ends, goes_on, is_met, pair_by, forms, visits, keeps}
-use Rattle.uc_book.specs.Events.{units, units_after, unit_in, unit_draw, is_unit_draw, draw_in, draws_by, commits_by, reclaims_by, out_to, numbers_of, is_commit_what, is_reclaim_what, ends_pair, ended_by}
-use Rattle.uc_book.specs.Promises.{Rising, WasDrawn, later_fact, IsOf}
+use Rattle.uc_book.specs.Events.{units, units_after, unit_in, unit_draw, is_unit_draw, draw_in, draws_by, commits_by, reclaims_by, out_to, numbers_of, is_commit_what, is_reclaim_what, ending_in, ended_after, ended_by}
+use Rattle.uc_book.specs.Promises.{Rising, WasDrawn, DieLater, later_fact, IsOf}
 
 -- its draw is the one of its ticket, and its front names a prefix of the n entries
 pub record IsKnown (n : ℕ) (h : List Event) (t : Out) : Type 0 where
@@ -72,9 +72,11 @@ abbrev pub Distinct : List ℕ → Type 0
 Distinct [] = Unit {0}
 Distinct (m ∷ ms) = NotIn m ms × Distinct ms
 
--- The facts: at most one Dies entry names a fact, each that does names one that is born, and each fact has its meeting.
+-- The facts: at most one Dies entry names a fact, each that does stands behind the birth of the one that it names, and each fact
+-- has its meeting.
 pub record Facts (entries : List Entry) (meetings : List Meeting) : Type 0 where
   pub once : Distinct (dead_of entries)
+  pub later : DieLater 0 entries
   pub are_born : Each (λ i. i < length (born entries)) (dead_of entries)
   pub each_meets : length meetings ≡ length (born entries)
 
@@ -107,21 +109,32 @@ pub record Tasks (pairs : List Pair) (goals : List Target) (meetings : List Meet
   pub busy : Each (λ (t : Out). IsBusy pairs goals meetings t.worker t.job) out
   pub apart : AllApart out
 
-abbrev pub may_end : Condition → ℕ
-may_end Waiting = 1
-may_end (OutTo w) = 1
-may_end Done = 0
-may_end Orphan = 0
-may_end Large = 0
+abbrev pub may_draw : Condition → ℕ
+may_draw Waiting = 1
+may_draw (OutTo w) = 0
+may_draw Done = 0
+may_draw Orphan = 0
+may_draw Large = 0
 
--- a pair that is still to be ended: it waits, is out, or has no number yet
-abbrev pub to_end : Option Pair → ℕ
-to_end None = 1
-to_end (Some p) = may_end p.condition
+-- a pair that may still be drawn: it waits, or has no number yet
+abbrev pub to_draw : Option Pair → ℕ
+to_draw None = 1
+to_draw (Some p) = may_draw p.condition
 
--- Each pair is ended by at most one commit, and by none where it waits or is out.
-abbrev pub EndsOnce : List Pair → List Event → Type 0
-EndsOnce ps h = (p : ℕ) → ended_by p h + to_end (slice_get ps p) ≤ 1
+-- the task is the Join of this pair
+abbrev pub is_join : ℕ → Job → Bool
+is_join p (Goal g l r) = false
+is_join p (More g l r) = false
+is_join p (Meet i) = false
+is_join p (Join q a) = q == p
+
+-- how many Joins of a pair are out
+abbrev pub joins : ℕ → List Out → ℕ
+joins p out = sum_by (λ (t : Out). cond (is_join p t.job) 1 0) out
+
+-- Each pair is ended by at most one commit, and by none where it may still be drawn or is out.
+abbrev pub EndsOnce : List Pair → List Out → List Event → Type 0
+EndsOnce ps out h = (p : ℕ) → ended_by p h + (to_draw (slice_get ps p) + joins p out) ≤ 1
 
 -- An overlap has at most one number, and has one only where the meeting of its later fact was held.
 pub record Numbered (pairs : List Pair) (meetings : List Meeting) : Type 0 where
@@ -132,5 +145,5 @@ pub record Kept (o : Opening) (s : State) : Type 0 where
   pub accounts : Accounts o (length s.entries) s.out s.counted s.reserved s.numbers s.history
   pub facts : Facts s.entries s.meetings
   pub tasks : Tasks s.pairs s.goals s.meetings s.out
-  pub ends_once : EndsOnce s.pairs s.history
+  pub ends_once : EndsOnce s.pairs s.out s.history
   pub numbered : Numbered s.pairs s.meetings

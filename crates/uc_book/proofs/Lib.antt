@@ -8,6 +8,7 @@ pub mod Calls
 pub mod Meetings
 pub mod Grows
 pub mod Promises
+pub mod Renumbered
 pub mod Fronts
 pub mod Runs
 pub mod Earlier
@@ -31,3 +32,15 @@ pub mod BuriedRows
 pub mod RisingNumbers
 pub mod NewPairs
 pub mod Visits
+pub mod Rules
+pub mod Ends
+pub mod Jobs
+pub mod Replacing
+pub mod Replayed
+pub mod Replaying
+pub mod Whole
+pub mod OneDraw
+pub mod OneCall
+pub mod OneResult
+pub mod Continuing
+pub mod Origins

@@ -37,7 +37,7 @@ use Rattle.uc_book.specs.declared.task.Job.TheVariants.{Goal, More, Meet, Join}
 use Rattle.uc_book.specs.Lists.{At, first, later, change, each, Each, map_option}
 use Rattle.uc_book.specs.State.{Opening, State, Pair, Target, Out, dead_of, is_draw, draws_in, is_unit, out_at, without, is_waiting, queue_from, queue, peek, is_due, is_continued, is_unmet}
 use Rattle.uc_book.specs.Effects.{records, closes, ending_of, publishes, enters, appends, dies, kills, settles, turns, stages, hands_out, takes, ends, restores, reclaim_event, reclaims, recalls, draw_event, wakes, wakes_stage, meets_unmet, unit_of, one_drawn, one_commit, one_reclaim, sides_weight, numbers_rise, task_for, drops, accepts, takes_ends, goes_on, is_met, pair_by, forms, visits, keeps}
-use Rattle.uc_book.specs.Events.{units, units_after, unit_in, unit_draw, is_unit_draw, draw_in, draws_by, commits_by, reclaims_by, out_to, numbers_of, is_commit_what, is_reclaim_what, ends_pair, ended_by}
+use Rattle.uc_book.specs.Events.{units, units_after, unit_in, unit_draw, is_unit_draw, draw_in, draws_by, commits_by, reclaims_by, out_to, numbers_of, is_commit_what, is_reclaim_what, ending_in, ended_after, ended_by}
 use Rattle.uc_book.specs.Promises.{Rising, WasDrawn, later_fact, IsOf}
 
 pub get-append : {A : Type 0} (xs ys : List A) (n : ℕ) (x : A) → slice_get xs n ≡ Some x → slice_get (xs ++ ys) n ≡ Some x
@@ -66,6 +66,13 @@ get-change_other f (y ∷ xs) zero (suc m) ne = refl
 get-change_other f (y ∷ xs) (suc n) zero ne = refl
 get-change_other f (y ∷ xs) (suc n) (suc m) ne = get-change_other f xs n m (λ e. ne (ap suc e))
 
+pub get-changed : {A : Type 0} (f : A → A) (xs : List A) (n m : ℕ) (y : A) → slice_get (change f xs n) m ≡ Some y → (slice_get xs m ≡ Some y) ⊎ ((n ≡ m) × ((x : A) × (slice_get xs m ≡ Some x) × (y ≡ f x)))
+get-changed f [] n m y e = absurd (cc)
+get-changed f (x ∷ xs) zero zero y e = inr (refl, (x, refl, (cc)))
+get-changed f (x ∷ xs) zero (suc m) y e = inl e
+get-changed f (x ∷ xs) (suc n) zero y e = inl e
+get-changed f (x ∷ xs) (suc n) (suc m) y e = elim (get-changed f xs n m y e) [ inl a ↦ inl a | inr b ↦ inr (ap suc b.0, b.1) ]
+
 pub length-change : {A : Type 0} (f : A → A) (xs : List A) (n : ℕ) → length (change f xs n) ≡ length xs
 length-change f [] n = refl
 length-change f (x ∷ xs) zero = refl
@@ -74,6 +81,14 @@ length-change f (x ∷ xs) (suc n) = ap suc (length-change f xs n)
 pub Each-map : {A : Type 0} {P Q : A → Type 0} → ((x : A) → P x → Q x) → (xs : List A) → Each P xs → Each Q xs
 Each-map f [] h = tt
 Each-map f (x ∷ xs) h = (f x h.0, Each-map f xs h.1)
+
+pub Each-front : {A : Type 0} (P : A → Type 0) (xs ys : List A) → Each P (xs ++ ys) → Each P xs
+Each-front P [] ys h = tt
+Each-front P (x ∷ xs) ys h = (h.0, Each-front P xs ys h.1)
+
+pub Each-behind : {A : Type 0} (P : A → Type 0) (xs ys : List A) → Each P (xs ++ ys) → Each P ys
+Each-behind P [] ys h = h
+Each-behind P (x ∷ xs) ys h = Each-behind P xs ys h.1
 
 pub Each-push : {A : Type 0} (P : A → Type 0) (xs : List A) (x : A) → Each P xs → P x → Each P (xs ++ x ∷ [])
 Each-push P [] x h p = (p, tt)

@@ -38,7 +38,7 @@ use Rattle.uc_book.specs.declared.task.Job.TheVariants.{Goal, More, Meet, Join}
 use Rattle.uc_book.specs.Lists.{At, first, later, change, each, Each, map_option}
 use Rattle.uc_book.specs.State.{Opening, State, Pair, Target, Out, dead_of, is_draw, draws_in, is_unit, out_at, without, is_waiting, queue_from, queue, peek, is_due, is_continued, is_unmet}
 use Rattle.uc_book.specs.Effects.{records, closes, ending_of, publishes, enters, appends, dies, kills, settles, turns, stages, hands_out, takes, ends, restores, reclaim_event, reclaims, recalls, draw_event, wakes, wakes_stage, meets_unmet, unit_of, one_drawn, one_commit, one_reclaim, sides_weight, numbers_rise, task_for, drops, accepts, takes_ends, goes_on, is_met, pair_by, forms, visits, keeps}
-use Rattle.uc_book.specs.Events.{units, units_after, unit_in, unit_draw, is_unit_draw, draw_in, draws_by, commits_by, reclaims_by, out_to, numbers_of, is_commit_what, is_reclaim_what, ends_pair, ended_by}
+use Rattle.uc_book.specs.Events.{units, units_after, unit_in, unit_draw, is_unit_draw, draw_in, draws_by, commits_by, reclaims_by, out_to, numbers_of, is_commit_what, is_reclaim_what, ending_in, ended_after, ended_by}
 use Rattle.uc_book.specs.Promises.{Rising, WasDrawn, later_fact, IsOf}
 use Rattle.std.specs.Prelude.{not, filter}
 use Rattle.std.proofs.lemmas.Bool.{ltb-true, ltb-false}
@@ -52,7 +52,7 @@ use Rattle.uc_book.specs.Results.{AreKills, no_facts, kills_it, spares_it, is_no
 use Rattle.uc_book.proofs.Lists.{Each-map}
 use Rattle.uc_book.proofs.Calls.{AllDiffer, MeetsRightly}
 
-Each-append : {A : Type 0} (P : A → Type 0) (xs ys : List A) → Each P xs → Each P ys → Each P (xs ++ ys)
+pub Each-append : {A : Type 0} (P : A → Type 0) (xs ys : List A) → Each P xs → Each P ys → Each P (xs ++ ys)
 Each-append P [] ys a b = b
 Each-append P (x ∷ xs) ys a b = (a.0, Each-append P xs ys a.1 b)
 
@@ -62,7 +62,7 @@ numbered_below : (n : ℕ) (es : List Equation) → Each (λ (f : Live). f.numbe
 numbered_below n [] = tt
 numbered_below n (e ∷ es) = ((let h : n < n + suc (length es) = omega arith in h), Each-map (λ (f : Live) (h : f.number < n + 1 + length es). (let r : f.number < n + suc (length es) = omega arith in r)) (numbered_from (n + 1) es) (numbered_below (n + 1) es))
 
-Each-filter : (P : Live → Type 0) (p : Live → Bool) (fs : List Live) → Each P fs → Each P (filter p fs)
+pub Each-filter : (P : Live → Type 0) (p : Live → Bool) (fs : List Live) → Each P fs → Each P (filter p fs)
 Each-filter P p [] h = tt
 Each-filter P p (f ∷ fs) h = elim (cases_Bool (p f)) as (λ _. Each P (filter p (f ∷ fs))) [
   | inl b ↦ rw b (h.0, Each-filter P p fs h.1)
@@ -138,9 +138,9 @@ pub record IsOfFacts (j i : ℕ) (g : Formed) : Type 0 where
 of_facts : (outer inner : Rule) (fs : List Formed) → Each (IsOfRules outer inner 0) fs → Each (IsOfFacts outer.number inner.number) fs
 of_facts outer inner fs a = Each-map (λ g x. record { outer_is = x.outer_is; inner_is = x.inner_is }) fs a
 
-record OfBoth (j i : ℕ) (fs : List Formed) : Type 0 where
-  of_them : Each (IsOfFacts j i) fs
-  differ : AllDiffer fs
+pub record OfBoth (j i : ℕ) (fs : List Formed) : Type 0 where
+  pub of_them : Each (IsOfFacts j i) fs
+  pub differ : AllDiffer fs
 
 of_two : (outer1 inner1 outer2 inner2 : Rule) → ((outer1.side ≡ outer2.side → ⊥) ⊎ (inner1.side ≡ inner2.side → ⊥)) → (x y : Formed) → IsOfRules outer1 inner1 0 x → IsOfRules outer2 inner2 0 y → x.overlap ≡ y.overlap → ⊥
 of_two outer1 inner1 outer2 inner2 (inl ne) x y a b q = ne (sym a.outer_side_is ∙ ap (λ (v : Overlap). v.outer_side) q ∙ b.outer_side_is)
@@ -150,7 +150,7 @@ left_right : (let l : Side = Left in l ≡ Right) → ⊥
 left_right e = cc
 
 module _ (m : Meaning) (j : ℕ) (a : Equation) (i : ℕ) (b : Equation) where
-  facts_differ : (fs : List Formed) → AreOverlaps m.greater j a i b fs → OfBoth j i fs
+  pub facts_differ : (fs : List Formed) → AreOverlaps m.greater j a i b fs → OfBoth j i fs
   facts_differ _ (next_rules {list = w} l1 (next_rules {list = x} l2 (next_rules {list = y} l3 (next_rules {list = z} l4 no_rules)))) =
       let ll : Rule = read_from j Left a in
       let lr : Rule = read_from j Right a in

@@ -37,11 +37,11 @@ use Rattle.uc_book.specs.declared.task.Job.TheVariants.{Goal, More, Meet, Join}
 use Rattle.uc_book.specs.Lists.{At, first, later, change, each, Each, map_option}
 use Rattle.uc_book.specs.State.{Opening, State, Pair, Target, Out, dead_of, is_draw, draws_in, is_unit, out_at, without, is_waiting, queue_from, queue, peek, is_due, is_continued, is_unmet}
 use Rattle.uc_book.specs.Effects.{records, closes, ending_of, publishes, enters, appends, dies, kills, settles, turns, stages, hands_out, takes, ends, restores, reclaim_event, reclaims, recalls, draw_event, wakes, wakes_stage, meets_unmet, unit_of, one_drawn, one_commit, one_reclaim, sides_weight, numbers_rise, task_for, drops, accepts, takes_ends, goes_on, is_met, pair_by, forms, visits, keeps}
-use Rattle.uc_book.specs.Events.{units, units_after, unit_in, unit_draw, is_unit_draw, draw_in, draws_by, commits_by, reclaims_by, out_to, numbers_of, is_commit_what, is_reclaim_what, ends_pair, ended_by}
+use Rattle.uc_book.specs.Events.{units, units_after, unit_in, unit_draw, is_unit_draw, draw_in, draws_by, commits_by, reclaims_by, out_to, numbers_of, is_commit_what, is_reclaim_what, ending_in, ended_after, ended_by}
 use Rattle.uc_book.specs.Promises.{Rising, WasDrawn, later_fact, IsOf}
 use Rattle.uc_term.specs.declared.node.Pos.{Pos}
 use Rattle.uc_book.specs.Promises.{FrontsArePrefixes, TicketsDiffer, CountsUnits, CountsWorkers, EndsPairsOnce, DiesOnce, names, OverlapState, NotMet, Numbered, NoNumber, StandsAs, not_met, meeting, numbered, no_number, HasState, IsQueued, OneState}
-use Rattle.uc_book.proofs.Kept.{NotIn, Distinct, is_among, dead_is, Kept, to_end}
+use Rattle.uc_book.proofs.Kept.{NotIn, Distinct, is_among, dead_is, Kept, to_draw, joins}
 use Rattle.uc_book.proofs.Lists.{Each-map}
 use Rattle.uc_book.proofs.Found.{IsPlace, places}
 use Rattle.uc_book.proofs.Calls.{waits_is}
@@ -53,7 +53,7 @@ pub counts_workers : (o : Opening) (s : State) → Kept o s → CountsWorkers s
 counts_workers o s k = record { numbers = k.accounts.numbers_are; out_are = k.accounts.balance }
 
 pub ends_pairs_once : (o : Opening) (s : State) → Kept o s → EndsPairsOnce s
-ends_pairs_once o s k p = let h : ended_by p s.history + to_end (slice_get s.pairs p) ≤ 1 = k.ends_once p in omega arith
+ends_pairs_once o s k p = let h : ended_by p s.history + (to_draw (slice_get s.pairs p) + joins p s.out) ≤ 1 = k.ends_once p in omega arith
 
 pub tickets_differ : (o : Opening) (s : State) → Kept o s → TicketsDiffer s
 tickets_differ o s k = record { rising = k.accounts.rising; drawn = Each-map (λ t x. x.drawn) s.out k.accounts.known }
@@ -97,7 +97,7 @@ once_at i (Dies f k ∷ es) d =
     ]
 
 pub dies_once : (o : Opening) (s : State) → Kept o s → DiesOnce s
-dies_once o s k = record { dead = λ i. (named i s.entries, dead_if i s.entries); once = λ i. once_at i s.entries k.facts.once }
+dies_once o s k = record { dead = λ i. (named i s.entries, dead_if i s.entries); once = λ i. once_at i s.entries k.facts.once; later = k.facts.later }
 
 one_at_most : (o : Opening) (s : State) → Kept o s → (v : Overlap) (a b : OverlapState) → StandsAs s v a → StandsAs s v b → a ≡ b
 one_at_most o s k v _ _ (not_met a) (not_met b) = refl
@@ -113,7 +113,7 @@ one_at_most o s k v _ _ (numbered p x at a) (meeting b) = let m = k.numbered.met
 one_at_most o s k v _ _ (numbered p x at a) (numbered q y bt b) =
     let same : p ≡ q = k.numbered.once p q v a b in
     let at2 : slice_get s.pairs q ≡ Some x = subst (λ n. slice_get s.pairs n ≡ Some x) same at in
-    let e : x ≡ y = cc in ap (λ (z : Pair). Numbered z.condition) e
+    let e : x ≡ y = cc in ap (λ (z : Pair). Numbered p z.condition) e ∙ ap (λ n. Numbered n y.condition) same
 one_at_most o s k v _ _ (numbered p x at a) (no_number m n) = absurd (n p a)
 one_at_most o s k v _ _ (no_number m n) (not_met b) = absurd (cc)
 one_at_most o s k v _ _ (no_number m n) (meeting b) = absurd (cc)
@@ -186,7 +186,7 @@ item_of (x ∷ xs) (suc n) l = let h = item_of xs n (omega arith) in record { va
 by_meeting : (s : State) (o : Overlap) (m : Meeting) → slice_get s.meetings (later_fact o) ≡ Some m → HasState s o
 by_meeting s o Unmet e = record { state = NotMet; stands = not_met e }
 by_meeting s o Visiting e = record { state = NotMet; stands = meeting e }
-by_meeting s o Met e = elim (find_pair s.pairs o) [ inl h ↦ record { state = Numbered h.pair.condition; stands = numbered h.number h.pair h.at h.is } | inr n ↦ record { state = NoNumber; stands = no_number e n } ]
+by_meeting s o Met e = elim (find_pair s.pairs o) [ inl h ↦ record { state = Numbered h.number h.pair.condition; stands = numbered h.number h.pair h.at h.is } | inr n ↦ record { state = NoNumber; stands = no_number e n } ]
 
 some_state : (s : State) (o : Overlap) → later_fact o < length s.meetings → HasState s o
 some_state s o l = let h = item_of s.meetings (later_fact o) l in by_meeting s o h.value h.at
@@ -215,9 +215,9 @@ one_time n zero (y ∷ ps) x at w =
     let same : y ≡ x = cc in
     let b : is_waiting y.condition ≡ true = rw (same, w) refl in
     rw b (
-      let c = sum_by-cons (λ (q : Place). cond (q.number == n + 0) 1 0) (record { weight = y.weight; number = n }) (queue_from (suc n) ps) in
-      let z : cond {A = ℕ} (n == n + 0) 1 0 ≡ 1 = rw (eq-eqb n (n + 0) (omega arith)) refl in
-      let h : times (n + 0) (queue_from (suc n) ps) ≡ 0 = none_below (suc n) (n + 0) ps (omega arith) in omega arith)
+    let c = sum_by-cons (λ (q : Place). cond (q.number == n + 0) 1 0) (record { weight = y.weight; number = n }) (queue_from (suc n) ps) in
+    let z : cond {A = ℕ} (n == n + 0) 1 0 ≡ 1 = rw (eq-eqb n (n + 0) (omega arith)) refl in
+    let h : times (n + 0) (queue_from (suc n) ps) ≡ 0 = none_below (suc n) (n + 0) ps (omega arith) in omega arith)
 one_time n (suc p) (y ∷ ps) x at w =
     let e : suc n + p ≡ n + suc p = omega arith in
     let h : times (n + suc p) (queue_from (suc n) ps) ≡ 1 = subst (λ k. times k (queue_from (suc n) ps) ≡ 1) e (one_time (suc n) p ps x at w) in

@@ -22,7 +22,7 @@ use Rattle.uc_book.proofs.Meetings.{meets_rightly}
 meets_so : (m : Meaning) (axioms : List Equation) (es : List Entry) (i : ℕ) (ks : List ℕ) (fs : List Formed) → IsResult m axioms es (Meet i) (Visited ks fs) → MeetsRightly i (length (born es)) ks fs
 meets_so m axioms es i ks fs (fact_meets {f = f} at fresh kills meets) = meets_rightly m es i (equation_of f) ks fs kills meets
 
-result_meets : (m : Meaning) (axioms : List Equation) (es : List Entry) (j : Job) (f : Finding) → IsResult m axioms es j f → (i : ℕ) (ks : List ℕ) (fs : List Formed) → j ≡ Meet i → f ≡ Visited ks fs → MeetsRightly i (length (born es)) ks fs
+pub result_meets : (m : Meaning) (axioms : List Equation) (es : List Entry) (j : Job) (f : Finding) → IsResult m axioms es j f → (i : ℕ) (ks : List ℕ) (fs : List Formed) → j ≡ Meet i → f ≡ Visited ks fs → MeetsRightly i (length (born es)) ks fs
 result_meets m axioms es j f r i ks fs e q = meets_so m axioms es i ks fs (subst (λ x. IsResult m axioms es (Meet i) x) q (subst (λ x. IsResult m axioms es x f) e r))
 
 pub kept_reaches : (m : Meaning) (o : Opening) (s : State) → Reaches m o s → Kept o s

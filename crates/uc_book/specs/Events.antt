@@ -2,6 +2,7 @@
 use Rattle.std.specs.Prelude.{ℕ, ◌+◌, ◌==◌, ◌&&◌, List, [], ◌∷◌, ◌++◌, Bool, true, false, cond, Option, Some, None, slice_get, count_by}
 use Rattle.uc_book.specs.declared.state.Numbers.{Numbers}
 use Rattle.uc_book.specs.declared.event.Event.{Event}
+use Rattle.uc_book.specs.declared.event.GoalEnd.{GoalEnd}
 use Rattle.uc_book.specs.declared.event.Happening.{Happening}
 use Rattle.uc_book.specs.declared.event.Happening.TheVariants.{DrawGoal, DrawMore, DrawMeet, DrawJoin, CommitGoal, CommitMore, CommitMeet, CommitJoined, CommitKept, CommitLate, Dropped, ReclaimGoal, ReclaimMore, ReclaimMeet, ReclaimJoin, AuditKept, Close}
 use Rattle.uc_book.specs.State.{Out, is_draw}
@@ -70,11 +71,46 @@ numbers_of h w = record { drawn = draws_by w h; commits = commits_by w h; reclai
 abbrev pub out_to : ℕ → List Out → ℕ
 out_to w out = count_by (λ (t : Out). t.worker == w) out
 
--- by how many commits a pair was ended
-abbrev pub ends_pair : ℕ → Happening → Bool
-ends_pair p (CommitJoined q) = q == p
-ends_pair p (CommitKept q f) = q == p
-ends_pair p h = false
+-- the draw is that of this pair's Join
+abbrev pub draws_pair : ℕ → Happening → Bool
+draws_pair p (DrawJoin q n) = q == p
+draws_pair p h = false
 
+abbrev pub drew_pair : ℕ → Option Event → ℕ
+drew_pair p None = 0
+drew_pair p (Some e) = cond (draws_pair p e.what) 1 0
+
+-- The commit of a pair's Join. A late one tells its ticket alone, so its pair is that of the draw of this number.
+abbrev pub ending_in : List Event → ℕ → Happening → ℕ
+ending_in ds p (CommitJoined q) = cond (q == p) 1 0
+ending_in ds p (CommitKept q f) = cond (q == p) 1 0
+ending_in ds p (CommitLate t) = drew_pair p (slice_get ds t)
+ending_in ds p h = 0
+
+-- the commits of the pair among some events, after these draws
+abbrev pub ended_after : List Event → ℕ → List Event → ℕ
+ended_after ds p [] = 0
+ended_after ds p (e ∷ es) = ending_in ds p e.what + ended_after (ds ++ draw_in e) p es
+
+-- by how many commits a pair was ended, late ones too
 abbrev pub ended_by : ℕ → List Event → ℕ
-ended_by p h = count_by (λ (e : Event). ends_pair p e.what) h
+ended_by p h = ended_after [] p h
+
+-- the commit of a goal: how many steps it made, and how it ended
+pub record GoalCommit : Type 0 where
+  pub steps : ℕ
+  pub end : GoalEnd
+
+abbrev pub goal_commit : ℕ → Happening → Option GoalCommit
+goal_commit g (CommitGoal h n e) = cond (h == g) (Some (record { steps = n; end = e })) None
+goal_commit g (CommitMore h n e) = cond (h == g) (Some (record { steps = n; end = e })) None
+goal_commit g h = None
+
+abbrev pub else_this : Option GoalCommit → Option GoalCommit → Option GoalCommit
+else_this None this = this
+else_this (Some later) this = Some later
+
+-- the last commit of a goal among some events
+abbrev pub last_commit : ℕ → List Event → Option GoalCommit
+last_commit g [] = None
+last_commit g (e ∷ es) = else_this (last_commit g es) (goal_commit g e.what)

@@ -97,7 +97,7 @@ impl<'a, O: Order> Book<'a, O> {
     }
 
     /// The token of a worker. The book keeps the numbers of each worker from 0 to 64, whether it is enrolled or not.
-    pub fn enroll(&mut self, worker: u32) -> Result<Pass, AllocError>
+    pub fn enroll(&mut self, _alloc: Global, worker: u32) -> Result<Pass, AllocError>
         requires few { worker < WORKERS }
         requires first { HasNot worker self.old.enrolled }
         ensures worker { IfOk result (λ pass. pass.worker ≡ worker) }

@@ -1,6 +1,6 @@
 //! Commits: what the result of a task changes.
 
-ghost use Rattle.std.specs.Prelude.{◌≡◌, ⊤, ◌+◌, ◌<◌, ◌≤◌, ◌++◌, ◌∷◌, [], true, false, nat_lt, length, remove, IfOk, IfErr, OnOk, OnErr, IfSome, MatchOption, Some, None, vec_len, vec_capacity};
+ghost use Rattle.std.specs.Prelude.{◌≡◌, ⊤, ◌+◌, ◌<◌, ◌≤◌, ◌^◌, ◌++◌, ◌∷◌, [], true, false, nat_lt, length, remove, IfOk, IfErr, OnOk, OnErr, IfSome, MatchOption, Some, None, vec_len, vec_capacity};
 ghost use Rattle.uc_fact.specs.declared.fact.Fact.{Fact as AnyFact};
 ghost use Rattle.uc_ledger.specs.declared.ledger.State.TheVariants.{Done as IsDone};
 ghost use Rattle.uc_shelf.specs.Fronts.{IsOf};

@@ -153,12 +153,12 @@ impl Facts {
         ensures found { result ≡ map_option (λ (f : At AnyMeeting). f.number) (first is_unmet self.old.meetings) }
         ensures same { self.new ≡ self.old }
     {
-        self.unmet_from = unmet_from(&self.rows, self.unmet_from);
-        if self.unmet_from < self.rows.len() {
-            Some(self.unmet_from as u32)
-        } else {
-            None
+        let number = unmet_from(self.rows.as_slice(), self.unmet_from);
+        self.unmet_from = number;
+        if number >= self.rows.len() {
+            return None;
         }
+        Some(number as u32)
     }
 
     /// Says how the meeting of a fact stands.

@@ -156,12 +156,12 @@ impl Goals {
         ensures found { result ≡ map_option (λ (f : At Target). f.number) (first (λ (g : Target). is_due g.stage) self.old) }
         ensures same { self.new ≡ self.old }
     {
-        self.due_from = due_from(&self.rows, self.due_from);
-        if self.due_from < self.rows.len() {
-            Some(self.due_from as u32)
-        } else {
-            None
+        let number = due_from(self.rows.as_slice(), self.due_from);
+        self.due_from = number;
+        if number >= self.rows.len() {
+            return None;
         }
+        Some(number as u32)
     }
 
     /// The least goal that is Continued.
@@ -169,12 +169,12 @@ impl Goals {
         ensures found { result ≡ map_option (λ (f : At Target). f.number) (first (λ (g : Target). is_continued g.stage) self.old) }
         ensures same { self.new ≡ self.old }
     {
-        self.continued_from = continued_from(&self.rows, self.continued_from);
-        if self.continued_from < self.rows.len() {
-            Some(self.continued_from as u32)
-        } else {
-            None
+        let number = continued_from(self.rows.as_slice(), self.continued_from);
+        self.continued_from = number;
+        if number >= self.rows.len() {
+            return None;
         }
+        Some(number as u32)
     }
 
     /// The job to normalise the least goal that is Due, twice.

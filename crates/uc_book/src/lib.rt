@@ -30,8 +30,9 @@ pub use answer::{Audited, CommitFault, Drawn, Receipt};
 pub use book::{Book, MAX_BUDGET, MAX_LIMIT};
 pub use event::{Ending, Event, GoalEnd, Happening, Verdict};
 pub use laws::{
-    counts_units, counts_workers, dies_once, ends_pairs_once, entries_grow, fronts_are_earlier,
-    fronts_are_prefixes, goals_at_rest, one_state, tickets_differ,
+    chains_replay, counts_units, counts_workers, dies_once, ends_pairs_once, entries_grow,
+    fronts_are_earlier, fronts_are_prefixes, goals_at_rest, meetings_are_whole, mores_go_on,
+    one_commit, one_draw, one_end, one_final, one_result, one_state, origins_known, tickets_differ,
 };
 pub use opened::Opened;
 pub use state::{Meeting, Numbers, Stage};
