@@ -34,6 +34,7 @@ use uc_pair::{Formed, Size};
 use uc_shelf::{Entry, Front, Shelf};
 
 /// What a visit brings, as far as the limit allows it: these facts die, killed by one fact, and these overlaps get their pairs.
+#[derive(Clone, Copy)]
 struct Visit<'a> {
     fact: u32,
     killer: u32,
