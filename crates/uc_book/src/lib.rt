@@ -38,3 +38,6 @@ pub use opened::Opened;
 pub use state::{Meeting, Numbers, Stage};
 pub use task::{Finding, Job, Missing, Outcome};
 pub use token::{Done, Pass, Task, WORKERS};
+
+#[cfg(test)]
+mod tests;
