@@ -3,6 +3,8 @@ ghost use Rattle.uc_term.specs.Table.{Has};
 ghost use Rattle.uc_order.specs.Members.{Each};
 ghost use Rattle.uc_kbo.specs.Faults.{HasConstant};
 
+mod machine;
+
 use crate::{Book, CommitFault, Drawn, Job};
 use std::alloc::{AllocError, Global};
 use std::test::Fail;
