@@ -9,3 +9,4 @@ pub mod Finals
 pub mod Runs
 pub mod Events
 pub mod Promises
+pub mod Origins
