@@ -2,3 +2,4 @@ pub mod Sights
 pub mod Fronts
 pub mod Entries
 pub mod Viewing
+pub mod Rising

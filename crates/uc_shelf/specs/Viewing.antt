@@ -1,15 +1,13 @@
 -- Looking through the entries of a front.
-use Rattle.std.specs.Prelude.{ℕ, ◌+◌, ◌≡◌, ◌≤◌, ◌++◌, List, [], ◌∷◌, Bool, true, false, cond, not, filter}
-use Rattle.std.proofs.Common.{arith}
+use Rattle.std.specs.Prelude.{ℕ, ◌≡◌, ◌++◌, List, [], ◌∷◌, cond}
 use Rattle.uc_term.specs.Tree.{Tree}
-use Rattle.uc_term.specs.declared.equation.Equation.{Equation}
 use Rattle.uc_term.specs.declared.equation.Side.{Side}
 use Rattle.uc_fact.specs.declared.fact.Fact.{Fact}
 use Rattle.uc_fact.specs.declared.index.Found.{Found}
-use Rattle.uc_fact.specs.Live.{Live, Rule, RiseFrom, AreRising, numbered_from, rule_of, equation_of}
+use Rattle.uc_fact.specs.Live.{Rule, rule_of, equation_of}
 use Rattle.uc_fact.specs.Retrieval.{Generalises}
 use Rattle.uc_shelf.specs.declared.entry.Entry.{Entry}
-use Rattle.uc_shelf.specs.Entries.{equations, is_dead, live}
+use Rattle.uc_shelf.specs.Entries.{is_dead}
 
 -- what the rules give stands behind the old list
 pub record Adds (t : Tree) (rules : List Rule) (old new : List Found) : Type 0 where
@@ -24,19 +22,3 @@ FindsOnly t rules n side pairs = Generalises t rules (record { fact = n; side = 
 -- a fact of a number, read from one side, where no entry says that it dies
 abbrev pub rule_if_lives : List Entry → Side → ℕ → Fact → List Rule
 rule_if_lives all side n fact = cond (is_dead all n) [] (rule_of side (record { number = n; equation = equation_of fact }) ∷ [])
-
-rise_on : (n m : ℕ) (fs : List Live) → n ≤ m → RiseFrom m fs → RiseFrom n fs
-rise_on n m [] h r = tt
-rise_on n m (f ∷ fs) h r = (omega (arith, r.0), r.1)
-
-first_rises : (n : ℕ) (e : Equation) (fs : List Live) (b : Bool) → RiseFrom (n + 1) fs → RiseFrom n (cond b (record { number = n; equation = e } ∷ fs) fs)
-first_rises n e fs true r = (omega arith, r)
-first_rises n e fs false r = rise_on n (n + 1) fs (omega arith) r
-
-filtered_rise : (p : Live → Bool) (n : ℕ) (es : List Equation) → RiseFrom n (filter p (numbered_from n es))
-filtered_rise p n [] = tt
-filtered_rise p n (e ∷ es) = first_rises n e (filter p (numbered_from (n + 1) es)) (p (record { number = n; equation = e })) (filtered_rise p (n + 1) es)
-
--- the numbers of the facts that live rise
-pub live_rise : (entries : List Entry) → AreRising (live entries)
-live_rise entries = filtered_rise (λ f. not (is_dead entries f.number)) 0 (equations entries)

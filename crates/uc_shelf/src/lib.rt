@@ -1,5 +1,13 @@
 //! The shelf of facts: entries that workers share, and fronts, which are lists of entries that stand on it.
 //!
+//! A [`Front`] is a list of entries that only its own [`Shelf::publish`] changes: that makes it one entry longer, a copy has
+//! the same list, and whatever is put on the shelf for other fronts leaves it as it is. [`Shelf::same`] compares two lists
+//! exactly, and [`Shelf::view`] is an index of the facts that are born and not dead in a front. A front goes with the shelf
+//! on which its places are.
+//!
+//! Memory is taken by `Shelf::new`, `Shelf::publish`, `Front::copy`, `Entry::copy` and what a view finds (`generalisations`,
+//! `first_that`), and by no other call. Where `publish` finds none, the entry is dropped and the front stays.
+//!
 //! `specs/` says which facts a list of entries has born, and which of them live.
 #![tactic(auto)]
 

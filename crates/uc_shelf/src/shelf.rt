@@ -90,7 +90,7 @@ impl Shelf {
         self.slots.value(&*front.places[k as usize])
     }
 
-    /// Whether the two lists of entries are equal.
+    /// Whether the two lists of entries are equal. Equal places show it without a look at the entries.
     pub fn same(&self, a: &Front, b: &Front) -> bool
         requires a_of { IsOf self.now a.now }
         requires b_of { IsOf self.now b.now }
@@ -107,7 +107,7 @@ impl Shelf {
         true
     }
 
-    /// Whether the entries at two places are equal. Equal places show it without a look at the entries.
+    /// Whether the entries at two places are equal.
     fn same_place(&self, a: &Pushed<Entry>, b: &Pushed<Entry>) -> bool
         requires { Shows self.now a.now × Shows self.now b.now }
         ensures { IsTrue result ↔ (a.now.value ≡ b.now.value) }

@@ -1,39 +1,47 @@
-ghost use Rattle.std.specs.Prelude.{◌≡◌, ◌<◌, ◌++◌, ◌∷◌, [], length, IfOk};
+ghost use Rattle.std.specs.Prelude.{IfOk};
 ghost use Rattle.uc_shelf.specs.Fronts.{IsOf};
 
 use crate::{Entry, Front, Shelf};
-use std::alloc::Global;
+use std::alloc::{AllocError, Global};
 use std::sync::Wait;
 use std::test::Fail;
-use uc_fact::{Chain, Fact, Index, Origin, Side, Stop};
-use uc_term::{Node, Seq, Sym, Term, TermFault};
+use uc_fact::{Chain, Fact, Found, Index, Origin, Side, Stop, Test};
+use uc_term::{Seq, Sym, Term, TermFault};
 
-const A: Sym = Sym(0);
+const F: Sym = Sym(0);
 
-const F: Sym = Sym(1);
-
-const G: Sym = Sym(2);
+const G: Sym = Sym(1);
 
 // The term of a symbol over a variable.
 fn over(alloc: Global, symbol: Sym, x: u32) -> Result<Term, TermFault> {
-    Term::app(alloc, symbol, &[Term::var(alloc, x)?])
+    let args = [Term::var(alloc, x)?];
+    Term::app(alloc, symbol, &args)
 }
 
-// A fact with these sides.
-fn fact(alloc: Global, number: u32, left: Term, right: Term) -> Result<Fact, TermFault> {
+// A fact with these sides is born.
+fn born(alloc: Global, left: Term, right: Term) -> Result<Entry, TermFault> {
     let start = left.copy(alloc)?;
-    Ok(Fact {
+    Ok(Entry::Born(Fact {
         left,
         right,
         oriented: false,
-        origin: Origin::Axiom(number),
+        origin: Origin::Axiom(0),
         chain: Chain {
             start,
             steps: Seq::new(alloc),
         },
         front: 0,
         stops: (Stop::Full, Stop::Full),
-    })
+    }))
+}
+
+// The entries of one front: f(X) = X and g(X) = f(X) are born, the second one dies, and it is born once more.
+fn entry(alloc: Global, k: u32) -> Result<Entry, TermFault> {
+    match k {
+        0 => born(alloc, over(alloc, F, 0)?, Term::var(alloc, 0)?),
+        2 => Ok(Entry::Dies { fact: 1, killer: 2 }),
+        _ => born(alloc, over(alloc, G, 0)?, over(alloc, F, 0)?),
+    }
 }
 
 // One entry more, on a front that is short.
@@ -44,40 +52,74 @@ fn put<R: Wait>(
     front: &mut Front,
     entry: Entry,
 ) -> Result<(), Fail>
-    requires of { IsOf shelf.now front.old }
-    ensures of { IsOf shelf.now front.new }
-    ensures entries { IfOk result (λ _. front.new.entries ≡ front.old.entries ++ entry ∷ []) }
+    requires { IsOf shelf.now front.old }
+    ensures { IsOf shelf.now front.new }
 {
-    if front.len() >= 1000 {
+    if front.len() >= 9 {
         return Err(Fail::from("too long"));
     }
-    shelf.publish(rt, alloc, front, entry)?;
-    Ok(())
+    Ok(shelf.publish(rt, alloc, front, entry)?)
 }
 
-// The front of f(X) = X, g(X) = a and g(Y) = f(Y), of which the second dies.
-fn three<R: Wait>(rt: &R, alloc: Global, shelf: &Shelf) -> Result<Front, Fail>
+// The front of the four entries.
+fn filled<R: Wait>(rt: &R, alloc: Global, shelf: &Shelf) -> Result<Front, Fail>
     ensures { IfOk result (λ front. IsOf shelf.now front) }
 {
     let mut front = Front::empty(alloc);
-    let one = fact(alloc, 0, over(alloc, F, 0)?, Term::var(alloc, 0)?)?;
-    put(rt, alloc, shelf, &mut front, Entry::Born(one))?;
-    let two = fact(alloc, 1, over(alloc, G, 0)?, Term::app(alloc, A, &[])?)?;
-    put(rt, alloc, shelf, &mut front, Entry::Born(two))?;
-    let dies = Entry::Dies { fact: 1, killer: 2 };
-    put(rt, alloc, shelf, &mut front, dies)?;
-    let three = fact(alloc, 2, over(alloc, G, 1)?, over(alloc, F, 1)?)?;
-    put(rt, alloc, shelf, &mut front, Entry::Born(three))?;
+    put(rt, alloc, shelf, &mut front, entry(alloc, 0)?)?;
+    put(rt, alloc, shelf, &mut front, entry(alloc, 1)?)?;
+    put(rt, alloc, shelf, &mut front, entry(alloc, 2)?)?;
+    put(rt, alloc, shelf, &mut front, entry(alloc, 3)?)?;
     Ok(front)
 }
 
-// The numbers and sides of what is found for a term, one behind the other.
-fn found(alloc: Global, index: &impl Index, term: &Term) -> Result<Vec<(u32, Side)>, Fail> {
-    let mut list = Vec::new(alloc);
-    for one in index.generalisations(alloc, term.as_nodes())?.into_vec() {
-        list.push((one.fact, one.side))?;
+// Whether these facts and sides are found for the symbol over a variable.
+fn finds<I: Index>(
+    alloc: Global,
+    index: &I,
+    symbol: Sym,
+    rows: &[(u32, Side)],
+) -> Result<bool, Fail> {
+    let term = over(alloc, symbol, 7)?;
+    let list = index.generalisations(alloc, term.as_nodes())?;
+    if list.len() != rows.len() {
+        return Ok(false);
     }
-    Ok(list)
+    for (found, row) in list.as_slice().iter().zip(rows) {
+        if found.fact != row.0 || found.side != row.1 {
+            return Ok(false);
+        }
+    }
+    Ok(true)
+}
+
+// The test whether something is found at a left side.
+struct IsLeft;
+
+impl Test for IsLeft {
+    ghost use Rattle.std.specs.Prelude.{◌≡◌, true};
+    ghost use Rattle.uc_term.specs.declared.equation.Side.TheVariants.{Left};
+
+    ghost can_test = { λ s found. Unit {0} };
+
+    ghost accepts = { λ s found. found.side ≡ Left };
+
+    fn rules_out(&self, _fact: u32, _side: Side) -> bool {
+        false
+    }
+
+    fn passes(&self, _alloc: Global, found: &Found) -> Result<bool, AllocError> {
+        Ok(found.side == Side::Left)
+    }
+}
+
+// The first fact of whose left side the symbol over a variable is an instance.
+fn first_left<I: Index>(alloc: Global, index: &I, symbol: Sym) -> Result<Option<u32>, Fail> {
+    let term = over(alloc, symbol, 7)?;
+    match index.first_that(alloc, term.as_nodes(), &IsLeft)? {
+        Some(found) => Ok(Some(found.fact)),
+        None => Ok(None),
+    }
 }
 
 // Facts that live are found, by number and left before right; a dead one isn't.
@@ -85,22 +127,15 @@ fn found(alloc: Global, index: &impl Index, term: &Term) -> Result<Vec<(u32, Sid
 fn a_view_has_what_lives(rt: HostRuntime) -> Result<(), Fail> {
     let alloc = rt.alloc();
     let shelf = Shelf::new(alloc)?;
-    let front = three(&rt, alloc, &shelf)?;
+    let front = filled(&rt, alloc, &shelf)?;
     let view = shelf.view(&front);
-    let list = found(alloc, &view, &over(alloc, G, 7)?)?;
-    assert_eq!(rt;
-        list.as_slice(),
-        [(0, Side::Right), (2, Side::Left)].as_slice()
-    );
-    let more = found(alloc, &view, &over(alloc, F, 7)?)?;
-    assert_eq!(rt;
-        more.as_slice(),
-        [(0, Side::Left), (0, Side::Right), (2, Side::Right)].as_slice()
-    );
-    assert!(rt; view.pair(0).is_some());
-    assert!(rt; view.pair(1).is_none());
-    assert!(rt; view.pair(2).is_some());
-    assert!(rt; view.pair(3).is_none());
+    let of_g = [(0, Side::Right), (2, Side::Left)];
+    assert!(rt; finds(alloc, &view, G, &of_g)?);
+    let of_f = [(0, Side::Left), (0, Side::Right), (2, Side::Right)];
+    assert!(rt; finds(alloc, &view, F, &of_f)?);
+    assert_eq!(rt; first_left(alloc, &view, G)?, Some(2));
+    assert!(rt; view.pair(0).is_some() && view.pair(1).is_none());
+    assert!(rt; view.pair(2).is_some() && view.pair(3).is_none());
     Ok(())
 }
 
@@ -109,13 +144,17 @@ fn a_view_has_what_lives(rt: HostRuntime) -> Result<(), Fail> {
 fn fronts_stand_apart(rt: HostRuntime) -> Result<(), Fail> {
     let alloc = rt.alloc();
     let shelf = Shelf::new(alloc)?;
-    let mut front = three(&rt, alloc, &shelf)?;
+    let mut front = filled(&rt, alloc, &shelf)?;
     let other = front.copy(alloc)?;
     assert!(rt; shelf.same(&front, &other));
-    let dies = Entry::Dies { fact: 0, killer: 2 };
-    put(&rt, alloc, &shelf, &mut front, dies)?;
-    assert_eq!(rt; front.len(), 5);
-    assert_eq!(rt; other.len(), 4);
+    put(
+        &rt,
+        alloc,
+        &shelf,
+        &mut front,
+        Entry::Dies { fact: 0, killer: 2 },
+    )?;
+    assert!(rt; front.len() == 5 && other.len() == 4);
     assert!(rt; !shelf.same(&front, &other));
     assert!(rt; shelf.view(&front).pair(0).is_none());
     assert!(rt; shelf.view(&other).pair(0).is_some());
@@ -127,15 +166,36 @@ fn fronts_stand_apart(rt: HostRuntime) -> Result<(), Fail> {
 fn equal_entries_at_other_places(rt: HostRuntime) -> Result<(), Fail> {
     let alloc = rt.alloc();
     let shelf = Shelf::new(alloc)?;
-    let mut one = three(&rt, alloc, &shelf)?;
-    let mut two = three(&rt, alloc, &shelf)?;
+    let mut one = filled(&rt, alloc, &shelf)?;
+    let mut two = filled(&rt, alloc, &shelf)?;
     assert!(rt; shelf.same(&one, &two));
-    let dies = Entry::Dies { fact: 0, killer: 2 };
-    put(&rt, alloc, &shelf, &mut one, dies)?;
-    let dies = Entry::Dies { fact: 0, killer: 1 };
-    put(&rt, alloc, &shelf, &mut two, dies)?;
+    put(
+        &rt,
+        alloc,
+        &shelf,
+        &mut one,
+        Entry::Dies { fact: 0, killer: 2 },
+    )?;
+    put(
+        &rt,
+        alloc,
+        &shelf,
+        &mut two,
+        Entry::Dies { fact: 0, killer: 1 },
+    )?;
     assert!(rt; !shelf.same(&one, &two));
     Ok(())
+}
+
+// The entry of a number, where the front has one.
+fn entry_at<'a>(shelf: &'a Shelf, front: &Front, k: u32) -> Option<&'a Entry>
+    requires { IsOf shelf.now front.now }
+{
+    if k < front.len() {
+        Some(shelf.read(front, k))
+    } else {
+        None
+    }
 }
 
 // What is read is what was put there.
@@ -143,22 +203,24 @@ fn equal_entries_at_other_places(rt: HostRuntime) -> Result<(), Fail> {
 fn entries_are_read(rt: HostRuntime) -> Result<(), Fail> {
     let alloc = rt.alloc();
     let shelf = Shelf::new(alloc)?;
-    let front = three(&rt, alloc, &shelf)?;
-    if front.len() != 4 {
-        return Err(Fail::from("another length"));
+    let front = filled(&rt, alloc, &shelf)?;
+    for k in 0..4 {
+        let put = entry(alloc, k)?.copy(alloc)?;
+        assert!(rt; entry_at(&shelf, &front, k).is_some_and(|read| read.same(&put)));
     }
-    assert!(rt;
-        shelf
-            .read(&front, 2)
-            .same(&Entry::Dies { fact: 1, killer: 2 })
-    );
-    if let Entry::Born(fact) = shelf.read(&front, 3) {
-        assert_eq!(rt;
-            fact.left.as_nodes(),
-            [Node::App(G, 1), Node::Var(1)].as_slice()
-        );
-    } else {
-        return Err(Fail::from("another entry"));
-    }
+    assert!(rt; entry_at(&shelf, &front, 4).is_none());
+    Ok(())
+}
+
+fn crosses<T: Send + Sync>(_value: &T) {}
+
+// Threads may share a shelf and fronts.
+#[test]
+fn threads_may_share(rt: HostRuntime) -> Result<(), Fail> {
+    let shelf = Shelf::new(rt.alloc())?;
+    crosses(&shelf);
+    let front = Front::empty(rt.alloc());
+    crosses(&front);
+    assert!(rt; front.is_empty());
     Ok(())
 }

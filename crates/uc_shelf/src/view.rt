@@ -51,7 +51,7 @@ impl Shelf {
 
 impl<'a> Index for View<'a> {
     ghost use Rattle.uc_shelf.specs.Entries.{live};
-    ghost use Rattle.uc_shelf.specs.Viewing.{live_rise};
+    ghost use Rattle.uc_shelf.specs.Rising.{live_rise};
 
     ghost live = { live };
 
