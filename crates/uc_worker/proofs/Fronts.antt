@@ -2,7 +2,8 @@
 use Rattle.std.proofs.Common.{◌≡◌, ℕ, zero, suc, ◌==◌, ◌+◌, ◌-◌, ◌<◌, ◌≤◌, Bool, true, false, List, [], ◌∷◌, ◌++◌, length, take, drop, map, set, get_or, slice_get, Some, None, refl, sym, ap, ◌∙◌, subst, arith, append_assoc, append-nil, inl, inr}
 use Rattle.std.specs.Prelude.{◌||◌, replicate}
 use Rattle.std.proofs.lemmas.Bool.{cases_Bool, eqb-true, eq-eqb}
-use Rattle.std.proofs.lemmas.List.{take_all, length-replicate, get_or-replicate}
+use Rattle.std.proofs.lemmas.List.{take_all, map-append, length-replicate, get_or-replicate}
+use Rattle.uc_term.specs.declared.equation.Equation.{Equation}
 use Rattle.uc_fact.specs.declared.fact.Fact.{Fact}
 use Rattle.uc_fact.specs.Live.{Live}
 use Rattle.uc_shelf.specs.declared.entry.Entry.{Entry}
@@ -122,6 +123,16 @@ flag_set es n flags f j inside a = record {
   ];
 }
 
+pub born_kills_none : (e : Entry) → ((f j : ℕ) → e ≡ Dies f j → ⊥) → (k : ℕ) → is_dead (e ∷ []) k ≡ false
+born_kills_none (Born f) n k = refl
+born_kills_none (Dies f j) n k = absurd (n f j refl)
+
+pub outside_kills_none : (f j n k : ℕ) → n ≤ f → k < n → is_dead (Dies f j ∷ []) k ≡ false
+outside_kills_none f j n k h l = elim (cases_Bool (f == k)) as (λ _. is_dead (Dies f j ∷ []) k ≡ false) [
+  | inl b ↦ (let s = eqb-true f k b in absurd (omega (arith, s, h, l)))
+  | inr b ↦ rw b refl
+]
+
 pub next_entries : (es : List Entry) (k : ℕ) (e : Entry) → Some e ≡ slice_get es k → take (k + 1) es ≡ take k es ++ e ∷ []
 next_entries [] k e h = absurd cc
 next_entries (x ∷ es) zero e h = let same : e ≡ x = cc in ap (λ z. z ∷ []) (sym same)
@@ -158,3 +169,12 @@ dead_adds_none all n (Dies f k) h = refl
 
 pub born_adds_one : (all : List Entry) (n : ℕ) (f : Fact) → is_dead all n ≡ false → living all n (Born f ∷ []) ≡ record { number = n; equation = record { left = f.left; right = f.right } } ∷ []
 born_adds_one all n f h = rw h refl
+
+pub born_added : (all : List Entry) (n : ℕ) (e : Entry) (f : Fact) (q : Equation) (old new : List LiveFact) → e ≡ Born f → is_dead all n ≡ false → new ≡ old ++ record { number = n; equation = q } ∷ [] → q ≡ record { left = f.left; right = f.right } → map live_of new ≡ map live_of old ++ living all n (e ∷ [])
+born_added all n e f q old new b a m s =
+    ap (map live_of) m ∙ map-append live_of old (record { number = n; equation = q } ∷ [])
+    ∙ ap (λ x. map live_of old ++ record { number = n; equation = x } ∷ []) s
+    ∙ ap (λ l. map live_of old ++ l) (sym (ap (λ x. living all n (x ∷ [])) b ∙ born_adds_one all n f a))
+
+pub none_added : (all : List Entry) (n : ℕ) (e : Entry) (old : List LiveFact) → living all n (e ∷ []) ≡ [] → map live_of old ≡ map live_of old ++ living all n (e ∷ [])
+none_added all n e old h = sym (ap (λ l. map live_of old ++ l) h ∙ append-nil (map live_of old))

@@ -6,3 +6,4 @@ pub mod Fronts
 pub mod Reduced
 pub mod Meetings
 pub mod Paired
+pub mod Results

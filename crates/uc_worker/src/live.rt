@@ -130,10 +130,12 @@ fn dead_flags(alloc: Global, shelf: &Shelf, front: &Front) -> Result<Vec<bool>, 
 fn mark(flags: &mut Vec<bool>, entry: &Entry)
     ensures { (all : List AnyEntry) (n : ℕ) → AreFlags all n flags.old.items → AreFlags (all ++ entry.now ∷ []) n flags.new.items }
 {
-    if let Entry::Dies { fact, .. } = entry {
-        let number = *fact as usize;
-        if number < flags.len() {
-            flags[number] = true;
-        }
+    let Entry::Dies { fact, .. } = entry else {
+        return;
+    };
+    let number = *fact as usize;
+    if number >= flags.len() {
+        return;
     }
+    flags[number] = true;
 }

@@ -112,7 +112,8 @@ fn add_kill<O: Order>(
     if !reduces(alloc, own, &fact.equation, order)? {
         return Ok(());
     }
-    list.push(fact.number)
+    list.push(fact.number)?;
+    Ok(())
 }
 
 /// The overlaps of the equation of this number with each earlier fact of the list, the other one outside first, and last those
@@ -150,5 +151,6 @@ fn add_overlaps<O: Order>(
         return Ok(());
     }
     list.append(overlaps(alloc, other, &fact.equation, number, own, order)?)?;
-    list.append(overlaps(alloc, number, own, other, &fact.equation, order)?)
+    list.append(overlaps(alloc, number, own, other, &fact.equation, order)?)?;
+    Ok(())
 }
