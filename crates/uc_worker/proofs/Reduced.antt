@@ -1,5 +1,5 @@
 -- Whether an equation reduces another one, by its cases.
-use Rattle.std.proofs.Common.{◌≡◌, ℕ, ◌↔◌, Bool, true, false, IsTrue, List, [], ◌∷◌, Option, Some, None, MatchOption, refl, sym, ap, ◌∙◌, subst}
+use Rattle.std.proofs.Common.{◌≡◌, ℕ, ◌↔◌, Bool, IsTrue, is_some, List, [], ◌∷◌, Option, Some, None, MatchOption, refl, sym, ap, ◌∙◌, subst}
 use Rattle.uc_term.specs.declared.node.Node.{Node}
 use Rattle.uc_term.specs.declared.equation.Equation.{Equation}
 use Rattle.uc_term.specs.declared.equation.Side.{Side}
@@ -10,10 +10,11 @@ use Rattle.uc_term.specs.Subst.{image}
 use Rattle.uc_unify.specs.Matching.{IsMatchOfBoth, HasNoMatchOfBoth}
 use Rattle.uc_order.specs.Laws.{Meaning}
 use Rattle.uc_fact.specs.declared.fact.Stop.{Stop}
-use Rattle.uc_fact.specs.declared.fact.Stop.TheVariants.{Full, Steps, Size}
+use Rattle.uc_fact.specs.declared.fact.Stop.TheVariants.{Full}
 use Rattle.uc_fact.specs.Live.{numbered}
 use Rattle.uc_rewrite.specs.declared.normal.Normal.{Normal}
 use Rattle.uc_rewrite.specs.Normalising.{IsNormalOf}
+use Rattle.uc_rewrite.proofs.Decided.{never, always}
 use Rattle.uc_book.specs.Results.{Reduces, in_left, in_right, has_instance, StepsIn, IsInstanceFrom}
 use Rattle.uc_worker.specs.Reducing.{Gives, HasInstance}
 use Rattle.uc_worker.proofs.Limits.{Decided, none_possible, one_possible, decides}
@@ -23,10 +24,15 @@ by_stop m e t _ (none_possible n) = (λ same s. n s.v s.step, λ other. absurd (
 by_stop m e t _ (one_possible {v = v} s) = (λ same t. cc, λ other. record { v = v; step = s })
 
 -- whether an equation makes a step in a term is told by the stop of normalising with no step
-pub steps_by_stop : (m : Meaning) (e : Equation) (es : List Equation) (t : Tree) (normal : Normal) (answer : Bool) → es ≡ e ∷ [] → IsNormalOf m.greater m.least (numbered es) 0 t normal → (IsTrue answer → normal.stop ≡ Full → ⊥) → ((normal.stop ≡ Full → ⊥) → IsTrue answer) → IsTrue answer ↔ StepsIn m e t
-steps_by_stop m e es t normal answer one n yes no =
-    let d = by_stop m e t normal.stop (decides m.greater m.least (numbered (e ∷ [])) t normal (subst (λ l. IsNormalOf m.greater m.least (numbered l) 0 t normal) one n)) in
-    (λ h. d.1 (yes h), λ s. no (λ same. d.0 same s))
+module _ (m : Meaning) (e : Equation) (es : List Equation) (t : Tree) (normal : Normal) (one : es ≡ e ∷ []) (n : IsNormalOf m.greater m.least (numbered es) 0 t normal) where
+  decided : Decided m.greater m.least (numbered (e ∷ [])) t normal.stop
+  decided = decides m.greater m.least (numbered (e ∷ [])) t normal (subst (λ l. IsNormalOf m.greater m.least (numbered l) 0 t normal) one n)
+
+  pub no_step_in : normal.stop ≡ Full → StepsIn m e t → ⊥
+  no_step_in = (by_stop m e t normal.stop decided).0
+
+  pub step_in : (normal.stop ≡ Full → ⊥) → StepsIn m e t
+  step_in = (by_stop m e t normal.stop decided).1
 
 -- the pairs of a match of both sides
 pub both_given : (l r : Tree) (e : Equation) (a b c d : List Node) (found : Option (List (ℕ × Tree))) → tree_of a ≡ l → tree_of b ≡ e.left → tree_of c ≡ r → tree_of d ≡ e.right → MatchOption found (HasNoMatchOfBoth (tree_of a) (tree_of b) (tree_of c) (tree_of d)) (IsMatchOfBoth (tree_of a) (tree_of b) (tree_of c) (tree_of d)) → MatchOption found (Gives l r e → ⊥) (λ _. Gives l r e)
@@ -35,9 +41,9 @@ both_given l r e a b c d None ea eb ec ed h =
 both_given l r e a b c d (Some pairs) ea eb ec ed h =
     record { σ = image pairs; left_is = sym eb ∙ sym h.left_gives ∙ ap (apply (image pairs)) ea; right_is = sym ed ∙ sym h.right_gives ∙ ap (apply (image pairs)) ec }
 
-pub gives_or_not : {A : Type 0} (P : Type 0) (found : Option A) (answer : Bool) → (IsTrue answer → found ≡ None → ⊥) → ((found ≡ None → ⊥) → IsTrue answer) → MatchOption found (P → ⊥) (λ _. P) → IsTrue answer ↔ P
-gives_or_not P None answer yes no h = (λ t. absurd (yes t refl), λ p. absurd (h p))
-gives_or_not P (Some x) answer yes no h = (λ t. h, λ p. no (λ e. cc))
+pub gives_by : {A : Type 0} (P : Type 0) (found : Option A) (answer : Bool) → answer ≡ is_some found → MatchOption found (P → ⊥) (λ _. P) → IsTrue answer ↔ P
+gives_by P None answer e h = subst (λ b. IsTrue b ↔ P) (sym e) (never h)
+gives_by P (Some x) answer e h = subst (λ b. IsTrue b ↔ P) (sym e) (always h)
 
 -- either way round
 pub given_forth : (e f : Equation) → Gives e.left e.right f → HasInstance e f

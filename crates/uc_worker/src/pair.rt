@@ -53,8 +53,7 @@ pub fn pair_from<O: Order>(
 
 /// The pair of an equation, with the one step by it.
 fn by_equation(alloc: Global, by: By, left: &Term, right: &Term) -> Result<Pair, AllocError>
-    ensures equation { IfOk result (λ pair. pair.equation ≡ record { left = left.now; right = right.now }) }
-    ensures chain { IfOk result (λ pair. pair.chain ≡ one_step by (record { left = left.now; right = right.now })) }
+    ensures { IfOk result (λ pair. (pair.equation ≡ record { left = left.now; right = right.now }) × (pair.chain ≡ one_step by (record { left = left.now; right = right.now }))) }
 {
     Ok(Pair {
         equation: copy_equation(alloc, left, right)?,

@@ -40,7 +40,11 @@ fn steps_in<O: Order>(
     ensures { IfOk result (λ answer. IsTrue answer ↔ StepsIn (O.meaning order.now) equation.now term.now) }
 {
     let normal = normalise(alloc, term, &Scan::new(from_ref(equation)), order, 0)?;
-    Ok(normal.stop != Stop::Full)
+    match normal.stop {
+        Stop::Full => Ok(false),
+        Stop::Steps => Ok(true),
+        Stop::Size => Ok(true),
+    }
 }
 
 /// Whether an equation has another one as an instance, either way round.
