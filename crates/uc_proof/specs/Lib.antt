@@ -1,0 +1,5 @@
+pub mod Chains
+pub mod Needed
+pub mod Parts
+pub mod Written
+pub mod Extracted
