@@ -1,5 +1,5 @@
 -- The proof of a goal that its chains and those of the facts determine.
-use Rattle.std.specs.Prelude.{ℕ, List, Ok}
+use Rattle.std.specs.Prelude.{ℕ, List, length, Ok}
 use Rattle.uc_term.specs.Table.{Table}
 use Rattle.uc_check.specs.declared.proof.Line.{Line}
 use Rattle.uc_fact.specs.declared.chain.Chain.{Chain}
@@ -23,5 +23,5 @@ pub record IsEncodingOf (problem : Problem) (encoded : Encoded) : Type 0 where
 -- a line for each part that is needed, and for no other, in the order of all parts
 pub record IsExtracted (problem : Problem) (encoded : Encoded) (facts : List Fact) (left right : Chain) (goal : ℕ) (lines : List Line) : Type 0 where
   pub plan : List Part
-  pub selected : Selects (IsNeeded encoded facts (conclusion_of left right) goal) (all_parts problem encoded facts) plan
+  pub selected : Selects (IsNeeded encoded facts (conclusion_of left right) goal) (all_parts problem encoded (length facts)) plan
   pub written : AreWritten problem encoded facts (conclusion_of left right) goal plan 0 plan lines

@@ -3,3 +3,4 @@ pub mod Needed
 pub mod Parts
 pub mod Written
 pub mod Extracted
+pub mod Making

@@ -1,8 +1,7 @@
 -- The order of the lines of a proof.
-use Rattle.std.specs.Prelude.{ℕ, zero, suc, ◌+◌, Bool, true, false, List, [], ◌∷◌, ◌++◌, length, map, if◌then◌else◌}
+use Rattle.std.specs.Prelude.{ℕ, zero, suc, ◌+◌, Bool, true, false, List, [], ◌∷◌, ◌++◌, map, if◌then◌else◌}
 use Rattle.uc_fact.specs.declared.chain.By.{By}
 use Rattle.uc_fact.specs.declared.chain.By.TheVariants.{Axiom as AxiomOf, Fact as FactOf}
-use Rattle.uc_fact.specs.declared.fact.Fact.{Fact}
 use Rattle.uc_problem.specs.declared.problem.Problem.{Problem}
 use Rattle.uc_problem.specs.declared.problem.Encoded.{Encoded}
 use Rattle.uc_problem.specs.declared.problem.Source.{Source}
@@ -34,12 +33,12 @@ abbrev pub facts_from : ℕ → ℕ → List Part
 facts_from n zero = []
 facts_from n (suc more) = part.Fact n ∷ facts_from (n + 1) more
 
--- The clauses of the axioms, by number; those of the goals, by number; the encoding's axioms, by number; the facts, by number; the
+-- For so many facts: the clauses of the axioms, by number; those of the goals, by number; the encoding's axioms, by number; the facts, by number; the
 -- goal's chain; and the refutation.
-abbrev pub all_parts : Problem → Encoded → List Fact → List Part
-all_parts problem encoded facts = axioms_where is_clause 0 encoded.sources ++ map part.Denial problem.goals ++ axioms_where is_encoding 0 encoded.sources ++ facts_from 0 (length facts) ++ part.Conclusion ∷ part.Refutation ∷ []
+abbrev pub all_parts : Problem → Encoded → ℕ → List Part
+all_parts problem encoded facts = axioms_where is_clause 0 encoded.sources ++ map part.Denial problem.goals ++ axioms_where is_encoding 0 encoded.sources ++ facts_from 0 facts ++ part.Conclusion ∷ part.Refutation ∷ []
 
--- those of a list that are so, in the list's order
+-- those of a list for which this holds, in the list's order, and no other
 pub data Selects (Is : Part → Type 0) : List Part → List Part → Type 0 where
   selects_none : Selects Is [] []
   selects : {p : Part} {ps qs : List Part} → Is p → Selects Is ps qs → Selects Is (p ∷ ps) (p ∷ qs)

@@ -1,0 +1,12 @@
+pub mod Reversal
+pub mod Renumbered
+pub mod Levels
+pub mod Sources
+pub mod Right
+pub mod InOrder
+pub mod Among
+pub mod Adding
+pub mod Ready
+pub mod Using
+pub mod Numbers
+pub mod Naming

@@ -1,0 +1,69 @@
+//! The proof of a goal.
+
+ghost use Rattle.std.specs.Prelude.{◌≡◌, ◌<◌, ◌+◌, ◌^◌, length, IfOk};
+ghost use Rattle.uc_check.specs.Checks.{AreRightBefore, EndsInRefutation};
+ghost use Rattle.uc_tstp.specs.Printable.{AreInOrder};
+ghost use Rattle.uc_proof.specs.Chains.{FactsReplay, ProvesGoal};
+ghost use Rattle.uc_proof.specs.Extracted.{IsEncodingOf, IsExtracted};
+
+use crate::conclusion::conclusion;
+use crate::lines::line_of;
+use crate::needed::needed;
+use crate::plan::Plan;
+use crate::renumbering::renumbered;
+use std::alloc::{AllocError, Global};
+use uc_check::Proof;
+use uc_fact::{Chain, Fact};
+use uc_problem::{Encoded, Problem};
+use uc_term::Seq;
+
+/// The proof of a goal of an encoded problem, by the facts' chains and the two chains from the goal's sides to one term.
+///
+/// It has a line for each axiom and fact that the goal's chain names, directly or through facts, and for no other: first the
+/// clauses of the axioms, then those of the goals, the encoding's axioms, the facts, the goal's chain, which is that of the left
+/// side followed by that of the right side gone back, and the refutation. Lines are called `p1`, `p2` and so on, and the
+/// variables of each are numbered by first occurrence.
+///
+/// `facts` has all facts by number, and each one's chain leads from its left to its right side over the axioms and the facts
+/// before it.
+pub fn extract_from(
+    alloc: Global,
+    facts: &[&Fact],
+    left: &Chain,
+    right: &Chain,
+    problem: &Problem,
+    encoded: &Encoded,
+    goal: u32,
+) -> Result<Proof, AllocError>
+    requires encoding { IsEncodingOf problem.now encoded.now }
+    requires facts { FactsReplay encoded.now.axioms (values facts.now) }
+    requires goal { ProvesGoal encoded.now (values facts.now) goal left.now right.now }
+    requires few { length encoded.now.sources + length problem.now.goals + length facts.now + 2 < 2 ^ 32 }
+    ensures extracted { IfOk result (λ proof. IsExtracted problem.now encoded.now (values facts.now) left.now right.now goal proof.lines) }
+    ensures right { IfOk result (λ proof. AreRightBefore problem.now.clauses encoded.now.fresh proof.lines (length proof.lines)) }
+    ensures refutes { IfOk result (λ proof. EndsInRefutation proof.lines) }
+    ensures in_order { IfOk result (λ proof. AreInOrder proof.lines) }
+{
+    let conclusion = conclusion(alloc, left, right)?;
+    let needed = needed(alloc, facts, &conclusion, encoded, goal)?;
+    let plan = Plan::of(alloc, &needed, problem, encoded, facts.len())?;
+    let mut lines = Vec::new(alloc);
+    let parts = plan.parts();
+    for (number, part) in parts.iter().enumerate() {
+        let line = line_of(
+            alloc,
+            &plan,
+            problem,
+            encoded,
+            facts,
+            &conclusion,
+            goal,
+            number,
+            *part,
+        )?;
+        lines.push(renumbered(alloc, line)?)?;
+    }
+    Ok(Proof {
+        lines: Seq::from_vec(lines),
+    })
+}
