@@ -96,7 +96,7 @@ facts_count : (n many : ℕ) → length (facts_from n many) ≡ many
 facts_count n zero = refl
 facts_count n (suc many) = ap suc (facts_count (n + 1) many)
 
-pub parts_count : (ss : List Source) (cs : List ℕ) (many : ℕ) → length (axioms_where is_clause 0 ss ++ map part.Denial cs ++ axioms_where is_encoding 0 ss ++ facts_from 0 many ++ part.Conclusion ∷ part.Refutation ∷ []) ≡ length ss + length cs + many + 2
+pub parts_count : (ss : List Source) (cs : List ℕ) (many : ℕ) → length (axioms_where is_clause 0 ss ++ (map part.Denial cs ++ (axioms_where is_encoding 0 ss ++ (facts_from 0 many ++ part.Conclusion ∷ part.Refutation ∷ [])))) ≡ length ss + length cs + many + 2
 parts_count ss cs many =
     let ends = part.Conclusion ∷ part.Refutation ∷ [] in
     let f = facts_from 0 many ++ ends in

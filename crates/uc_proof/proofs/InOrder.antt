@@ -113,12 +113,12 @@ counts before seen (y ∷ ys) same = go (is_among y seen) refl (counts before se
 
 pub line_in_order : (line : Line) → CountUp 0 (line_variables (renumbered_line line))
 line_in_order line =
-    let ys : List ℕ = variables line.left ++ (variables line.right ++ source_variables line.source) in
+    let ys : List ℕ = (variables line.left ++ variables line.right) ++ source_variables line.source in
     let xs : List ℕ = firsts ys in
-    let right_and_source : variables (renumbered_by xs line.right) ++ source_variables (renumbered_source xs line.source) ≡ map (place xs) (variables line.right ++ source_variables line.source) =
-    ap₂ (λ a b. a ++ b) (renumbered_variables xs line.right) (of_source xs line.source) ∙ sym (map-append (place xs) (variables line.right) (source_variables line.source)) in
-    let all : variables (renumbered_by xs line.left) ++ (variables (renumbered_by xs line.right) ++ source_variables (renumbered_source xs line.source)) ≡ map (place xs) ys =
-    ap₂ (λ a b. a ++ b) (renumbered_variables xs line.left) right_and_source ∙ sym (map-append (place xs) (variables line.left) (variables line.right ++ source_variables line.source)) in
+    let sides : variables (renumbered_by xs line.left) ++ variables (renumbered_by xs line.right) ≡ map (place xs) (variables line.left ++ variables line.right) =
+    ap₂ (λ a b. a ++ b) (renumbered_variables xs line.left) (renumbered_variables xs line.right) ∙ sym (map-append (place xs) (variables line.left) (variables line.right)) in
+    let all : (variables (renumbered_by xs line.left) ++ variables (renumbered_by xs line.right)) ++ source_variables (renumbered_source xs line.source) ≡ map (place xs) ys =
+    ap₂ (λ a b. a ++ b) sides (of_source xs line.source) ∙ sym (map-append (place xs) (variables line.left ++ variables line.right) (source_variables line.source)) in
     let is : line_variables (renumbered_line line) ≡ map (place xs) xs = ap firsts all ∙ mapped_firsts xs [] ys tt (all_among xs ys (λ x e. among_firsts ys x e)) in
     subst (CountUp 0) (sym is) (counts [] [] ys (λ x. refl))
 
@@ -129,5 +129,5 @@ module _ (problem : Problem) (enc : Encoded) (facts : List Fact) (conclusion : W
   written_in_order k (p ∷ ps) [] w = absurd w
   written_in_order k (p ∷ ps) (l ∷ ls) w = (subst (λ (x : Line). CountUp 0 (line_variables x)) (sym w.0.line_is) (line_in_order w.0.said), written_in_order (k + 1) ps ls w.1)
 
-pub extracted_in_order : (problem : Problem) (enc : Encoded) (facts : List Fact) (left right : Way) (goal : ℕ) (lines : List Line) → IsExtracted problem enc facts left right goal lines → AreInOrder lines
-extracted_in_order problem enc facts left right goal lines x = written_in_order problem enc facts (conclusion_of left right) goal x.plan 0 x.plan lines x.written
+pub extracted_in_order : (problem : Problem) (enc : Encoded) (facts : List Fact) (left right : Way) (goal : ℕ) (lines : List Line) (files : List (List ℕ)) → IsExtracted problem enc facts left right goal lines files → AreInOrder lines
+extracted_in_order problem enc facts left right goal lines files x = written_in_order problem enc facts (conclusion_of left right) goal x.plan 0 x.plan lines x.written

@@ -88,14 +88,14 @@ module _ (sources : List Source) (count : ℕ) where
       let q : 3 + (n + suc many) ≡ 3 + (n + 1 + many) = omega arith in
       (omega arith, weaker (3 + n) (3 + (n + 1)) (facts_from (n + 1) many ++ rest) (omega arith) (facts_ascend (n + 1) many rest (subst (λ (k : ℕ). Ascends k rest) q a)))
 
-  pub parts_ascend : (cs : List ℕ) → Ascends 0 (axioms_where is_clause 0 sources ++ map part.Denial cs ++ axioms_where is_encoding 0 sources ++ facts_from 0 count ++ part.Conclusion ∷ part.Refutation ∷ [])
+  pub parts_ascend : (cs : List ℕ) → Ascends 0 (axioms_where is_clause 0 sources ++ (map part.Denial cs ++ (axioms_where is_encoding 0 sources ++ (facts_from 0 count ++ part.Conclusion ∷ part.Refutation ∷ []))))
   parts_ascend cs =
       let all : Stand 0 sources = λ j s e. let q : 0 + j ≡ j = omega arith in subst (λ (k : ℕ). slice_get sources k ≡ Some s) (sym q) e in
       let ends = part.Conclusion ∷ part.Refutation ∷ [] in
       let facts = facts_from 0 count ++ ends in
       let encodings = axioms_where is_encoding 0 sources ++ facts in
       let denials = map part.Denial cs ++ encodings in
-      let at_end : Ascends (3 + (0 + count)) ends = (omega arith, omega arith, tt) in
+      let at_end : Ascends (3 + (0 + count)) ends = (omega arith, (omega arith, tt)) in
       let f : Ascends 2 facts = weaker 2 3 facts (omega arith) (facts_ascend 0 count ends at_end) in
       let e : Ascends 1 encodings = weaker 1 2 encodings (omega arith) (flat_ascend 2 (axioms_where is_encoding 0 sources) facts (encodings_third 0 sources all) f) in
       let d : Ascends 0 denials = weaker 0 1 denials (omega arith) (flat_ascend 1 (map part.Denial cs) encodings (denials_second cs) e) in

@@ -10,3 +10,6 @@ pub mod Ready
 pub mod Using
 pub mod Numbers
 pub mod Naming
+pub mod Printing
+pub mod PathOnce
+pub mod Once

@@ -129,7 +129,7 @@ line_numbered line numbered a b c a_is left b_is right c_is from name positive =
     let vr = variables line.right in
     let vs = source_variables line.source in
     let two : b ≡ firsts (vl ++ vr) = b_is ∙ ap (λ l. l ++ firsts_after l vr) a_is ∙ added_twice [] vl vr in
-    let all : c ≡ line_variables line = c_is ∙ ap (λ l. l ++ firsts_after l vs) two ∙ added_twice [] (vl ++ vr) vs ∙ ap firsts (append_assoc vl vr vs) in
+    let all : c ≡ line_variables line = c_is ∙ ap (λ l. l ++ firsts_after l vs) two ∙ added_twice [] (vl ++ vr) vs in
     let right_names : b ++ firsts_after b vs ≡ line_variables line = sym c_is ∙ all in
     let left_names : a ++ (firsts_after a vr ++ firsts_after b vs) ≡ line_variables line = sym (append_assoc a (firsts_after a vr) (firsts_after b vs)) ∙ ap (λ l. l ++ firsts_after b vs) (sym b_is) ∙ right_names in
     same name (from ∙ ap (λ xs. renumbered_source xs line.source) all) (left (firsts_after a vr ++ firsts_after b vs) ∙ ap (λ xs. renumbered_by xs line.left) left_names) (right (firsts_after b vs) ∙ ap (λ xs. renumbered_by xs line.right) right_names) positive

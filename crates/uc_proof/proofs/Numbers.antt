@@ -20,12 +20,12 @@ module _ (eq : Part → Part → Bool) (decides : (a b : Part) → (eq a b ≡ t
       go false q later = number_later (λ s. let t : true ≡ false = sym ((decides p e.0).1 (sym s)) ∙ q in cc) later
 
   put_other : (p r : Part) (n : ℕ) (es : List (Part × ℕ)) → (p ≡ r → ⊥) → HasNumber parts r es → HasNumber parts r (insert_entry eq es p n)
-  put_other p r n _ no (number_here {q} {m} {rest} s at) = go (eq p q) refl
+  put_other p r n _ no (number_here {q} {n = m} {rest} s at) = go (eq p q) refl
     where
       go : (b : Bool) → eq p q ≡ b → HasNumber parts r (if b then (q, n) ∷ rest else (q, m) ∷ insert_entry eq rest p n)
       go true t = absurd (no ((decides p q).0 t ∙ s))
       go false t = number_here s at
-  put_other p r n _ no (number_later {q} {m} {rest} s h) = go (eq p q) refl (put_other p r n rest no h)
+  put_other p r n _ no (number_later {q} {n = m} {rest} s h) = go (eq p q) refl (put_other p r n rest no h)
     where
       go : (b : Bool) → eq p q ≡ b → HasNumber parts r (insert_entry eq rest p n) → HasNumber parts r (if b then (q, n) ∷ rest else (q, m) ∷ insert_entry eq rest p n)
       go true t later = number_later s h

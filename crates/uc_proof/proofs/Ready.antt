@@ -98,7 +98,7 @@ module _ (problem : Problem) (enc : Encoded) (facts : List Fact) (left right : C
   -- what is used is there
   used_there : (by : By) → IsUsed facts conclusion by → (e : Equation) × (named enc.axioms facts by ≡ Some e)
   used_there by (by_goal h) = named_by_steps enc.axioms facts conclusion.start conclusion.steps by leads.replays h
-  used_there by (by_fact {_} {n} {fact} u g h) =
+  used_there by (by_fact {n} {fact} u g h) =
       let r = named_by_steps enc.axioms (take n facts) fact.chain.start fact.chain.steps by (replay n fact g).replays h in
       (r.0, among_facts enc.axioms facts n by r.0 r.1)
 

@@ -70,15 +70,13 @@ Covers xs t = (x : ℕ) → Occurs x t → is_among x xs ≡ true
 
 pub covers_left : (line : Line) → Covers (line_variables line) line.left
 covers_left line x o =
-    let rest = variables line.right ++ source_variables line.source in
-    let ls = variables line.left ++ rest in
-    among_firsts ls x (among_front (variables line.left) rest x (occurs_among x line.left o))
+    let sides = variables line.left ++ variables line.right in
+    among_firsts (sides ++ source_variables line.source) x (among_front sides (source_variables line.source) x (among_front (variables line.left) (variables line.right) x (occurs_among x line.left o)))
 
 pub covers_right : (line : Line) → Covers (line_variables line) line.right
 covers_right line x o =
-    let rest = variables line.right ++ source_variables line.source in
-    let ls = variables line.left ++ rest in
-    among_firsts ls x (among_behind (variables line.left) rest x (among_front (variables line.right) (source_variables line.source) x (occurs_among x line.right o)))
+    let sides = variables line.left ++ variables line.right in
+    among_firsts (sides ++ source_variables line.source) x (among_front sides (source_variables line.source) x (among_behind (variables line.left) (variables line.right) x (occurs_among x line.right o)))
 
 -- an instance of a numbered term
 pub unnumbered : (xs : List ℕ) (τ : ℕ → Tree) (t : Tree) → Covers xs t → apply (λ i. τ (get_or xs i 0)) (renumbered_by xs t) ≡ apply τ t

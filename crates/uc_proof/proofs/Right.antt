@@ -167,14 +167,17 @@ module _ (problem : Problem) (enc : Encoded) (facts : List Fact) (conclusion : C
     rank p = level enc.sources (length facts) p
 
     at_line : (k : ℕ) (p : Part) → slice_get plan k ≡ Some p → (line : Line) × (slice_get lines k ≡ Some line) × IsWritten problem enc facts conclusion goal plan k p line
-    at_line k p e = written_at 0 plan lines k p written e
+    at_line k p e =
+        let r = written_at 0 plan lines k p written e in
+        let q : 0 + k ≡ k = omega arith in
+        (r.0, r.1, subst (λ (i : ℕ). IsWritten problem enc facts conclusion goal plan i p r.0) q r.2)
 
     earlier : (i k : ℕ) (p q : Part) → slice_get plan i ≡ Some p → slice_get plan k ≡ Some q → rank p < rank q → i < k
     earlier i k p q e f h = lower_earlier enc.sources (length facts) 0 plan i k p q ascends e f h
 
     -- the line of an axiom says its equation
     says_axiom : (k : ℕ) (e : Equation) (name : List ℕ) (said line : Line) → slice_get enc.axioms k ≡ Some e → line ≡ renumbered_line said → Says problem enc facts conclusion goal plan name (part.Axiom k) said → SaysEquation line e
-    says_axiom k e name _ line h is_line (says_clause {_} {c} {s} at there) = go (axiom_from problem enc is k e h)
+    says_axiom k e name _ line h is_line (says_clause {c} {s} at there) = go (axiom_from problem enc is k e h)
       where
         go : IsFrom problem enc k e → SaysEquation line e
         go (from_clause c' s' at' there' positive q) =
@@ -183,15 +186,15 @@ module _ (problem : Problem) (enc : Encoded) (facts : List Fact) (conclusion : C
             subst (SaysEquation line) (ap (λ (x : Sourced). clause_equation x.clause) same ∙ q) (says_own (clause_line name s.clause) line is_line (ap (λ (x : Sourced). x.clause.positive) same ∙ positive) (λ n. n))
         go (from_reflexive marks at' f q) = let z : Some (source.Clause c) ≡ Some source.Reflexive = sym at ∙ at' in absurd cc
         go (from_goal marks c' s' at' f there' o q) = let z : Some (source.Clause c) ≡ Some (source.Goal c') = sym at ∙ at' in absurd cc
-    says_axiom k e name _ line h is_line (says_reflexive {_} {e'} at h') =
+    says_axiom k e name _ line h is_line (says_reflexive {e = e'} at h') =
         let same : e' ≡ e = let z : Some e' ≡ Some e = sym h' ∙ h in cc in
         subst (SaysEquation line) same (says_own (equation_line name (Reflexive []) e') line is_line refl (λ n. n))
-    says_axiom k e name _ line h is_line (says_goal {_} {c} {denial} {e'} at h' d) =
+    says_axiom k e name _ line h is_line (says_goal {c} {denial} {e = e'} at h' d) =
         let same : e' ≡ e = let z : Some e' ≡ Some e = sym h' ∙ h in cc in
         subst (SaysEquation line) same (says_own (equation_line name (EncodeGoal (denial ∷ [])) e') line is_line refl (λ n. n))
 
     says_of_fact : (n : ℕ) (e : Equation) (name : List ℕ) (said line : Line) → slice_get (map equation_of facts) n ≡ Some e → line ≡ renumbered_line said → Says problem enc facts conclusion goal plan name (part.Fact n) said → SaysEquation line e
-    says_of_fact n e name _ line h is_line (says_fact {_} {fact} {steps} g a) =
+    says_of_fact n e name _ line h is_line (says_fact {fact} {steps} g a) =
         subst (SaysEquation line) (fact_named facts n e fact h g) (says_own (equation_line name (chain_source fact.chain.start steps) (equation_of fact)) line is_line refl (λ n. n))
 
     -- so does the line of each equation that is named
@@ -308,7 +311,7 @@ module _ (problem : Problem) (enc : Encoded) (facts : List Fact) (conclusion : C
     denial_of c i at = let r = at_line i (part.Denial c) at in go (line_name i) r.2.said r.0 r.1 r.2.line_is r.2.says
       where
         go : (name : List ℕ) (said line : Line) → slice_get lines i ≡ Some line → line ≡ renumbered_line said → Says problem enc facts conclusion goal plan name (part.Denial c) said → IsDenialOf c i
-        go name _ line l q (says_denial {_} {s} there) = record {
+        go name _ line l q (says_denial {s} there) = record {
           sourced = s;
           there = there;
           line = line;
@@ -337,7 +340,7 @@ module _ (problem : Problem) (enc : Encoded) (facts : List Fact) (conclusion : C
     conclusion_at e i g at = let r = at_line i part.Conclusion at in go (line_name i) r.2.said r.0 r.1 r.2.line_is r.2.says
       where
         go : (name : List ℕ) (said line : Line) → slice_get lines i ≡ Some line → line ≡ renumbered_line said → Says problem enc facts conclusion goal plan name part.Conclusion said → IsConclusionAt e i
-        go name _ line l q (says_conclusion {e'} {steps} g' a) =
+        go name _ line l q (says_conclusion {e = e'} {steps} g' a) =
             let same : e' ≡ e = let z : Some e' ≡ Some e = sym g' ∙ g in cc in
             let said = equation_line name (chain_source conclusion.start steps) e' in
             let xs = line_variables said in
@@ -375,7 +378,7 @@ module _ (problem : Problem) (enc : Encoded) (facts : List Fact) (conclusion : C
     same_names marks name s denial =
         let l = variables s.clause.left in
         let r = variables s.clause.right in
-        ap firsts (ap (λ x. l ++ x) (sym (append-nil (r ++ []))) ∙ sym (append_assoc l (r ++ []) []))
+        ap firsts (ap (λ x. x ++ []) (sym (append-nil (l ++ (r ++ [])) ∙ sym (append_assoc l r []) ∙ append-nil (l ++ r))))
 
     -- eq(s,t) = false
     goal_tested : (k j c denial : ℕ) (e : Equation) (name : List ℕ) (line : Line) → slice_get plan k ≡ Some (part.Axiom j) → slice_get enc.sources j ≡ Some (source.Goal c) → slice_get enc.axioms j ≡ Some e → slice_get plan denial ≡ Some (part.Denial c) → line ≡ renumbered_line (equation_line name (EncodeGoal (denial ∷ [])) e) → Tested problem.clauses enc.fresh lines k line line.source None
@@ -441,7 +444,7 @@ module _ (problem : Problem) (enc : Encoded) (facts : List Fact) (conclusion : C
             let first : denial < k = earlier denial k (part.Denial c) part.Refutation d at_k (omega arith) in
             let second : chain < k = earlier chain k part.Conclusion part.Refutation at_chain at_k (omega arith) in
             subst (λ (l : Line). Tested problem.clauses enc.fresh lines k l l.source None) (sym q)
-            (refute_right (first, second, tt) (inl (record {
+            (refute_right (first, (second, tt)) (inl (record {
               first = denial;
               second = chain;
               parents_are = refl;
@@ -484,19 +487,19 @@ module _ (problem : Problem) (enc : Encoded) (facts : List Fact) (conclusion : C
     -- each line passes its tests
     module _ (replay : FactsReplay enc.axioms facts) (e : Equation) (e_is : slice_get enc.goals goal ≡ Some e) (leads_to : LeadsFrom enc.axioms facts conclusion e.left e.right) where
       tested : (k : ℕ) (p : Part) (name : List ℕ) (said line : Line) → slice_get plan k ≡ Some p → line ≡ renumbered_line said → Says problem enc facts conclusion goal plan name p said → Tested problem.clauses enc.fresh lines k line line.source None
-      tested k _ name _ line at_k q (says_clause {_} {c} {s} at there) = clause_tested k c name s line there q
+      tested k _ name _ line at_k q (says_clause {c} {s} at there) = clause_tested k c name s line there q
       tested k _ name _ line at_k q (says_denial {c} {s} there) = clause_tested k c name s line there q
-      tested k _ name _ line at_k q (says_reflexive {j} {d} at h) = reflexive_tested k j d name line at h q
-      tested k _ name _ line at_k q (says_goal {j} {c} {denial} {d} at h there) = goal_tested k j c denial d name line at_k at h there q
-      tested k _ name _ line at_k q (says_fact {n} {fact} {ws} g a) = chain_tested k (part.Fact n) name (take n facts) fact.chain (equation_of fact) ws at_k (widen_fact n) (replay n fact g) a line q
-      tested k _ name _ line at_k q (says_conclusion {d} {ws} g a) =
+      tested k _ name _ line at_k q (says_reflexive {k = j} {e = d} at h) = reflexive_tested k j d name line at h q
+      tested k _ name _ line at_k q (says_goal {k = j} {c} {denial} {e = d} at h there) = goal_tested k j c denial d name line at_k at h there q
+      tested k _ name _ line at_k q (says_fact {n} {fact} {steps = ws} g a) = chain_tested k (part.Fact n) name (take n facts) fact.chain (equation_of fact) ws at_k (widen_fact n) (replay n fact g) a line q
+      tested k _ name _ line at_k q (says_conclusion {e = d} {steps = ws} g a) =
           let same : e ≡ d = let z : Some e ≡ Some d = sym e_is ∙ g in cc in
           chain_tested k part.Conclusion name facts conclusion d ws at_k widen_all (subst (λ (x : Equation). LeadsFrom enc.axioms facts conclusion x.left x.right) same leads_to) a line q
       tested k _ name _ line at_k q (refutes_denied {c} {denial} {chain} at d at_chain) = ground_refuted k c denial chain e name line e_is at_k at d at_chain q
       tested k _ name _ line at_k q (refutes_encoded {chain} at at_chain) = encoding_refuted k chain e name line e_is at_k at at_chain q
 
       right_line : (k : ℕ) → IsRightLine problem.clauses enc.fresh lines k
-      right_line k line l = let r = part_at 0 plan lines k line written l in tested k r.0 (line_name k) r.2.said line r.1 r.2.line_is r.2.says
+      right_line k line l = let r = part_at 0 plan lines k line written l in tested k r.0 (line_name (0 + k)) r.2.said line r.1 r.2.line_is r.2.says
 
     -- the line of the refutation
     refutation_at : (k : ℕ) → slice_get plan k ≡ Some part.Refutation → (line : Line) × (slice_get lines k ≡ Some line) × IsRefutation line.source
@@ -506,7 +509,7 @@ module _ (problem : Problem) (enc : Encoded) (facts : List Fact) (conclusion : C
         go name _ line q (refutes_denied at' d c) = subst (λ (l : Line). IsRefutation l.source) (sym q) tt
         go name _ line q (refutes_encoded at' c) = subst (λ (l : Line). IsRefutation l.source) (sym q) tt
 
-module _ (problem : Problem) (enc : Encoded) (facts : List Fact) (left right : Chain) (goal : ℕ) (lines : List Line) (is : IsEncodingOf problem enc) (replay : FactsReplay enc.axioms facts) (proves : ProvesGoal enc facts goal left right) (x : IsExtracted problem enc facts left right goal lines) where
+module _ (problem : Problem) (enc : Encoded) (facts : List Fact) (left right : Chain) (goal : ℕ) (lines : List Line) (files : List (List ℕ)) (is : IsEncodingOf problem enc) (replay : FactsReplay enc.axioms facts) (proves : ProvesGoal enc facts goal left right) (x : IsExtracted problem enc facts left right goal lines files) where
   ascends : Ascends enc.sources (length facts) 0 x.plan
   ascends = selected_ascend enc.sources (length facts) (IsNeeded enc facts (conclusion_of left right) goal) 0 (all_parts problem enc (length facts)) x.plan x.selected (parts_ascend enc.sources (length facts) problem.goals)
 
@@ -517,7 +520,7 @@ module _ (problem : Problem) (enc : Encoded) (facts : List Fact) (left right : C
 
   pub refutes_last : EndsInRefutation lines
   refutes_last =
-      let front = axioms_where is_clause 0 enc.sources ++ map part.Denial problem.goals ++ axioms_where is_encoding 0 enc.sources ++ facts_from 0 (length facts) in
+      let front = axioms_where is_clause 0 enc.sources ++ (map part.Denial problem.goals ++ (axioms_where is_encoding 0 enc.sources ++ facts_from 0 (length facts))) in
       let parts : all_parts problem enc (length facts) ≡ front ++ part.Conclusion ∷ part.Refutation ∷ [] = regroup (axioms_where is_clause 0 enc.sources) (map part.Denial problem.goals) (axioms_where is_encoding 0 enc.sources) (facts_from 0 (length facts)) (part.Conclusion ∷ part.Refutation ∷ []) in
       let two = two_last (IsNeeded enc facts (conclusion_of left right) goal) front x.plan part.Conclusion part.Refutation tt tt (subst (λ (ps : List Part). Selects (IsNeeded enc facts (conclusion_of left right) goal) ps x.plan) parts x.selected) in
       let at : slice_get x.plan (length two.0 + 1) ≡ Some part.Refutation = ap (λ l. slice_get l (length two.0 + 1)) two.1 ∙ at_last two.0 part.Conclusion part.Refutation in
@@ -531,5 +534,5 @@ module _ (problem : Problem) (enc : Encoded) (facts : List Fact) (left right : C
         refutes = r.2;
       }
     where
-      regroup : (a b c d e : List Part) → a ++ b ++ c ++ d ++ e ≡ (a ++ b ++ c ++ d) ++ e
-      regroup a b c d e = ap (λ l. a ++ l) (ap (λ l. b ++ l) (sym (append_assoc c d e)) ∙ sym (append_assoc b (c ++ d) e)) ∙ sym (append_assoc a (b ++ c ++ d) e)
+      regroup : (a b c d e : List Part) → a ++ (b ++ (c ++ (d ++ e))) ≡ (a ++ (b ++ (c ++ d))) ++ e
+      regroup a b c d e = ap (λ l. a ++ l) (ap (λ l. b ++ l) (sym (append_assoc c d e)) ∙ sym (append_assoc b (c ++ d) e)) ∙ sym (append_assoc a (b ++ (c ++ d)) e)

@@ -12,13 +12,16 @@ use Rattle.uc_problem.specs.declared.problem.Problem.{Problem}
 use Rattle.uc_problem.specs.declared.problem.Encoded.{Encoded}
 use Rattle.uc_problem.specs.declared.problem.Source.{Source}
 use Rattle.uc_problem.specs.declared.problem.Source.TheVariants as source
-use Rattle.uc_problem.specs.declared.encoding.Kind.TheVariants.{Axiom, Goal}
 use Rattle.uc_problem.specs.Holds.{numbers_of}
 use Rattle.uc_problem.specs.Marks.{Marks, is_open_goal}
-use Rattle.uc_problem.specs.Kinds.{is_of}
 use Rattle.uc_problem.specs.Encodes.{equations_where, numbers_where, is_ground_goal, last_goal, encoding_of}
-use Rattle.uc_problem.proofs.Encodings.{axioms_are, goals_are}
 use Rattle.uc_proof.specs.Extracted.{IsEncodingOf}
+
+abbrev is_positive : Sourced → Bool
+is_positive s = s.clause.positive
+
+abbrev is_negative : Sourced → Bool
+is_negative s = if s.clause.positive then false else true
 
 -- the clause of an equation of the clauses that are so, and its number
 pub record Stands (is : Sourced → Bool) (n : ℕ) (ss : List Sourced) (k : ℕ) (e : Equation) : Type 0 where
@@ -79,7 +82,7 @@ module _ (is : Sourced → Bool) where
       go true p h = ap length (equations_so s ss p) ∙ ap suc h ∙ ap length (sym (numbers_so n s ss p))
       go false p h = ap length (equations_not s ss p) ∙ h ∙ ap length (sym (numbers_not n s ss p))
 
-pub axiom_numbers : (n : ℕ) (ss : List Sourced) → numbers_of true n ss ≡ numbers_where (is_of Axiom) n ss
+pub axiom_numbers : (n : ℕ) (ss : List Sourced) → numbers_of true n ss ≡ numbers_where is_positive n ss
 axiom_numbers n [] = refl
 axiom_numbers n (s ∷ ss) = ap (λ l. if s.clause.positive then n ∷ l else l) (axiom_numbers (n + 1) ss)
 
@@ -87,10 +90,18 @@ chosen : {A : Type 0} (b : Bool) (x y : A) → (if b then y else x) ≡ (if (if 
 chosen true x y = refl
 chosen false x y = refl
 
-pub goal_numbers : (n : ℕ) (ss : List Sourced) → numbers_of false n ss ≡ numbers_where (is_of Goal) n ss
+pub goal_numbers : (n : ℕ) (ss : List Sourced) → numbers_of false n ss ≡ numbers_where is_negative n ss
 goal_numbers n [] = refl
 goal_numbers n (s ∷ ss) =
-    ap (λ l. if s.clause.positive then l else n ∷ l) (goal_numbers (n + 1) ss) ∙ chosen s.clause.positive (n ∷ numbers_where (is_of Goal) (n + 1) ss) (numbers_where (is_of Goal) (n + 1) ss)
+    ap (λ l. if s.clause.positive then l else n ∷ l) (goal_numbers (n + 1) ss) ∙ chosen s.clause.positive (n ∷ numbers_where is_negative (n + 1) ss) (numbers_where is_negative (n + 1) ss)
+
+axioms_are : (ss : List Sourced) → equations_where is_positive ss ≡ axioms_of ss
+axioms_are [] = refl
+axioms_are (s ∷ ss) = ap (λ l. if s.clause.positive then equation_of s.clause ∷ l else l) (axioms_are ss)
+
+goals_are : (ss : List Sourced) → equations_where is_negative ss ≡ goals_of ss
+goals_are [] = refl
+goals_are (s ∷ ss) = sym (chosen s.clause.positive (equation_of s.clause ∷ equations_where is_negative ss) (equations_where is_negative ss)) ∙ ap (λ l. if s.clause.positive then l else equation_of s.clause ∷ l) (goals_are ss)
 
 -- an element of two lists one behind the other, and what stands there in two others, where the first are as long
 beside : {A B : Type 0} (xs xs' : List A) (ys ys' : List B) (k : ℕ) (x : A) → length xs ≡ length ys → slice_get (xs ++ xs') k ≡ Some x → ((slice_get xs k ≡ Some x) × (slice_get (ys ++ ys') k ≡ slice_get ys k)) ⊎ ((j : ℕ) × (slice_get xs' j ≡ Some x) × (slice_get (ys ++ ys') k ≡ slice_get ys' j))
@@ -132,7 +143,7 @@ module _ (problem : Problem) (enc : Encoded) where
   module _ (is : IsEncodingOf problem enc) where
     by_clause : (k : ℕ) (e : Equation) → slice_get (axioms_of problem.clauses) k ≡ Some e → slice_get enc.sources k ≡ slice_get (map source.Clause problem.axioms) k → IsFrom k e
     by_clause k e h at =
-        let r = stands (is_of Axiom) 0 problem.clauses k e (ap (λ l. slice_get l k) (axioms_are problem.clauses) ∙ h) in
+        let r = stands is_positive 0 problem.clauses k e (ap (λ l. slice_get l k) (axioms_are problem.clauses) ∙ h) in
         let n : slice_get problem.axioms k ≡ Some (0 + r.number) = ap (λ l. slice_get l k) (is.agrees.axioms ∙ axiom_numbers 0 problem.clauses) ∙ r.numbered in
         from_clause (0 + r.number) r.sourced (at ∙ map-get source.Clause problem.axioms k (0 + r.number) n) (let q : 0 + r.number ≡ r.number = omega arith in subst (λ (j : ℕ). slice_get problem.clauses j ≡ Some r.sourced) (sym q) r.there) r.so r.equation_is
 
@@ -152,7 +163,7 @@ module _ (problem : Problem) (enc : Encoded) where
         let from_own = map source.Clause problem.axioms in
         let from_added = source.Reflexive ∷ map source.Goal (numbers_where is_open_goal 0 problem.clauses) in
         let long : length own ≡ length from_own =
-        ap length (sym (axioms_are problem.clauses)) ∙ as_many (is_of Axiom) 0 problem.clauses ∙ ap length (sym (is.agrees.axioms ∙ axiom_numbers 0 problem.clauses)) ∙ sym (length_map source.Clause problem.axioms) in
+        ap length (sym (axioms_are problem.clauses)) ∙ as_many is_positive 0 problem.clauses ∙ ap length (sym (is.agrees.axioms ∙ axiom_numbers 0 problem.clauses)) ∙ sym (length_map source.Clause problem.axioms) in
         let sources_at : slice_get enc.sources k ≡ slice_get (from_own ++ from_added) k = ap (λ (x : Encoded). slice_get x.sources k) q in
         elim (beside own added from_own from_added k e long (ap (λ (x : Encoded). slice_get x.axioms k) (sym q) ∙ h)) [
           | inl a ↦ by_clause k e a.0 (sources_at ∙ a.1)
@@ -162,7 +173,7 @@ module _ (problem : Problem) (enc : Encoded) where
     pub axiom_from : (k : ℕ) (e : Equation) → slice_get enc.axioms k ≡ Some e → IsFrom k e
     axiom_from = sourced_by enc.fresh refl is.encodes.1
 
-    negative : (s : Sourced) → is_of Goal s ≡ true → s.clause.positive ≡ false
+    negative : (s : Sourced) → is_negative s ≡ true → s.clause.positive ≡ false
     negative s e = go s.clause.positive e
       where
         go : (b : Bool) → (if b then false else true) ≡ true → b ≡ false
@@ -179,7 +190,7 @@ module _ (problem : Problem) (enc : Encoded) where
 
     asked_by : (fresh : Option Fresh) → enc.fresh ≡ fresh → Marks is.table problem (Ok fresh) → enc ≡ encoding_of problem fresh → (k : ℕ) (e : Equation) → slice_get enc.goals k ≡ Some e → IsAsked k e
     asked_by None f m q k e h =
-        let r = stands (is_of Goal) 0 problem.clauses k e (ap (λ l. slice_get l k) (goals_are problem.clauses) ∙ ap (λ (x : Encoded). slice_get x.goals k) (sym q) ∙ h) in
+        let r = stands is_negative 0 problem.clauses k e (ap (λ l. slice_get l k) (goals_are problem.clauses) ∙ ap (λ (x : Encoded). slice_get x.goals k) (sym q) ∙ h) in
         let n : slice_get problem.goals k ≡ Some (0 + r.number) = ap (λ l. slice_get l k) (is.agrees.goals ∙ goal_numbers 0 problem.clauses) ∙ r.numbered in
         asked_by_clause (0 + r.number) r.sourced (ap (λ (x : Encoded). slice_get x.goal_clauses k) q ∙ map-get Some problem.goals k (0 + r.number) n)
         (let z : 0 + r.number ≡ r.number = omega arith in subst (λ (j : ℕ). slice_get problem.clauses j ≡ Some r.sourced) (sym z) r.there) (negative r.sourced r.so) (none_of is_open_goal problem.clauses r.number r.sourced m r.there) r.equation_is

@@ -59,7 +59,7 @@ module _ (facts : List Fact) (earlier : NameEarlier facts) (initial : List Part)
 module _ (facts : List Fact) (initial now : List Part) (u : Uses facts initial 0 now) (conclusion : Chain) (named : (p : Part) → IsAmong p initial ↔ IsNamedPart conclusion.steps p) where
   complete : (by : By) → IsUsed facts conclusion by → IsAmong (part_of by) now
   complete by (by_goal h) = u.grows (part_of by) ((named (part_of by)).1 (part_named conclusion.steps by h))
-  complete by (by_fact {_} {n} {fact} v g h) = u.closed n fact (omega arith) g (complete (FactOf n) v) (part_of by) (part_named fact.chain.steps by h)
+  complete by (by_fact {n} {fact} v g h) = u.closed n fact (omega arith) g (complete (FactOf n) v) (part_of by) (part_named fact.chain.steps by h)
 
   from_goal : (p : Part) → IsAmong p initial → IsUsedPart facts conclusion p
   from_goal p h = let r = named_part conclusion.steps p ((named p).0 h) in subst (IsUsedPart facts conclusion) r.1 (used_part facts conclusion r.0 (by_goal r.2))

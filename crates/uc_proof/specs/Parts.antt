@@ -36,7 +36,7 @@ facts_from n (suc more) = part.Fact n ∷ facts_from (n + 1) more
 -- For so many facts: the clauses of the axioms, by number; those of the goals, by number; the encoding's axioms, by number; the facts, by number; the
 -- goal's chain; and the refutation.
 abbrev pub all_parts : Problem → Encoded → ℕ → List Part
-all_parts problem encoded facts = axioms_where is_clause 0 encoded.sources ++ map part.Denial problem.goals ++ axioms_where is_encoding 0 encoded.sources ++ facts_from 0 facts ++ part.Conclusion ∷ part.Refutation ∷ []
+all_parts problem encoded facts = axioms_where is_clause 0 encoded.sources ++ (map part.Denial problem.goals ++ (axioms_where is_encoding 0 encoded.sources ++ (facts_from 0 facts ++ part.Conclusion ∷ part.Refutation ∷ [])))
 
 -- those of a list for which this holds, in the list's order, and no other
 pub data Selects (Is : Part → Type 0) : List Part → List Part → Type 0 where

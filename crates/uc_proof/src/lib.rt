@@ -4,6 +4,8 @@
 
 mod conclusion;
 mod extraction;
+mod files;
+mod laws;
 mod lines;
 mod needed;
 mod part;
@@ -11,7 +13,8 @@ mod plan;
 mod renumbering;
 mod steps;
 
-pub use extraction::extract_from;
+pub use extraction::{Extracted, extract_from};
+pub use laws::{extraction_is_right, one_extraction};
 
 #[cfg(test)]
 mod tests;

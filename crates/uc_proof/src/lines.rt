@@ -1,6 +1,6 @@
 //! The line of each part.
 
-ghost use Rattle.std.specs.Prelude.{◌≡◌, ◌<◌, ◌+◌, ◌^◌, ◌∷◌, [], ℕ, List, Some, slice_get, IfOk};
+ghost use Rattle.std.specs.Prelude.{◌≡◌, ◌<◌, ◌+◌, ◌^◌, ◌∷◌, [], ℕ, List, map, Some, slice_get, IfOk};
 ghost use Rattle.uc_term.specs.declared.equation.Equation.{Equation};
 ghost use Rattle.uc_clause.specs.declared.clause.Sourced.{Sourced};
 ghost use Rattle.uc_fact.specs.declared.chain.Chain.{Chain};
@@ -35,8 +35,8 @@ pub(crate) fn line_of(
     part: Part,
 ) -> Result<Line, AllocError>
     requires few { number < 2 ^ 32 }
-    requires ready { IsPartReady problem.now encoded.now (values facts.now) conclusion.now goal plan.now part }
-    ensures { IfOk result (Says problem.now encoded.now (values facts.now) conclusion.now goal plan.now (line_name number) part) }
+    requires ready { IsPartReady problem.now encoded.now (map (λ f. f.now) facts.now) conclusion.now goal plan.now part }
+    ensures { IfOk result (Says problem.now encoded.now (map (λ f. f.now) facts.now) conclusion.now goal plan.now (line_name number) part) }
 {
     let name = line_name(alloc, number)?;
     match part {
@@ -65,14 +65,14 @@ fn axiom_line(
     plan: &Plan,
     problem: &Problem,
     encoded: &Encoded,
-    axiom: u32,
+    number: u32,
     name: Text,
 ) -> Result<Line, AllocError>
-    requires { (e : Equation) × (slice_get encoded.now.axioms axiom ≡ Some e) × IsSourceReady problem.now plan.now (slice_get encoded.now.sources axiom) }
-    ensures { (facts : List Fact) (conclusion : Chain) (goal : ℕ) → IfOk result (Says problem.now encoded.now facts conclusion goal plan.now name (part.Axiom axiom)) }
+    requires { (e : Equation) × (slice_get encoded.now.axioms number ≡ Some e) × IsSourceReady problem.now plan.now (slice_get encoded.now.sources number) }
+    ensures { (facts : List Fact) (conclusion : Chain) (goal : ℕ) → IfOk result (Says problem.now encoded.now facts conclusion goal plan.now name (part.Axiom number)) }
 {
-    let equation = &encoded.axioms.as_slice()[axiom as usize];
-    match encoded.sources.as_slice()[axiom as usize] {
+    let equation = &encoded.axioms.as_slice()[number as usize];
+    match encoded.sources.as_slice()[number as usize] {
         Source::Clause(clause) => denial_line(alloc, problem, clause, name),
         Source::Reflexive => {
             let parents = Seq::new(alloc);

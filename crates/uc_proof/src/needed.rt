@@ -1,6 +1,6 @@
 //! What a proof needs.
 
-ghost use Rattle.std.specs.Prelude.{◌≡◌, ◌<◌, ◌^◌, ◌↔◌, ◌⊎◌, [], List, ℕ, Some, None, IsTrue, OnOk, IfOk, length, slice_get};
+ghost use Rattle.std.specs.Prelude.{◌≡◌, ◌<◌, ◌^◌, ◌↔◌, ◌⊎◌, [], map, List, ℕ, Some, None, IsTrue, OnOk, IfOk, length, slice_get};
 ghost use Rattle.uc_fact.specs.declared.chain.Chain.{Chain};
 ghost use Rattle.uc_proof.specs.declared.part.Part.{Part};
 ghost use Rattle.uc_proof.specs.declared.part.Part.TheVariants as part;
@@ -50,13 +50,13 @@ impl Needed {
     pub(crate) fn has(&self, part: Part) -> bool
         ensures { IsTrue result ↔ IsAmong part self.now }
     {
-        self.parts.contains(part)
+        self.parts.contains(&part)
     }
 }
 
 /// The parts that the proof of a goal needs. Facts name earlier facts alone, so one pass from the last fact to the first finds
 /// all that are used: it takes as many turns as there are facts, and as many as the used chains have steps.
-pub(crate) fn needed(
+pub(crate) fn needed_for(
     alloc: Global,
     facts: &[&Fact],
     conclusion: &Chain,
@@ -65,9 +65,9 @@ pub(crate) fn needed(
 ) -> Result<Needed, AllocError>
     requires few { length facts.now < 2 ^ 32 }
     requires sources { length encoded.now.sources < 2 ^ 32 }
-    requires earlier { NameEarlier (values facts.now) }
+    requires earlier { NameEarlier (map (λ f. f.now) facts.now) }
     requires goal { goal < length encoded.now.goal_clauses }
-    ensures { IfOk result (λ parts. (p : Part) → IsAmong p parts ↔ IsNeeded encoded.now (values facts.now) conclusion.now goal p) }
+    ensures { IfOk result (λ parts. (p : Part) → IsAmong p parts ↔ IsNeeded encoded.now (map (λ f. f.now) facts.now) conclusion.now goal p) }
 {
     let mut needed = Needed::new(alloc);
     add_named(&mut needed, conclusion.steps.as_slice())?;
@@ -82,8 +82,8 @@ pub(crate) fn needed(
 // What the chains of used facts name, from the last fact on.
 fn add_used(needed: &mut Needed, facts: &[&Fact]) -> Result<(), AllocError>
     requires few { length facts.now < 2 ^ 32 }
-    requires earlier { NameEarlier (values facts.now) }
-    ensures { OnOk result ((conclusion : Chain) → ((p : Part) → IsAmong p needed.old ↔ IsNamedPart conclusion.steps p) → (p : Part) → IsAmong p needed.new ↔ IsUsedPart (values facts.now) conclusion p) }
+    requires earlier { NameEarlier (map (λ f. f.now) facts.now) }
+    ensures { OnOk result ((conclusion : Chain) → ((p : Part) → IsAmong p needed.old ↔ IsNamedPart conclusion.steps p) → (p : Part) → IsAmong p needed.new ↔ IsUsedPart (map (λ f. f.now) facts.now) conclusion p) }
 {
     let mut number = facts.len();
     while number > 0 {

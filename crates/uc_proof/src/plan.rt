@@ -62,7 +62,7 @@ impl Plan {
         requires { IsAmong part self.now }
         ensures { slice_get self.now result ≡ Some part }
     {
-        match self.numbers.get(part) {
+        match self.numbers.get(&part) {
             Some(number) => *number,
             None => unreachable!(),
         }

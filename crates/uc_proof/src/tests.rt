@@ -1,7 +1,7 @@
-use crate::extract_from;
+use crate::{Extracted, extract_from};
 use std::alloc::Global;
 use std::test::Fail;
-use uc_check::{Line, LineSource, LineStep, Proof};
+use uc_check::{Line, LineSource, LineStep};
 use uc_clause::read_term;
 use uc_edge::MemoryLibrary;
 use uc_fact::{By, Chain, Fact, Origin, Step, Stop};
@@ -169,7 +169,7 @@ fn lent<'a>(g: Global, facts: &'a [Fact]) -> Result<Vec<&'a Fact>, Fail> {
     Ok(list)
 }
 
-fn extracted(g: Global, symbols: &mut Symbols, row: &Row) -> Result<Proof, Fail> {
+fn extraction_of(g: Global, symbols: &mut Symbols, row: &Row) -> Result<Extracted, Fail> {
     let problem = problem(g, symbols, row.problem)?;
     let encoded = encode(g, &problem, symbols)?;
     let facts = facts(g, symbols, row.facts)?;
@@ -243,7 +243,8 @@ fn proofs_of_rows(rt: HostRuntime) -> Result<(), Fail> {
     let g = rt.alloc();
     for row in [SAME, TWICE, OPEN] {
         let mut symbols = Symbols::new(g);
-        let proof = extracted(g, &mut symbols, &row)?;
+        let made = extraction_of(g, &mut symbols, &row)?;
+        let proof = made.proof;
         let wanted = read_proof(g, row.proof.as_bytes(), &mut symbols)?;
         assert!(rt; proof.lines.len() == wanted.lines.len());
         for (a, b) in proof.lines.as_slice().iter().zip(wanted.lines.as_slice()) {
