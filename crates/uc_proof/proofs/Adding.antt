@@ -1,5 +1,6 @@
 -- Parts added to a plan.
 use Rattle.std.proofs.Common.{◌≡◌, ℕ, zero, suc, ◌+◌, ◌-◌, ◌<◌, ◌≤◌, Bool, true, false, List, [], ◌∷◌, ◌++◌, length, map, drop, refl, sym, ap, ◌∙◌, subst, arith, append_assoc, append-nil, length-append, if◌then◌else◌}
+use mathlib.Core.Bool.{beq}
 use Rattle.uc_problem.specs.declared.problem.Source.{Source}
 use Rattle.uc_problem.specs.declared.problem.Source.TheVariants as source
 use Rattle.uc_proof.specs.declared.part.Part.{Part}
@@ -103,3 +104,20 @@ parts_count ss cs many =
     let e = axioms_where is_encoding 0 ss ++ f in
     let d = map part.Denial cs ++ e in
     omega (arith, length-append (axioms_where is_clause 0 ss) d, length-append (map part.Denial cs) e, length-append (axioms_where is_encoding 0 ss) f, length-append (facts_from 0 many) ends, both_axioms 0 0 ss, denials_count cs, facts_count 0 many)
+
+-- the axiom of a source is one of those that are pushed, or not
+pub kind_is : (clauses : Bool) (s : Source) (b : Bool) → b ≡ is_clause s → beq b clauses ≡ true → (if clauses then is_clause else is_encoding) s ≡ true
+kind_is true s true e f = sym e
+kind_is true s false e f = absurd cc
+kind_is false s true e f = absurd cc
+kind_is false s false e f = encoding_is s false (sym e)
+
+pub kind_is_not : (clauses : Bool) (s : Source) (b : Bool) → b ≡ is_clause s → beq b clauses ≡ false → (if clauses then is_clause else is_encoding) s ≡ false
+kind_is_not true s true e f = absurd cc
+kind_is_not true s false e f = sym e
+kind_is_not false s true e f = encoding_is s true (sym e)
+kind_is_not false s false e f = absurd cc
+
+-- what is added to nothing
+pub adds_all : (Is : Part → Type 0) (ps empty new : List Part) → empty ≡ [] → Adds Is ps empty new → Selects Is ps new
+adds_all Is ps empty new e a = subst (Selects Is ps) (sym (a.new_is ∙ ap (λ l. l ++ a.more) e)) a.selected

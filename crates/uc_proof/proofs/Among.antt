@@ -1,5 +1,5 @@
 -- Which parts are among others.
-use Rattle.std.proofs.Common.{◌≡◌, ℕ, zero, suc, ◌+◌, ◌<◌, ◌↔◌, ◌||◌, Bool, true, false, List, [], ◌∷◌, ◌++◌, length, map, take, drop, get_or, slice_get, Some, refl, sym, ap, ◌∙◌, subst, arith, ◌⊎◌, inl, inr, if◌then◌else◌}
+use Rattle.std.proofs.Common.{◌≡◌, ℕ, zero, suc, ◌+◌, ◌<◌, ◌≤◌, ◌↔◌, ◌||◌, Bool, true, false, List, [], ◌∷◌, ◌++◌, length, map, take, drop, get_or, slice_get, Some, refl, sym, ap, ◌∙◌, subst, arith, ◌⊎◌, inl, inr, if◌then◌else◌}
 use Rattle.std.specs.List.{list_any}
 use Rattle.uc_fact.specs.declared.chain.Step.{Step}
 use Rattle.uc_problem.specs.declared.problem.Source.{Source}
@@ -64,7 +64,7 @@ one_more old add split = (
 )
 
 pub none_left : {A N R : Type 0} → ((A ⊎ N) ↔ R) → (N → ⊥) → (A ↔ R)
-none_left old no = (λ a. old.0 (inl a), λ r. elim (old.1 r) [ inl a ↦ a | inr n ↦ absurd (no n) ])
+none_left old nothing = (λ a. old.0 (inl a), λ r. elim (old.1 r) [ inl a ↦ a | inr n ↦ absurd (nothing n) ])
 
 pub itself : {A N : Type 0} → ((A ⊎ N) ↔ (A ⊎ N))
 itself = (λ h. h, λ h. h)
@@ -128,3 +128,19 @@ pub denial_among : (cs : List ℕ) (i c : ℕ) → slice_get cs i ≡ Some c →
 denial_among [] i c e = absurd cc
 denial_among (x ∷ cs) zero c e = inl (let q : x ≡ c = cc in ap part.Denial q)
 denial_among (x ∷ cs) (suc i) c e = inr (denial_among cs i c e)
+
+pub turn : {A B Q : Type 0} → (A ↔ (Q ⊎ B)) → (A ↔ (B ⊎ Q))
+turn h = (λ a. elim (h.0 a) [ inl q ↦ inr q | inr b ↦ inl b ], λ s. elim s [ inl b ↦ h.1 (inr b) | inr q ↦ h.1 (inl q) ])
+
+-- where something holds, it may be said beside
+pub beside : {A B Q M : Type 0} → M → (A ↔ (B ⊎ Q)) → (A ↔ (B ⊎ (M × Q)))
+beside m h = (λ a. elim (h.0 a) [ inl b ↦ inl b | inr q ↦ inr (m, q) ], λ s. elim s [ inl b ↦ h.1 (inl b) | inr q ↦ h.1 (inr q.1) ])
+
+pub only_right : {A B Q : Type 0} → (A ↔ (B ⊎ Q)) → (B → ⊥) → (A ↔ Q)
+only_right h none_of = (λ a. elim (h.0 a) [ inl b ↦ absurd (none_of b) | inr q ↦ q ], λ q. h.1 (inr q))
+
+pub nothing_behind : {A : Type 0} (xs : List A) (i : ℕ) → length xs ≤ i → drop i xs ≡ []
+nothing_behind [] zero h = refl
+nothing_behind [] (suc i) h = refl
+nothing_behind (x ∷ l) zero h = absurd (omega arith)
+nothing_behind (x ∷ l) (suc i) h = nothing_behind l i (omega arith)

@@ -4,6 +4,7 @@ pub mod Levels
 pub mod Sources
 pub mod Right
 pub mod InOrder
+pub mod Same
 pub mod Among
 pub mod Adding
 pub mod Ready
@@ -13,3 +14,4 @@ pub mod Naming
 pub mod Printing
 pub mod PathOnce
 pub mod Once
+pub mod Writing

@@ -20,12 +20,12 @@ module _ (eq : Part → Part → Bool) (decides : (a b : Part) → (eq a b ≡ t
       go false q later = number_later (λ s. let t : true ≡ false = sym ((decides p e.0).1 (sym s)) ∙ q in cc) later
 
   put_other : (p r : Part) (n : ℕ) (es : List (Part × ℕ)) → (p ≡ r → ⊥) → HasNumber parts r es → HasNumber parts r (insert_entry eq es p n)
-  put_other p r n _ no (number_here {q} {n = m} {rest} s at) = go (eq p q) refl
+  put_other p r n _ differ (number_here {q} {n = m} {rest} s at) = go (eq p q) refl
     where
       go : (b : Bool) → eq p q ≡ b → HasNumber parts r (if b then (q, n) ∷ rest else (q, m) ∷ insert_entry eq rest p n)
-      go true t = absurd (no ((decides p q).0 t ∙ s))
+      go true t = absurd (differ ((decides p q).0 t ∙ s))
       go false t = number_here s at
-  put_other p r n _ no (number_later {q} {n = m} {rest} s h) = go (eq p q) refl (put_other p r n rest no h)
+  put_other p r n _ differ (number_later {q} {n = m} {rest} s h) = go (eq p q) refl (put_other p r n rest differ h)
     where
       go : (b : Bool) → eq p q ≡ b → HasNumber parts r (insert_entry eq rest p n) → HasNumber parts r (if b then (q, n) ∷ rest else (q, m) ∷ insert_entry eq rest p n)
       go true t later = number_later s h
@@ -40,8 +40,8 @@ module _ (eq : Part → Part → Bool) (decides : (a b : Part) → (eq a b ≡ t
       go : (b : Bool) → eq x p ≡ b → HasNumber parts p (insert_entry eq es x i)
       go true q = let same : x ≡ p = (decides x p).0 q in subst (λ (r : Part). HasNumber parts r (insert_entry eq es x i)) same (put_own x i es at)
       go false q =
-          let no : (x ≡ p → ⊥) = λ s. let t : true ≡ false = sym ((decides x p).1 s) ∙ q in cc in
-          put_other x p i es no (elim split [ inl k ↦ a p k | inr k ↦ elim k [ inl s ↦ absurd (no s) | inr n ↦ absurd n ] ])
+          let differ : (x ≡ p → ⊥) = λ s. let t : true ≡ false = sym ((decides x p).1 s) ∙ q in cc in
+          put_other x p i es differ (elim split [ inl k ↦ a p k | inr k ↦ elim k [ inl s ↦ absurd (differ s) | inr n ↦ absurd n ] ])
 
   -- the number that is found
   pub found : (p : Part) (test : Part → Bool) → ((k : Part) → test k ≡ eq p k) → (es : List (Part × ℕ)) → HasNumber parts p es → (n : ℕ) × (lookup test es ≡ Some n) × (slice_get parts n ≡ Some p)
@@ -54,8 +54,8 @@ module _ (eq : Part → Part → Bool) (decides : (a b : Part) → (eq a b ≡ t
       (r.0, ap (λ b. cond b (Some n) (lookup test rest)) t ∙ r.1, r.2)
     where
       other : (p q : Part) → (q ≡ p → ⊥) → eq p q ≡ false
-      other p q no = go (eq p q) refl
+      other p q differ = go (eq p q) refl
         where
           go : (b : Bool) → eq p q ≡ b → b ≡ false
-          go true e = absurd (no (sym ((decides p q).0 e)))
+          go true e = absurd (differ (sym ((decides p q).0 e)))
           go false e = refl

@@ -1,6 +1,7 @@
 //! The chain between the two sides of a goal.
 
-ghost use Rattle.std.specs.Prelude.{◌≡◌, ◌++◌, IfOk, OnOk};
+ghost use Rattle.std.specs.Prelude.{◌≡◌, ◌≤◌, ◌++◌, length, take, IfOk, OnOk};
+ghost use Rattle.uc_fact.specs.Chains.{last_term};
 ghost use Rattle.uc_proof.specs.Chains.{conclusion_of, step_back, steps_back};
 
 use std::alloc::{AllocError, Global};
@@ -43,7 +44,10 @@ fn push_back(
 }
 
 // The term before a step.
-fn term_before<'a>(start: &'a Term, steps: &'a [Step], number: usize) -> &'a Term {
+fn term_before<'a>(start: &'a Term, steps: &'a [Step], number: usize) -> &'a Term
+    requires { number ≤ length steps.now }
+    ensures { result.now ≡ last_term start.now (take number steps.now) }
+{
     if number == 0 {
         start
     } else {

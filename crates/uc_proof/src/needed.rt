@@ -133,10 +133,9 @@ fn add_source(needed: &mut Needed, number: u32, source: Source) -> Result<(), Al
         Source::Reflexive => Ok(()),
         Source::Goal(clause) => {
             if needed.has(Part::Axiom(number)) {
-                needed.add(Part::Denial(clause))
-            } else {
-                Ok(())
+                needed.add(Part::Denial(clause))?;
             }
+            Ok(())
         }
     }
 }
@@ -146,7 +145,10 @@ fn add_goal(needed: &mut Needed, clause: Option<u32>) -> Result<(), AllocError>
     ensures { OnOk result ((p : Part) → IsAmong p needed.new ↔ (IsAmong p needed.old ⊎ IsClauseOf clause p)) }
 {
     match clause {
-        Some(clause) => needed.add(Part::Denial(clause)),
+        Some(clause) => {
+            needed.add(Part::Denial(clause))?;
+            Ok(())
+        }
         None => Ok(()),
     }
 }

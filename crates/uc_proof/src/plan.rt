@@ -119,10 +119,9 @@ fn push_axiom(
     ensures { OnOk result (Adds (λ p. IsAmong p needed.now) (axioms_where (if clauses then is_clause else is_encoding) number (source ∷ [])) plan.old.items plan.new.items) }
 {
     if is_clause(source) == clauses {
-        push_needed(plan, needed, Part::Axiom(number))
-    } else {
-        Ok(())
+        push_needed(plan, needed, Part::Axiom(number))?;
     }
+    Ok(())
 }
 
 fn is_clause(source: Source) -> bool
