@@ -15,3 +15,4 @@ pub mod Printing
 pub mod PathOnce
 pub mod Once
 pub mod Writing
+pub mod Making

@@ -26,7 +26,7 @@ use Rattle.uc_proof.specs.Extracted.{IsEncodingOf}
 use Rattle.uc_proof.proofs.Among.{among_left, among_right, selected_among, among_selected, axiom_among, fact_among, denial_among}
 use Rattle.uc_proof.proofs.Sources.{IsFrom, from_clause, from_reflexive, from_goal, IsAsked, asked_by_clause, asked_by_encoding, axiom_from, goal_asked}
 use Rattle.uc_proof.proofs.Reversal.{conclusion_leads}
-use Rattle.uc_proof.proofs.Right.{fact_before, fact_count, goal_is_open}
+use Rattle.uc_proof.proofs.Right.{fact_before, fact_count, goal_is_open, inside}
 
 -- what the steps of a chain name is there
 pub named_by_steps : (axioms : List Equation) (facts : List Fact) (u : Tree) (steps : List Step) (by : By) → AreReplacements axioms facts u steps → IsNamedBy steps by → (e : Equation) × (named axioms facts by ≡ Some e)
@@ -203,3 +203,8 @@ module _ (problem : Problem) (enc : Encoded) (facts : List Fact) (left right : C
 
   pub plan_ready : (p : Part) → IsAmong p plan → IsPartReady problem enc facts conclusion goal plan p
   plan_ready p h = needed_ready p (selected_among (IsNeeded enc facts conclusion goal) (all_parts problem enc (length facts)) plan p selected h).1
+
+-- a goal that is asked has a place among the goals' clauses
+pub goal_within : (problem : Problem) (enc : Encoded) (goal : ℕ) (e : Equation) → IsAsked problem enc goal e → goal < length enc.goal_clauses
+goal_within problem enc goal e (asked_by_clause c s at there p o q) = inside enc.goal_clauses goal (Some c) at
+goal_within problem enc goal e (asked_by_encoding marks at f q) = inside enc.goal_clauses goal None at
