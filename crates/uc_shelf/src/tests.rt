@@ -82,11 +82,12 @@ fn finds<I: Index>(
 ) -> Result<bool, Fail> {
     let term = over(alloc, symbol, 7)?;
     let list = index.generalisations(alloc, term.as_nodes())?;
-    if list.len() != rows.len() {
+    let found = list.as_slice();
+    if found.len() != rows.len() {
         return Ok(false);
     }
-    for (found, row) in list.as_slice().iter().zip(rows) {
-        if found.fact != row.0 || found.side != row.1 {
+    for k in 0..rows.len() {
+        if found[k].fact != rows[k].0 || found[k].side != rows[k].1 {
             return Ok(false);
         }
     }
@@ -122,6 +123,14 @@ fn first_left<I: Index>(alloc: Global, index: &I, symbol: Sym) -> Result<Option<
     }
 }
 
+// Whether the facts 0 and 2 live, and no other.
+fn are_live<I: Index>(index: &I) -> bool {
+    index.pair(0).is_some()
+        && index.pair(1).is_none()
+        && index.pair(2).is_some()
+        && index.pair(3).is_none()
+}
+
 // Facts that live are found, by number and left before right; a dead one isn't.
 #[test]
 fn a_view_has_what_lives(rt: HostRuntime) -> Result<(), Fail> {
@@ -129,24 +138,24 @@ fn a_view_has_what_lives(rt: HostRuntime) -> Result<(), Fail> {
     let shelf = Shelf::new(alloc)?;
     let front = filled(&rt, alloc, &shelf)?;
     let view = shelf.view(&front);
+    assert!(rt; are_live(&view));
     let of_g = [(0, Side::Right), (2, Side::Left)];
     assert!(rt; finds(alloc, &view, G, &of_g)?);
     let of_f = [(0, Side::Left), (0, Side::Right), (2, Side::Right)];
     assert!(rt; finds(alloc, &view, F, &of_f)?);
-    assert_eq!(rt; first_left(alloc, &view, G)?, Some(2));
-    assert!(rt; view.pair(0).is_some() && view.pair(1).is_none());
-    assert!(rt; view.pair(2).is_some() && view.pair(3).is_none());
+    assert!(rt; first_left(alloc, &view, G)? == Some(2));
     Ok(())
 }
 
-// A copy has the same entries until one of the two gets one more; the other one stays.
+// A copy and a front that was made apart have the same entries until one gets one more; the others stay.
 #[test]
 fn fronts_stand_apart(rt: HostRuntime) -> Result<(), Fail> {
     let alloc = rt.alloc();
     let shelf = Shelf::new(alloc)?;
     let mut front = filled(&rt, alloc, &shelf)?;
     let other = front.copy(alloc)?;
-    assert!(rt; shelf.same(&front, &other));
+    let apart = filled(&rt, alloc, &shelf)?;
+    assert!(rt; shelf.same(&front, &other) && shelf.same(&front, &apart));
     put(
         &rt,
         alloc,
@@ -155,47 +164,17 @@ fn fronts_stand_apart(rt: HostRuntime) -> Result<(), Fail> {
         Entry::Dies { fact: 0, killer: 2 },
     )?;
     assert!(rt; front.len() == 5 && other.len() == 4);
-    assert!(rt; !shelf.same(&front, &other));
+    assert!(rt; !shelf.same(&front, &other) && !shelf.same(&front, &apart));
     assert!(rt; shelf.view(&front).pair(0).is_none());
-    assert!(rt; shelf.view(&other).pair(0).is_some());
+    assert!(rt; are_live(&shelf.view(&other)));
     Ok(())
 }
 
-// Fronts that were made apart are the same where their entries are equal, and only there.
-#[test]
-fn equal_entries_at_other_places(rt: HostRuntime) -> Result<(), Fail> {
-    let alloc = rt.alloc();
-    let shelf = Shelf::new(alloc)?;
-    let mut one = filled(&rt, alloc, &shelf)?;
-    let mut two = filled(&rt, alloc, &shelf)?;
-    assert!(rt; shelf.same(&one, &two));
-    put(
-        &rt,
-        alloc,
-        &shelf,
-        &mut one,
-        Entry::Dies { fact: 0, killer: 2 },
-    )?;
-    put(
-        &rt,
-        alloc,
-        &shelf,
-        &mut two,
-        Entry::Dies { fact: 0, killer: 1 },
-    )?;
-    assert!(rt; !shelf.same(&one, &two));
-    Ok(())
-}
-
-// The entry of a number, where the front has one.
-fn entry_at<'a>(shelf: &'a Shelf, front: &Front, k: u32) -> Option<&'a Entry>
+// Whether the front has this entry at a number.
+fn reads(shelf: &Shelf, front: &Front, k: u32, wanted: &Entry) -> bool
     requires { IsOf shelf.now front.now }
 {
-    if k < front.len() {
-        Some(shelf.read(front, k))
-    } else {
-        None
-    }
+    k < front.len() && shelf.read(front, k).same(wanted)
 }
 
 // What is read is what was put there.
@@ -204,11 +183,10 @@ fn entries_are_read(rt: HostRuntime) -> Result<(), Fail> {
     let alloc = rt.alloc();
     let shelf = Shelf::new(alloc)?;
     let front = filled(&rt, alloc, &shelf)?;
-    for k in 0..4 {
-        let put = entry(alloc, k)?.copy(alloc)?;
-        assert!(rt; entry_at(&shelf, &front, k).is_some_and(|read| read.same(&put)));
-    }
-    assert!(rt; entry_at(&shelf, &front, 4).is_none());
+    let last = entry(alloc, 3)?.copy(alloc)?;
+    assert!(rt; reads(&shelf, &front, 3, &last));
+    assert!(rt; !reads(&shelf, &front, 2, &last) && !reads(&shelf, &front, 4, &last));
+    assert!(rt; reads(&shelf, &front, 2, &Entry::Dies { fact: 1, killer: 2 }));
     Ok(())
 }
 
