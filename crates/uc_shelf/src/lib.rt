@@ -19,3 +19,6 @@ mod view;
 pub use entry::Entry;
 pub use shelf::{Front, Shelf};
 pub use view::View;
+
+#[cfg(test)]
+mod tests;
