@@ -1,5 +1,5 @@
 -- Facts whose chains replay over axioms and earlier facts follow from the axioms.
-use Rattle.std.proofs.Common.{◌≡◌, ℕ, zero, suc, ◌+◌, ◌<◌, List, [], ◌∷◌, map, take, slice_get, Some, refl, ap, subst, arith}
+use Rattle.std.proofs.Common.{◌≡◌, ℕ, zero, suc, ◌+◌, ◌<◌, List, [], ◌∷◌, map, take, slice_get, Some, refl, subst, arith}
 use Rattle.uc_term.specs.declared.equation.Equation.{Equation}
 use Rattle.uc_term.specs.Tree.{Tree, var, apply}
 use Rattle.uc_term.specs.Conversion.{Conv}
@@ -8,7 +8,7 @@ use Rattle.uc_term.proofs.Conversion.{equation_turn, Conv-turn, Conv-follows}
 use Rattle.uc_fact.specs.declared.fact.Fact.{Fact}
 use Rattle.uc_fact.specs.Live.{equation_of}
 use Rattle.uc_fact.specs.Chains.{last_term}
-use Rattle.uc_rewrite.specs.Replay.{equations, Replays, ends}
+use Rattle.uc_rewrite.specs.Replay.{equations, FactsReplay}
 use Rattle.uc_rewrite.proofs.Converting.{replacements_convert}
 use Rattle.uc_decide.specs.Converging.{FollowFrom}
 
@@ -35,7 +35,7 @@ early_in (x ∷ xs) zero i f at = absurd cc
 early_in (x ∷ xs) (suc n) zero f at = record { early = omega arith; there = at }
 early_in (x ∷ xs) (suc n) (suc i) f at = let e = early_in xs n i f at in record { early = omega (arith, e.early); there = e.there }
 
-module _ (axioms : List Equation) (facts : List Fact) (replays : (n : ℕ) (fact : Fact) → slice_get facts n ≡ Some fact → Replays axioms (take n facts) fact.chain × (ends fact.chain ≡ (fact.left, fact.right))) where
+module _ (axioms : List Equation) (facts : List Fact) (replays : FactsReplay axioms facts) where
   abbrev Follows : Equation → Type 0
   Follows e = Conv axioms e.left e.right
 
@@ -45,13 +45,11 @@ module _ (axioms : List Equation) (facts : List Fact) (replays : (n : ℕ) (fact
   fact_follows : (n : ℕ) (f : Fact) → slice_get facts n ≡ Some f → ((k : ℕ) (g : Fact) → k < n → slice_get facts k ≡ Some g → Follows (equation_of g)) → Follows (equation_of f)
   fact_follows n f at known =
       let r = replays n f at in
-      let start_is : f.chain.start ≡ f.left = ap (λ p. p.0) r.1 in
-      let end_is : last_term f.chain.start f.chain.steps ≡ f.right = ap (λ p. p.1) r.1 in
       let first = take n facts in
-      let by_all : Conv (equations axioms first) f.chain.start (last_term f.chain.start f.chain.steps) = replacements_convert axioms first f.chain.start f.chain.steps r.0 in
+      let by_all : Conv (equations axioms first) f.chain.start (last_term f.chain.start f.chain.steps) = replacements_convert axioms first f.chain.start f.chain.steps r.replays in
       let all : FollowFrom axioms (equations axioms first) = each_of Follows axioms first axiom_follows (λ k g there. let e = early_in facts n k g there in known k g e.early e.there) in
       let whole : Conv axioms f.chain.start (last_term f.chain.start f.chain.steps) = Conv-follows (equations axioms first) axioms all by_all in
-      subst (λ (z : Tree). Conv axioms f.left z) end_is (subst (λ (z : Tree). Conv axioms z (last_term f.chain.start f.chain.steps)) start_is whole)
+      subst (λ (z : Tree). Conv axioms f.left z) r.end_is (subst (λ (z : Tree). Conv axioms z (last_term f.chain.start f.chain.steps)) r.start_is whole)
 
   -- all before a number
   before : (bound n : ℕ) (f : Fact) → n < bound → slice_get facts n ≡ Some f → Follows (equation_of f)

@@ -1,6 +1,6 @@
 //! Laws over the definitions, each the contract of a function that does nothing.
 
-ghost use Rattle.std.specs.Prelude.{◌≡◌, ℕ, List, Some, slice_get, take, map};
+ghost use Rattle.std.specs.Prelude.{◌≡◌, ℕ, List, map};
 ghost use Rattle.uc_term.specs.Tree.{Tree};
 ghost use Rattle.uc_term.specs.Conversion.{SomeFollows};
 ghost use Rattle.uc_term.specs.declared.equation.Equation.{Equation};
@@ -13,7 +13,7 @@ ghost use Rattle.uc_fact.specs.Ordered.{OStep};
 ghost use Rattle.uc_fact.specs.Chains.{Links};
 ghost use Rattle.uc_fact.specs.declared.chain.Step.{Step};
 ghost use Rattle.uc_order.specs.Laws.{HasSym, IsGroundOf};
-ghost use Rattle.uc_rewrite.specs.Replay.{Replays, ends};
+ghost use Rattle.uc_rewrite.specs.Replay.{FactsReplay};
 ghost use Rattle.uc_pair.specs.declared.formation.Formation.TheVariants.{Pair};
 ghost use Rattle.uc_pair.specs.Pairs.{IsPairOf};
 ghost use Rattle.uc_decide.specs.declared.reply.Reply.{Reply};
@@ -50,7 +50,7 @@ pub fn ends_join<O: Order>(order: &O)
 /// Facts follow from the axioms where the chain of each replays, over the axioms and earlier facts, from its left to its right
 /// side.
 pub fn facts_follow()
-    ensures { (axioms : List Equation) (facts : List Fact) → ((n : ℕ) (fact : Fact) → slice_get facts n ≡ Some fact → Replays axioms (take n facts) fact.chain × (ends fact.chain ≡ (fact.left, fact.right))) → FollowFrom axioms (map equation_of facts) }
+    ensures { (axioms : List Equation) (facts : List Fact) → FactsReplay axioms facts → FollowFrom axioms (map equation_of facts) }
 {}
 
 /// No goal follows from the axioms whose two sides these make equal to different terms from which no ordered step leads on,

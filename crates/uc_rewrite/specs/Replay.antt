@@ -1,6 +1,6 @@
 -- When a chain replays: each of its steps replaces equals by equals, by the equation that it names (Birkhoff's replacement of
 -- equals).
-use Rattle.std.specs.Prelude.{◌≡◌, Bool, List, [], ◌∷◌, ◌++◌, map, slice_get, Option, Some, if◌then◌else◌}
+use Rattle.std.specs.Prelude.{ℕ, ◌≡◌, Bool, List, [], ◌∷◌, ◌++◌, map, slice_get, take, Option, Some, if◌then◌else◌}
 use Rattle.uc_term.specs.declared.equation.Equation.{Equation}
 use Rattle.uc_term.specs.declared.equation.Side.{Side}
 use Rattle.uc_term.specs.declared.equation.Side.TheVariants.{Left, Right}
@@ -12,7 +12,7 @@ use Rattle.uc_fact.specs.declared.chain.Step.{Step}
 use Rattle.uc_fact.specs.declared.chain.Chain.{Chain}
 use Rattle.uc_fact.specs.declared.fact.Fact.{Fact}
 use Rattle.uc_fact.specs.Live.{equation_of}
-use Rattle.uc_fact.specs.Chains.{last_term, ReplacesAt}
+use Rattle.uc_fact.specs.Chains.{last_term, end_of, ReplacesAt}
 
 -- the equations that steps may name: the axioms, and the facts' equations behind them
 abbrev pub equations : List Equation → List Fact → List Equation
@@ -46,3 +46,13 @@ module _ (axioms : List Equation) (facts : List Fact) where
 -- the terms from which and to which a chain leads
 abbrev pub ends : Chain → Tree × Tree
 ends chain = (chain.start, last_term chain.start chain.steps)
+
+-- the chain replays from one term to another over the axioms and these facts
+pub record LeadsFrom (axioms : List Equation) (facts : List Fact) (chain : Chain) (u v : Tree) : Type 0 where
+  pub start_is : chain.start ≡ u
+  pub end_is : end_of chain ≡ v
+  pub replays : Replays axioms facts chain
+
+-- each fact's chain replays from its left to its right side over the axioms and the earlier facts
+abbrev pub FactsReplay : List Equation → List Fact → Type 0
+FactsReplay axioms facts = (n : ℕ) (fact : Fact) → slice_get facts n ≡ Some fact → LeadsFrom axioms (take n facts) fact.chain fact.left fact.right
