@@ -26,6 +26,12 @@ pub mod Drawable
 pub mod FactRows
 pub mod GoalRows
 pub mod PutBack
+pub mod PairRows
+pub mod Deaths
+pub mod BuriedRows
+pub mod RisingNumbers
+pub mod NewPairs
+pub mod Visits
 pub mod Rules
 pub mod Ends
 pub mod Jobs

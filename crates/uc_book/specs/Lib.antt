@@ -22,3 +22,4 @@ pub mod Parts
 pub mod Drawing
 pub mod Ending
 pub mod Committing
+pub mod Deaths

@@ -1,14 +1,16 @@
 //! The facts: the front of the entries, and for each fact what the front says of it and whether its meeting is to come.
 
-ghost use Rattle.std.specs.Prelude.{◌≡◌, ℕ, ◌+◌, ◌<◌, ◌≤◌, ◌^◌, ◌++◌, ◌∷◌, [], length, cond, true, false, Some, slice_get, slice_index_or, OnOk};
+ghost use Rattle.std.specs.Prelude.{◌≡◌, ℕ, ◌+◌, ◌<◌, ◌≤◌, ◌^◌, ◌++◌, ◌∷◌, [], length, cond, true, false, Some, slice_get, slice_index_or, vec_capacity, OnOk};
 ghost use Rattle.uc_shelf.specs.Entries.{born, is_dead};
 ghost use Rattle.uc_book.specs.declared.facts.FactRow.{FactRow as AnyRow};
 ghost use Rattle.uc_book.specs.declared.state.Meeting.{Meeting as AnyMeeting};
 ghost use Rattle.uc_book.specs.declared.state.Meeting.TheVariants.{Unmet, Met};
 ghost use Rattle.uc_book.specs.Lists.{At, first, change, map_option};
 ghost use Rattle.uc_book.specs.State.{is_unmet};
-ghost use Rattle.uc_book.specs.Effects.{sides_weight};
+ghost use Rattle.uc_book.specs.Effects.{sides_weight, meets_unmet};
+ghost use Rattle.uc_book.specs.Committing.{AreBelow};
 ghost use Rattle.uc_book.specs.FactRows.{HasOneMore};
+ghost use Rattle.uc_book.specs.Deaths.{HasDeaths, met_by, dead_row};
 
 use crate::goals::back_to;
 use crate::state::Meeting;
@@ -68,6 +70,33 @@ fn unmet_from(rows: &[FactRow], from: usize) -> usize
         }
     }
     rows.len()
+}
+
+/// What the meeting of a fact becomes when the fact dies.
+#[inline]
+fn without_visit(meeting: Meeting) -> Meeting
+    ensures { result ≡ meets_unmet meeting }
+{
+    match meeting {
+        Meeting::Unmet | Meeting::Met => Meeting::Met,
+        Meeting::Visiting => Meeting::Visiting,
+    }
+}
+
+/// The fact of a number is dead; if it was Unmet it is Met.
+fn bury_row(rows: &mut Vec<FactRow>, fact: u32)
+    ensures items { rows.new.items ≡ change dead_row rows.old.items fact }
+    ensures capacity { vec_capacity rows.new ≡ vec_capacity rows.old }
+{
+    let number = fact as usize;
+    if number < rows.len() {
+        let row = rows[number];
+        rows[number] = FactRow {
+            meeting: without_visit(row.meeting),
+            is_dead: true,
+            weight: row.weight,
+        };
+    }
 }
 
 impl Facts {
@@ -181,5 +210,19 @@ impl Facts {
             is_dead: false,
             weight,
         });
+    }
+
+    /// Takes over a front with the deaths of these facts behind it. Those of them that were Unmet are Met.
+    pub(crate) fn bury(&mut self, front: Front, falls: &[u32])
+        requires grew { HasDeaths self.old.front.entries front.entries falls.now }
+        requires born { AreBelow (length (born self.old.front.entries)) falls.now }
+        ensures front { self.new.front ≡ front }
+        ensures meetings { self.new.meetings ≡ met_by falls.now self.old.meetings }
+        ensures room { self.new.room ≡ self.old.room }
+    {
+        for k in 0..falls.len() {
+            bury_row(&mut self.rows, falls[k]);
+        }
+        self.front = front;
     }
 }
