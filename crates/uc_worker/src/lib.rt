@@ -1,0 +1,21 @@
+//! What the tasks of the book come to: goals are normalised, pairs are joined, and facts meet those before them (Bachmair,
+//! Dershowitz and Plaisted, Completion without failure).
+//!
+//! `specs/` says which tasks can be computed.
+#![tactic(auto)]
+
+mod chains;
+mod fact;
+mod finding;
+mod goal;
+mod join;
+mod live;
+mod meet;
+mod numbering;
+mod pair;
+mod reducing;
+
+pub use finding::finding_of;
+
+#[cfg(test)]
+mod tests;
