@@ -20,7 +20,7 @@ use Rattle.uc_book.specs.declared.answer.Drawn.TheVariants.{Task as DrawnTask, I
 use Rattle.uc_book.specs.Answers.{reply_of, IfTask, IsTaskOf, IsReclaimed, IsCommitted, IsRight}
 use Rattle.uc_machine.specs.Origins.{OriginsAreKnown, CanCompute}
 use Rattle.uc_book.proofs.GoalCount.{as_many_goals}
-use Rattle.uc_runs.proofs.Runs.{kept_reaches}
+use Rattle.uc_machine.proofs.Runs.{kept_reaches}
 use Rattle.uc_book.proofs.Drawable.{can_drawn}
 use Rattle.uc_book.specs.Parts.{state_of, Fit, HasRoom, IsBook}
 

@@ -15,8 +15,8 @@ use Rattle.uc_machine.specs.Effects.{meets_unmet, sides_weight}
 use Rattle.uc_book.specs.Committing.{AreBelow}
 use Rattle.uc_book.specs.FactRows.{meetings_of, dead_in, weight_in, AreRows, NoneUnmetBelow}
 use Rattle.uc_book.specs.Deaths.{deaths_by, met_by, dead_row, rows_by}
-use Rattle.uc_runs.proofs.Lists.{get-change_same, get-change_other, length-change}
-use Rattle.uc_runs.proofs.Blocks.{born-dies}
+use Rattle.uc_machine.proofs.Lists.{get-change_same, get-change_other, length-change}
+use Rattle.uc_machine.proofs.Blocks.{born-dies}
 use Rattle.uc_book.proofs.Deaths.{dead-dies}
 
 meetings_change : (rows : List FactRow) (j : ℕ) → meetings_of (change dead_row rows j) ≡ change meets_unmet (meetings_of rows) j

@@ -15,8 +15,8 @@ use Rattle.uc_machine.specs.Lists.{change, each}
 use Rattle.uc_machine.specs.State.{State, Pair, Target}
 use Rattle.uc_machine.specs.Effects.{wakes, wakes_stage, kills, dies, meets_unmet, sides_weight}
 use Rattle.uc_book.specs.Deaths.{alive_of, deaths_by, revived, met_by, woken_by, with_facts, all_dead}
-use Rattle.uc_runs.proofs.Kept.{NotIn, Distinct}
-use Rattle.uc_runs.proofs.Blocks.{born-dies}
+use Rattle.uc_machine.proofs.Kept.{NotIn, Distinct}
+use Rattle.uc_machine.proofs.Blocks.{born-dies}
 
 wakes_twice : (c : Stage) → wakes_stage (wakes_stage c) ≡ wakes_stage c
 wakes_twice Due = refl

@@ -15,9 +15,9 @@ use Rattle.uc_machine.specs.State.{Opening, State, Pair, Out, peek, is_unmet, is
 use Rattle.uc_machine.specs.Effects.{drops}
 use Rattle.uc_machine.specs.Draws.{Reply, Drew, Idle, Drained, Closed, Draws, verdict_stands, goal_is_due, fact_is_unmet, orphan_is_dropped, goal_is_continued, pair_is_drawn, budget_is_out, budget_is_spent, all_is_out, all_is_done}
 use Rattle.uc_machine.specs.Origins.{IsKnownOrigin, OriginsAreKnown, CanCompute}
-use Rattle.uc_runs.proofs.Lists.{below}
-use Rattle.uc_runs.proofs.Calls.{waits_is}
-use Rattle.uc_runs.proofs.Found.{IsPlace, peek_is, first_is}
+use Rattle.uc_machine.proofs.Lists.{below}
+use Rattle.uc_machine.proofs.Calls.{waits_is}
+use Rattle.uc_machine.proofs.Found.{IsPlace, peek_is, first_is}
 
 module _ (m : Meaning) (o : Opening) where
   abbrev Known : List Entry → Pair → Type 0

@@ -10,7 +10,7 @@ use Rattle.uc_machine.specs.declared.event.Happening.TheVariants.{Dropped}
 use Rattle.uc_machine.specs.State.{Opening, State, Pair, is_waiting, queue_from, queue, peek, is_orphan}
 use Rattle.uc_machine.specs.Effects.{drops, next_ticket}
 use Rattle.uc_machine.specs.Draws.{Reply, Draws, NoneUnmet, orphan_is_dropped}
-use Rattle.uc_runs.proofs.Found.{IsPlace, peek_is}
+use Rattle.uc_machine.proofs.Found.{IsPlace, peek_is}
 use Rattle.uc_book.proofs.Histories.{draws-none}
 
 -- a pair that waited and doesn't wait any more leaves the queue by one

@@ -20,7 +20,7 @@ use Rattle.uc_machine.specs.Effects.{hands_out, next_ticket, draw_event, one_dra
 use Rattle.uc_book.specs.Parts.{state_of, closings, Fit, HasRoom, RoomFor}
 use Rattle.uc_book.specs.Ending.{HasEnded}
 use Rattle.uc_book.proofs.PutBack.{joins_left}
-use Rattle.uc_runs.proofs.Lists.{Each-map, Each-push, length-change}
+use Rattle.uc_machine.proofs.Lists.{Each-map, Each-push, length-change}
 use Rattle.uc_book.proofs.Histories.{draws-one}
 use Rattle.uc_book.proofs.Items.{Each-remove, length-remove}
 

@@ -22,7 +22,7 @@ use Rattle.uc_machine.specs.Effects.{hands_out, drops, reclaims, recalls, kills,
 use Rattle.uc_machine.specs.Draws.{Reply, Draws, verdict_stands, goal_is_due, fact_is_unmet, orphan_is_dropped, goal_is_continued, pair_is_drawn, budget_is_out, budget_is_spent, all_is_out, all_is_done, with_ends}
 use Rattle.uc_machine.specs.Commits.{Commits, GoalEnds, ends_meet, ends_differ, Meets, within_limit, past_limit, is_late, goal_ends, more_ends, pair_joins, fact_is_kept, fact_is_stale, fact_is_dead, fact_meets}
 use Rattle.uc_machine.specs.Runs.{Reaches, starts, draws_on, commits_on, reclaims_on, recalls_on, audits_on, closes_on, Starts, axioms_wait, too_many_axioms, Audits, AuditReply, is_closed, is_spent, is_kept, Closes, converges, has_large, has_stuck, goal_of}
-use Rattle.uc_runs.proofs.Lists.{length-change}
+use Rattle.uc_machine.proofs.Lists.{length-change}
 
 handed : (w : ℕ) (j : Job) (s : State) → length ((hands_out w j s).goals) ≡ length s.goals
 handed w (Goal g l r) s = length-change _ s.goals g

@@ -73,10 +73,10 @@ pub continued-woken : (rows : List GoalRow) (k from : ℕ) (row : GoalRow) (s : 
 continued-woken rows k from row s l e h q t = elim (cases_order from k) [
   | inl a ↦ omega arith
   | inr o ↦ elim o [
-      | inl a ↦ omega arith
-      | inr a ↦
-          let old : is_continued row.stage ≡ false = ap (λ (r : GoalRow). is_continued r.stage) (e row) ∙ h k row a l in
-          let now : is_continued row.stage ≡ true = sym (still_continued row.stage) ∙ ap is_continued (sym q) ∙ t in
-          absurd (false≢true (sym old ∙ now))
-    ]
+    | inl a ↦ omega arith
+    | inr a ↦
+        let old : is_continued row.stage ≡ false = ap (λ (r : GoalRow). is_continued r.stage) (e row) ∙ h k row a l in
+        let now : is_continued row.stage ≡ true = sym (still_continued row.stage) ∙ ap is_continued (sym q) ∙ t in
+        absurd (false≢true (sym old ∙ now))
+  ]
 ]

@@ -8,7 +8,7 @@ use Rattle.uc_machine.specs.declared.task.Job.{Job}
 use Rattle.uc_machine.specs.declared.task.Job.TheVariants.{Goal, More, Meet, Join}
 use Rattle.uc_machine.specs.State.{is_draw, is_draw_what, draws_in}
 use Rattle.uc_machine.specs.Effects.{draw_event, reclaim_event}
-use Rattle.uc_runs.proofs.Accounts.{draws_in-push, is_draw_event}
+use Rattle.uc_machine.proofs.Accounts.{draws_in-push, is_draw_event}
 
 -- no event but a draw counts
 pub draws-none : (h : List Event) (e : Event) → is_draw_what e.what ≡ false → draws_in (h ++ e ∷ []) ≡ draws_in h

@@ -7,9 +7,9 @@ use Rattle.uc_fact.specs.Chains.{end_of}
 use Rattle.uc_machine.specs.State.{Target}
 use Rattle.uc_machine.specs.Draws.{with_ends}
 use Rattle.uc_book.specs.Drawing.{AreJobs}
-use Rattle.uc_runs.proofs.Lists.{below}
-use Rattle.uc_runs.proofs.Steps.{has_item}
-use Rattle.uc_runs.proofs.Found.{first_is}
+use Rattle.uc_machine.proofs.Lists.{below}
+use Rattle.uc_machine.proofs.Steps.{has_item}
+use Rattle.uc_machine.proofs.Found.{first_is}
 
 module _ (p : Target → Bool) (gs : List Target) (n : ℕ) (found : map_option (λ (f : At Target). f.number) (first p gs) ≡ Some n) where
   found_at : (f : At Target) → first p gs ≡ Some f → f.number ≡ n → slice_get gs n ≡ Some f.here

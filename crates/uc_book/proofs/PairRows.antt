@@ -11,7 +11,7 @@ use Rattle.uc_book.specs.RowViews.{PairsView}
 use Rattle.uc_machine.specs.Lists.{change, map_option}
 use Rattle.uc_machine.specs.State.{State, Pair, is_waiting, queue_from}
 use Rattle.uc_book.specs.PairRows.{pairs_of, queue_in, head_in}
-use Rattle.uc_runs.proofs.Found.{IsPlace, peek_is}
+use Rattle.uc_machine.proofs.Found.{IsPlace, peek_is}
 
 -- PAIRS AND THEIR STATES
 

@@ -5,7 +5,7 @@ use Rattle.std.proofs.lemmas.Bool.{cases_Bool, cases_lt, eq-eqb, ne_eqb}
 use Rattle.uc_shelf.specs.Entries.{is_dead}
 use Rattle.uc_book.specs.Committing.{AreRising, AreBelow}
 use Rattle.uc_book.specs.Deaths.{deaths_by}
-use Rattle.uc_runs.proofs.Kept.{NotIn, Distinct}
+use Rattle.uc_machine.proofs.Kept.{NotIn, Distinct}
 
 pub rise_later : (n m : ℕ) (ks : List ℕ) → n ≤ m → AreRising m ks → AreRising n ks
 rise_later n m [] l r = tt

@@ -13,7 +13,7 @@ use Rattle.uc_machine.specs.Draws.{Reply, Drew, Draws, NoneDue, IsLate, HasBudge
 use Rattle.uc_book.specs.PairRows.{IsHead}
 use Rattle.uc_book.specs.Parts.{state_of}
 use Rattle.uc_book.specs.Drawing.{AreJobs}
-use Rattle.uc_runs.proofs.Steps.{has_item}
+use Rattle.uc_machine.proofs.Steps.{has_item}
 
 -- a task that is drawn with this ticket and for this job
 abbrev pub Gives : Opening → ℕ → State → ℕ → Job → State → Type 0

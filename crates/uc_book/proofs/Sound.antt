@@ -23,10 +23,10 @@ use Rattle.uc_book.specs.Parts.{state_of, Fit, HasRoom, IsBook, IsSubjectOut}
 use Rattle.uc_book.specs.Bounds.{IsSmall}
 use Rattle.uc_book.specs.Drawing.{IsSound}
 use Rattle.uc_book.specs.Ending.{CanEnd, IsOut}
-use Rattle.uc_runs.proofs.Kept.{Kept, IsBusy}
-use Rattle.uc_runs.proofs.Lists.{sum-without, below}
-use Rattle.uc_runs.proofs.Steps.{at_task, has_item}
-use Rattle.uc_runs.proofs.Runs.{kept_reaches}
+use Rattle.uc_machine.proofs.Kept.{Kept, IsBusy}
+use Rattle.uc_machine.proofs.Lists.{sum-without, below}
+use Rattle.uc_machine.proofs.Steps.{at_task, has_item}
+use Rattle.uc_machine.proofs.Runs.{kept_reaches}
 use Rattle.uc_book.proofs.Items.{or-get}
 use Rattle.uc_book.proofs.Histories.{few_draws}
 

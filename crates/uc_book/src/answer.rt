@@ -1,8 +1,8 @@
 //! What the calls of a book answer.
 
-use uc_machine::Verdict;
 use crate::token::Task;
 use thiserror::Error;
+use uc_machine::Verdict;
 
 /// What a draw answers.
 #[derive(Drop)]

@@ -9,12 +9,12 @@ ghost use Rattle.uc_book.specs.Ending.{CanEnd};
 
 use crate::answer::Audited;
 use crate::committing::MAX_ENTRIES;
-use uc_machine::{Event, Happening, Verdict};
 use crate::opened::Opened;
 use crate::parts::Parts;
 use std::alloc::{AllocError, Global};
 use std::sync::Wait;
 use uc_fact::Fact;
+use uc_machine::{Event, Happening, Verdict};
 use uc_shelf::{Entry, Shelf};
 
 impl Parts {

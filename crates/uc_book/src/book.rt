@@ -13,15 +13,14 @@ ghost use Rattle.uc_book.specs.Openings.{opening_of, HasNot};
 ghost use Rattle.uc_book.specs.Answers.{IsSameBook, reply_of, IfTask, IsTaskOf, IsRight, IsCommitted, IsRefused, IsReclaimed, IsNotOutTo, audit_reply_of, IsAnEnd, verdict_by};
 
 use crate::answer::{Audited, CommitFault, Drawn, Receipt};
-use uc_machine::{Event, Verdict};
 use crate::opened::Opened;
 use crate::parts::Parts;
-use uc_machine::{Missing, Outcome};
 use crate::token::{Done, Pass, WORKERS};
 use std::alloc::{AllocError, Global};
 use std::marker::Model;
 use std::sync::Wait;
 use uc_fact::Chain;
+use uc_machine::{Event, Missing, Outcome, Verdict};
 use uc_order::Order;
 use uc_problem::Encoded;
 use uc_shelf::{Front, Shelf};
@@ -195,7 +194,8 @@ impl<'a, O: Order> Book<'a, O> {
         ensures err { OnErr result (self.new ≡ self.old) }
     {
         let opening = self.opening();
-        self.parts.audit(rt, alloc, self.shelf, &opening, missing.fact)
+        self.parts
+            .audit(rt, alloc, self.shelf, &opening, missing.fact)
     }
 
     /// Closes a drained book by what its final pass answers. It takes no memory.

@@ -21,16 +21,14 @@ ghost use Rattle.uc_book.specs.Committing.{stage_by, commit_word, HasGoal, IsGoa
 
 use crate::answer::{CommitFault, Receipt};
 use crate::chains::end_of;
-use uc_machine::{GoalEnd, Happening, Verdict};
 use crate::opened::Opened;
 use crate::parts::Parts;
-use uc_machine::Stage;
-use uc_machine::{Finding, Job};
 use crate::tasks::{place_of, same_job};
 use crate::token::Done;
 use std::alloc::{AllocError, Global};
 use std::sync::Wait;
 use uc_fact::{Fact, Stop};
+use uc_machine::{Finding, GoalEnd, Happening, Job, Stage, Verdict};
 use uc_shelf::{Entry, Front, Shelf};
 
 /// The most entries of a front.
@@ -60,13 +58,7 @@ fn stage_after(stop: Stop, has_grown: bool) -> Stage
                 Stage::Settled
             }
         }
-        Stop::Size => {
-            if has_grown {
-                Stage::Due
-            } else {
-                Stage::Stuck
-            }
-        }
+        Stop::Size => { if has_grown { Stage::Due } else { Stage::Stuck } }
     }
 }
 
@@ -289,7 +281,13 @@ impl Parts {
     }
 
     /// The two ends of a goal go on, where no verdict stands.
-    fn take_ends(&mut self, alloc: Global, opening: &Opened, at: usize, done: Done) -> Result<(), Done>
+    fn take_ends(
+        &mut self,
+        alloc: Global,
+        opening: &Opened,
+        at: usize,
+        done: Done,
+    ) -> Result<(), Done>
         requires can { CanEnd opening.now.shelf (opening_of opening.now) self.old }
         requires open { self.old.verdict ≡ None }
         requires found { IsFor done.job done.found }

@@ -13,15 +13,14 @@ ghost use Rattle.uc_book.specs.Parts.{state_of, Fit, HasRoom, IsAtHead, SameSubj
 ghost use Rattle.uc_book.specs.Drawing.{AreJobs, IsSound, CanGive};
 
 use crate::answer::Drawn;
-use uc_machine::Verdict;
 use crate::goals::Goals;
 use crate::opened::Opened;
 use crate::parts::Parts;
-use uc_machine::Job;
 use crate::tasks::TaskRow;
 use crate::token::Task;
 use std::alloc::{AllocError, Global};
 use uc_fact::Origin;
+use uc_machine::{Job, Verdict};
 use uc_shelf::Front;
 
 /// The job to go on with the least goal that is Continued, twice, where a unit may be drawn.

@@ -13,9 +13,9 @@ ghost use Rattle.uc_book.specs.FactRows.{HasOneMore};
 ghost use Rattle.uc_book.specs.Deaths.{HasDeaths, met_by, dead_row};
 
 use crate::goals::back_to;
-use uc_machine::Meeting;
 use std::alloc::{AllocError, Global};
 use std::marker::Model;
+use uc_machine::Meeting;
 use uc_shelf::Front;
 
 /// A fact: its meeting, whether it is dead, and how many nodes its two sides have together.

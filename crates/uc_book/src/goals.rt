@@ -12,12 +12,11 @@ ghost use Rattle.uc_book.specs.GoalRows.{target_of};
 ghost use Rattle.uc_book.specs.Drawing.{AreJobs};
 
 use crate::chains::{end_of, go_on};
-use uc_machine::Stage;
-use uc_machine::Job;
 use crate::tasks::copy_job;
 use std::alloc::{AllocError, Global};
 use std::marker::Model;
 use uc_fact::{Chain, Equation};
+use uc_machine::{Job, Stage};
 use uc_term::{Seq, Term};
 
 /// A goal: the chains that lead from its two sides to its present ends, and its state.
@@ -196,10 +195,7 @@ impl Goals {
     }
 
     /// The job to go on with the least goal that is Continued, twice.
-    pub(crate) fn continued_jobs(
-        &mut self,
-        alloc: Global,
-    ) -> Result<Option<(Job, Job)>, AllocError>
+    pub(crate) fn continued_jobs(&mut self, alloc: Global) -> Result<Option<(Job, Job)>, AllocError>
         ensures jobs { IfOk result (λ o. MatchOption o (first (λ (g : Target). is_continued g.stage) self.old ≡ None) (AreJobs More (first (λ (g : Target). is_continued g.stage) self.old))) }
         ensures same { self.new ≡ self.old }
     {

@@ -9,15 +9,13 @@ ghost use Rattle.uc_book.specs.TaskRows.{unit_if_join, StandsAt};
 ghost use Rattle.uc_book.specs.Ending.{AnyAt, CanAccept, CanReturn, HasEnded};
 ghost use Rattle.uc_book.specs.Parts.{state_of, IsAtHead, IsSubjectOut, SameRest, SameSubjects};
 
-use uc_machine::{Ending, Event, Happening, Verdict};
 use crate::facts::Facts;
 use crate::goals::Goals;
 use crate::pairs::Pairs;
-use uc_machine::{Meeting, Numbers, Stage};
-use uc_machine::Job;
 use crate::tasks::{TaskRow, draw_event, reclaim_event, units};
 use crate::workers::{count_commit, count_draw, count_reclaim};
 use uc_fact::Origin;
+use uc_machine::{Ending, Event, Happening, Job, Meeting, Numbers, Stage, Verdict};
 
 /// The parts that hold a book's state; `next` is the next ticket.
 #[derive(Drop)]

@@ -7,7 +7,6 @@ ghost use Rattle.uc_machine.specs.State.{Opening};
 ghost use Rattle.uc_machine.specs.Runs.{Starts, axiom_pairs, opened};
 ghost use Rattle.uc_book.specs.Parts.{state_of, Fit, HasRoom};
 
-use uc_machine::Verdict;
 use crate::facts::Facts;
 use crate::goals::Goals;
 use crate::pairs::Pairs;
@@ -16,6 +15,7 @@ use crate::workers::no_numbers;
 use std::alloc::{AllocError, Global};
 use uc_fact::{Equation, Origin};
 use uc_ledger::State;
+use uc_machine::Verdict;
 use uc_problem::Encoded;
 
 /// A pair for each axiom, which waits.

@@ -5,9 +5,8 @@ ghost use Rattle.uc_machine.specs.State.{Out, out_at};
 ghost use Rattle.uc_machine.specs.Effects.{unit_of, draw_event, reclaim_event};
 ghost use Rattle.uc_book.specs.TaskRows.{out_of, StandsAt};
 
-use uc_machine::Happening;
-use uc_machine::Job;
 use std::alloc::{AllocError, Global};
+use uc_machine::{Happening, Job};
 use uc_shelf::Front;
 
 /// A task that is out: its ticket, the worker that drew it, what it is about, and the front over which it is computed.
@@ -62,15 +61,28 @@ pub(crate) fn same_job(a: &Job, b: &Job) -> bool
     match (a, b) {
         (
             Job::Goal { goal, left, right },
-            Job::Goal { goal: other, left: l, right: r },
+            Job::Goal {
+                goal: other,
+                left: l,
+                right: r,
+            },
         ) => *goal == *other && left.same(l) && right.same(r),
         (
             Job::More { goal, left, right },
-            Job::More { goal: other, left: l, right: r },
+            Job::More {
+                goal: other,
+                left: l,
+                right: r,
+            },
         ) => *goal == *other && left.same(l) && right.same(r),
         (Job::Meet(fact), Job::Meet(other)) => *fact == *other,
-        (Job::Join { pair, origin }, Job::Join { pair: other, origin: from }) => *pair == *other
-            && *origin == *from,
+        (
+            Job::Join { pair, origin },
+            Job::Join {
+                pair: other,
+                origin: from,
+            },
+        ) => *pair == *other && *origin == *from,
         _ => false,
     }
 }

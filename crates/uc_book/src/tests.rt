@@ -120,7 +120,10 @@ fn tasks_in_order(rt: HostRuntime) -> Result<(), Fail> {
     };
     assert!(rt; matches!(light.job, Job::Join { pair: 1, .. }));
     assert!(rt; book.reclaim(&mut pass, light.ticket).is_ok());
-    assert_eq!(rt; book.reclaim(&mut pass, light.ticket), Err(CommitFault::NotOut(1)));
+    assert_eq!(rt;
+        book.reclaim(&mut pass, light.ticket),
+        Err(CommitFault::NotOut(1))
+    );
     let Drawn::Task(again) = book.draw(alloc, &mut pass)? else {
         return Err(Fail::from("no pair again"));
     };

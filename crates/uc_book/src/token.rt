@@ -3,8 +3,8 @@
 ghost use Rattle.std.specs.Prelude.{◌≡◌, ◌+◌, ◌-◌, ◌^◌, ◌<◌, min};
 
 use crate::opened::Opened;
-use uc_machine::{Finding, Job};
 use std::marker::Model;
+use uc_machine::{Finding, Job};
 use uc_shelf::Front;
 
 /// The workers' numbers are below this one.

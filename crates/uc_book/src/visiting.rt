@@ -19,17 +19,16 @@ ghost use Rattle.uc_book.specs.Committing.{AreRising, AreBelow};
 ghost use Rattle.uc_book.specs.Deaths.{alive_of, deaths_by, revived, all_dead, visited, woken_by};
 
 use crate::committing::MAX_ENTRIES;
-use uc_machine::{Happening, Verdict};
 use crate::facts::Facts;
 use crate::goals::Goals;
 use crate::opened::Opened;
 use crate::pairs::Pairs;
 use crate::parts::Parts;
-use uc_machine::Meeting;
 use std::alloc::{AllocError, Global};
 use std::sync::Wait;
 use uc_fact::Origin;
 use uc_ledger::State;
+use uc_machine::{Happening, Meeting, Verdict};
 use uc_pair::{Formed, Size};
 use uc_shelf::{Entry, Front, Shelf};
 
@@ -364,7 +363,13 @@ impl Parts {
         );
         self.facts.settle(visit.fact, Meeting::Met);
         revive(alloc, &mut self.pairs, &self.facts, visit.falls);
-        form(alloc, &mut self.pairs, &self.facts, visit.falls, visit.overlaps);
+        form(
+            alloc,
+            &mut self.pairs,
+            &self.facts,
+            visit.falls,
+            visit.overlaps,
+        );
         self.facts.bury(front, visit.falls);
         wake(&mut self.goals, visit.falls);
     }

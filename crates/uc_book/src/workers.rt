@@ -5,15 +5,19 @@ ghost use Rattle.uc_machine.specs.Lists.{change};
 ghost use Rattle.uc_machine.specs.Effects.{one_drawn, one_commit, one_reclaim};
 ghost use Rattle.uc_book.specs.Bounds.{AreSmall};
 
-use uc_machine::Numbers;
 use crate::token::WORKERS;
 use std::alloc::{AllocError, Global};
+use uc_machine::Numbers;
 
 /// The numbers of all workers at the start.
 pub(crate) fn no_numbers(alloc: Global) -> Result<Vec<Numbers>, AllocError>
     ensures { IfOk result (λ v. v.items ≡ replicate 65 (record { drawn = 0; commits = 0; reclaims = 0 })) }
 {
-    vec![in alloc; Numbers { drawn: 0, commits: 0, reclaims: 0 }; WORKERS as usize]
+    vec![in alloc; Numbers {
+        drawn: 0,
+        commits: 0,
+        reclaims: 0
+    }; WORKERS as usize]
 }
 
 /// The worker drew one task more.

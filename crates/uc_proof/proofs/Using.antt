@@ -94,15 +94,13 @@ module _ (sources : List Source) (initial : List Part) (i : ℕ) (now next : Lis
       λ h. elim ((add (part.Axiom k)).0 h) [ inl m ↦ (d.same k).0 m | inr b ↦ absurd (no_axiom s k b.1) ],
       λ h. (add (part.Axiom k)).1 (inl ((d.same k).1 h)),
     );
-    rest = λ p. one_more (d.rest p)
-        (
-          λ h. elim ((add p).0 h) [ inl m ↦ inr m | inr b ↦ inl ((d.same i).0 b.0, b.1) ],
-          λ h. elim h [ inl b ↦ (add p).1 (inr ((d.same i).1 b.0, b.1)) | inr m ↦ (add p).1 (inl m) ],
-        )
-        (
-          λ h. subst (λ (ss : List Source). IsDeniedFrom i ss initial p) at h,
-          λ h. subst (λ (ss : List Source). IsDeniedFrom i ss initial p) (sym at) h,
-        );
+    rest = λ p. one_more (d.rest p) (
+      λ h. elim ((add p).0 h) [ inl m ↦ inr m | inr b ↦ inl ((d.same i).0 b.0, b.1) ],
+      λ h. elim h [ inl b ↦ (add p).1 (inr ((d.same i).1 b.0, b.1)) | inr m ↦ (add p).1 (inl m) ],
+    ) (
+      λ h. subst (λ (ss : List Source). IsDeniedFrom i ss initial p) at h,
+      λ h. subst (λ (ss : List Source). IsDeniedFrom i ss initial p) (sym at) h,
+    );
   }
 
 pub denies_all : (sources : List Source) (initial : List Part) (i : ℕ) (now : List Part) → Denies sources initial i now → drop i sources ≡ [] → (p : Part) → IsAmong p now ↔ (IsAmong p initial ⊎ IsDeniedFrom 0 sources initial p)

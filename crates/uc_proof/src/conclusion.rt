@@ -9,11 +9,7 @@ use uc_fact::{Chain, Step};
 use uc_term::{Seq, Term};
 
 /// The left side's chain, followed by the right side's gone back.
-pub(crate) fn conclusion(
-    alloc: Global,
-    left: &Chain,
-    right: &Chain,
-) -> Result<Chain, AllocError>
+pub(crate) fn conclusion(alloc: Global, left: &Chain, right: &Chain) -> Result<Chain, AllocError>
     ensures { IfOk result (λ chain. chain ≡ conclusion_of left.now right.now) }
 {
     let chain = left.copy(alloc)?;

@@ -95,7 +95,11 @@ fn denial_line(
     requires { (s : Sourced) × (slice_get problem.now.clauses clause ≡ Some s) }
     ensures { (s : Sourced) → slice_get problem.now.clauses clause ≡ Some s → IfOk result (λ line. line ≡ clause_line name s.clause) }
 {
-    clause_line(alloc, &problem.clauses.as_slice()[clause as usize].clause, name)
+    clause_line(
+        alloc,
+        &problem.clauses.as_slice()[clause as usize].clause,
+        name,
+    )
 }
 
 fn clause_line(alloc: Global, clause: &Clause, name: Text) -> Result<Line, AllocError>
@@ -133,7 +137,12 @@ fn conclusion_line(
     ensures { (e : Equation) → slice_get encoded.now.goals goal ≡ Some e → IfOk result (IsChainLine plan.now conclusion.now name e) }
 {
     let source = chain_source(alloc, plan, conclusion)?;
-    equation_line(alloc, name, source, &encoded.goals.as_slice()[goal as usize])
+    equation_line(
+        alloc,
+        name,
+        source,
+        &encoded.goals.as_slice()[goal as usize],
+    )
 }
 
 fn equation_line(

@@ -47,12 +47,7 @@ fn line_steps(alloc: Global, plan: &Plan, chain: &Chain) -> Result<Vec<LineStep>
     Ok(written)
 }
 
-fn line_step(
-    alloc: Global,
-    plan: &Plan,
-    before: &Term,
-    step: &Step,
-) -> Result<LineStep, AllocError>
+fn line_step(alloc: Global, plan: &Plan, before: &Term, step: &Step) -> Result<LineStep, AllocError>
     requires named { IsAmong (part_of step.now.by) plan.now }
     requires inside { step.now.position.0 < nodes before.now }
     ensures { IfOk result (IsStepFor plan.now before.now step.now) }

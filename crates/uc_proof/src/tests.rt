@@ -50,10 +50,7 @@ cnf(goal, negated_conjecture, f(f(a)) != a).",
     goal: 0,
     left: (
         "f(f(a))",
-        &[
-            (By::Fact(0), true, 1, "f(b)"),
-            (By::Fact(1), true, 0, "a"),
-        ],
+        &[(By::Fact(0), true, 1, "f(b)"), (By::Fact(1), true, 0, "a")],
     ),
     right: ("a", &[]),
     proof: "% SZS output start CNFRefutation for r.p
@@ -120,12 +117,7 @@ fn term(g: Global, symbols: &mut Symbols, bytes: &str) -> Result<Term, Fail> {
     Ok(read_term(g, bytes.as_bytes(), symbols)?)
 }
 
-fn chain(
-    g: Global,
-    symbols: &mut Symbols,
-    start: &str,
-    steps: &[StepText],
-) -> Result<Chain, Fail> {
+fn chain(g: Global, symbols: &mut Symbols, start: &str, steps: &[StepText]) -> Result<Chain, Fail> {
     let mut list = Vec::new(g);
     for (by, left_to_right, place, to) in steps {
         list.push(Step {

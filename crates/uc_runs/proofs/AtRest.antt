@@ -60,12 +60,12 @@ use Rattle.uc_machine.specs.Commits.{GoalEnds, ends_meet, ends_differ, StageAfte
 use Rattle.uc_machine.specs.Results.{NormaliseBoth, stop_of, IsResult, goal_comes_to, more_comes_to, pair_is_joined, pair_is_kept, fact_is_stale as comes_stale, fact_meets as comes_to_meet}
 use Rattle.uc_machine.specs.Runs.{goal_of, Starts, axioms_wait, too_many_axioms, AuditReply, Audits, is_closed, is_spent, is_kept, Closes, converges, has_large, has_stuck, Reaches, starts, draws_on, commits_on, reclaims_on, recalls_on, audits_on, closes_on}
 use Rattle.uc_machine.specs.Promises.{IsStuckIn, StaysAtRest, GoalsAtRest, IsNormalIn}
-use Rattle.uc_runs.proofs.Kept.{Kept, IsBusy, is_same, Apart}
-use Rattle.uc_runs.proofs.Lists.{Each-map, Each-push, Each-without, Each-at, get-changed, get-change_same, get-change_other, length-change}
-use Rattle.uc_runs.proofs.Found.{IsFound, first_is}
-use Rattle.uc_runs.proofs.Blocks.{apart_from}
-use Rattle.uc_runs.proofs.Steps.{at_task}
-use Rattle.uc_runs.proofs.Runs.{kept_reaches}
+use Rattle.uc_machine.proofs.Kept.{Kept, IsBusy, is_same, Apart}
+use Rattle.uc_machine.proofs.Lists.{Each-map, Each-push, Each-without, Each-at, get-changed, get-change_same, get-change_other, length-change}
+use Rattle.uc_machine.proofs.Found.{IsFound, first_is}
+use Rattle.uc_machine.proofs.Blocks.{apart_from}
+use Rattle.uc_machine.proofs.Steps.{at_task}
+use Rattle.uc_machine.proofs.Runs.{kept_reaches}
 
 -- where chains end
 

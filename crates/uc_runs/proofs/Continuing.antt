@@ -41,13 +41,13 @@ use Rattle.uc_machine.specs.Results.{NormaliseBoth, stop_of, IsResult}
 use Rattle.uc_machine.specs.Runs.{goal_of, Starts, axioms_wait, too_many_axioms, AuditReply, Audits, is_closed, is_spent, is_kept, Closes, converges, has_large, has_stuck, Reaches, starts, draws_on, commits_on, reclaims_on, recalls_on, audits_on, closes_on}
 use Rattle.uc_machine.specs.State.{Opening, State, Target, Out, is_continued, out_at, without}
 use Rattle.uc_runs.proofs.AtRest.{GoalResult, result_goal, result_more, is_busy}
-use Rattle.uc_runs.proofs.Blocks.{apart_from}
-use Rattle.uc_runs.proofs.Found.{first_is}
-use Rattle.uc_runs.proofs.Calls.{out_restored}
-use Rattle.uc_runs.proofs.Kept.{is_same, IsBusy, Kept}
-use Rattle.uc_runs.proofs.Lists.{get-changed, Each-map, Each-push, Each-without, Each-at}
-use Rattle.uc_runs.proofs.Runs.{kept_reaches}
-use Rattle.uc_runs.proofs.Steps.{at_task}
+use Rattle.uc_machine.proofs.Blocks.{apart_from}
+use Rattle.uc_machine.proofs.Found.{first_is}
+use Rattle.uc_machine.proofs.Calls.{out_restored}
+use Rattle.uc_machine.proofs.Kept.{is_same, IsBusy, Kept}
+use Rattle.uc_machine.proofs.Lists.{get-changed, Each-map, Each-push, Each-without, Each-at}
+use Rattle.uc_machine.proofs.Runs.{kept_reaches}
+use Rattle.uc_machine.proofs.Steps.{at_task}
 
 -- the last commit of a longer history
 

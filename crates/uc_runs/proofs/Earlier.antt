@@ -49,11 +49,11 @@ use Rattle.uc_machine.specs.Commits.{GoalEnds, ends_meet, ends_differ, Meets, wi
 use Rattle.uc_machine.specs.Results.{IsResult}
 use Rattle.uc_machine.specs.Runs.{Starts, axioms_wait, too_many_axioms, AuditReply, Audits, is_closed, is_spent, is_kept, Closes, converges, has_large, has_stuck, IsAudited, not_yet, once_more, MayAudit, Reaches, starts, draws_on, commits_on, reclaims_on, recalls_on, audits_on, closes_on}
 use Rattle.uc_machine.specs.Promises.{Grew, FrontsAreEarlier}
-use Rattle.uc_runs.proofs.Kept.{Kept, IsKnown}
-use Rattle.uc_runs.proofs.Lists.{Each-at}
-use Rattle.uc_runs.proofs.Grows.{same, further, audits_grew, reclaim_same, recall_same}
+use Rattle.uc_machine.proofs.Kept.{Kept, IsKnown}
+use Rattle.uc_machine.proofs.Lists.{Each-at}
+use Rattle.uc_machine.proofs.Grows.{same, further, audits_grew, reclaim_same, recall_same}
 use Rattle.uc_runs.proofs.Fronts.{EarlierIn, earlier_born, earlier_dies, kept_by_join, kept_by_audit}
-use Rattle.uc_runs.proofs.Runs.{kept_reaches}
+use Rattle.uc_machine.proofs.Runs.{kept_reaches}
 
 draws_same : (o : Opening) (w : ℕ) (s : State) (r : Reply) (u : State) → Draws o w s r u → u.entries ≡ s.entries
 draws_same o w s _ _ (verdict_stands v e) = refl

@@ -65,7 +65,7 @@ use Rattle.uc_machine.specs.declared.task.Outcome.TheVariants.{Missing as Lacks}
 use Rattle.uc_fact.specs.Chains.{variables_of_chain, reversed}
 use Rattle.uc_machine.specs.Results.{Trial, way, names_of, made, IsTrial, GivesFact, left_is_greater, right_is_greater, none_is_greater, IsResult, goal_comes_to, more_comes_to, pair_is_joined, pair_is_kept, fact_is_stale, fact_meets}
 use Rattle.uc_machine.specs.Finals.{Tests, all_tested, is_joined, is_missing, IsFinal, some_missing, some_large, some_stuck, all_converges}
-use Rattle.uc_runs.proofs.Lists.{Each-map}
+use Rattle.uc_machine.proofs.Lists.{Each-map}
 use Rattle.uc_machine.specs.Promises.{StandsBy, IsKeptOver, FrontsAreEarlier, Grew}
 use Rattle.uc_runs.proofs.Renumbered.{back_by, back_is, names_have, each_front, each_rest, renumbered_stands}
 

@@ -42,16 +42,16 @@ use Rattle.uc_machine.specs.Results.{AreMeetings, with_itself, with_earlier, not
 use Rattle.uc_machine.specs.Runs.{axiom_pairs, Starts, axioms_wait, too_many_axioms, AuditReply, Audits, is_closed, is_spent, is_kept, Closes, converges, has_large, has_stuck, Reaches, starts, draws_on, commits_on, reclaims_on, recalls_on, audits_on, closes_on}
 use Rattle.uc_machine.specs.declared.state.Meeting.TheVariants.{Visiting}
 use Rattle.uc_machine.specs.State.{Opening, State, Pair, Out, out_at, without, peek}
-use Rattle.uc_runs.proofs.Blocks.{born-append}
-use Rattle.uc_runs.proofs.Calls.{place_waits, MeetsRightly, out_restored}
-use Rattle.uc_runs.proofs.Found.{peek_is}
-use Rattle.uc_runs.proofs.Grows.{kills_grew, each_grew}
-use Rattle.uc_runs.proofs.Kept.{Kept, IsBusy}
-use Rattle.uc_runs.proofs.Lists.{get-append, below, Each-map, Each-push}
-use Rattle.uc_runs.proofs.Meetings.{IsOfFacts, OfBoth, facts_differ, Each-append}
+use Rattle.uc_machine.proofs.Blocks.{born-append}
+use Rattle.uc_machine.proofs.Calls.{place_waits, MeetsRightly, out_restored}
+use Rattle.uc_machine.proofs.Found.{peek_is}
+use Rattle.uc_machine.proofs.Grows.{kills_grew, each_grew}
+use Rattle.uc_machine.proofs.Kept.{Kept, IsBusy}
+use Rattle.uc_machine.proofs.Lists.{get-append, below, Each-map, Each-push}
+use Rattle.uc_machine.proofs.Meetings.{IsOfFacts, OfBoth, facts_differ, Each-append}
 use Rattle.uc_runs.proofs.Replayed.{live_named}
-use Rattle.uc_runs.proofs.Runs.{kept_reaches, result_meets}
-use Rattle.uc_runs.proofs.Steps.{at_task, kept_reclaim, Each-both}
+use Rattle.uc_machine.proofs.Runs.{kept_reaches, result_meets}
+use Rattle.uc_machine.proofs.Steps.{at_task, kept_reclaim, Each-both}
 use Rattle.uc_runs.proofs.Whole.{IsMeeting, result_lists}
 
 -- pairs that aren't too large

@@ -21,7 +21,7 @@ use Rattle.uc_shelf.specs.declared.entry.Entry.{Entry}
 use Rattle.uc_shelf.specs.Entries.{live}
 use Rattle.uc_machine.specs.Lists.{Each}
 use Rattle.uc_machine.specs.Promises.{StandsBy}
-use Rattle.uc_runs.proofs.Lists.{Each-map}
+use Rattle.uc_machine.proofs.Lists.{Each-map}
 
 -- a term renumbered by names that it has gives it back
 

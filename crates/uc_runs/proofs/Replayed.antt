@@ -43,7 +43,7 @@ use Rattle.uc_machine.specs.Lists.{Each}
 use Rattle.uc_machine.specs.Results.{Trial, way, names_of, made, IsPair, of_axiom, of_overlap, of_dead, IsTrial, GivesFact, left_is_greater, right_is_greater, none_is_greater, IsResult, goal_comes_to, more_comes_to, pair_is_joined, pair_is_kept, fact_is_stale, fact_meets}
 use Rattle.uc_machine.specs.State.{State}
 use Rattle.uc_runs.proofs.AtRest.{last_of_both, normal_end}
-use Rattle.uc_runs.proofs.Meetings.{Each-filter}
+use Rattle.uc_machine.proofs.Meetings.{Each-filter}
 use Rattle.uc_runs.proofs.Replacing.{at_the_root, goes_back, is_renamed, step_replaces}
 
 -- the side that a step replaces

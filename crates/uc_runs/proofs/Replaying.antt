@@ -39,9 +39,9 @@ use Rattle.uc_machine.specs.Results.{NormaliseBoth, IsResult}
 use Rattle.uc_machine.specs.Runs.{goal_of, Starts, axioms_wait, too_many_axioms, AuditReply, Audits, is_closed, is_spent, is_kept, Closes, converges, has_large, has_stuck, MayAudit, Reaches, starts, draws_on, commits_on, reclaims_on, recalls_on, audits_on, closes_on}
 use Rattle.uc_machine.specs.State.{Opening, State, Target, Out}
 use Rattle.uc_runs.proofs.AtRest.{HasEnds, JobEnds, GoalResult, result_goal, result_more, Rests, rests_reaches}
-use Rattle.uc_runs.proofs.Blocks.{born-append, born-dies}
+use Rattle.uc_machine.proofs.Blocks.{born-append, born-dies}
 use Rattle.uc_runs.proofs.Earlier.{audited_grew}
-use Rattle.uc_runs.proofs.Lists.{Each-at, below}
+use Rattle.uc_machine.proofs.Lists.{Each-at, below}
 use Rattle.uc_runs.proofs.Replayed.{leads_on, leads_further, normal_leads, kept_leads, missing_leads}
 
 -- facts

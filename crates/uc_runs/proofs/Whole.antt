@@ -38,12 +38,12 @@ use Rattle.uc_machine.specs.Promises.{Grew, IsOf, HasNumber, AreNumbered, BothAr
 use Rattle.uc_machine.specs.Results.{AreMeetings, with_itself, with_earlier, not_with_later, IsResult, goal_comes_to, more_comes_to, pair_is_joined, pair_is_kept, fact_is_stale as comes_stale, fact_meets as comes_to_meet}
 use Rattle.uc_machine.specs.Runs.{Starts, axioms_wait, too_many_axioms, AuditReply, Audits, is_closed, is_spent, is_kept, Closes, converges, has_large, has_stuck, Reaches, starts, draws_on, commits_on, reclaims_on, recalls_on, audits_on, closes_on}
 use Rattle.uc_machine.specs.State.{Opening, State, Pair, Out, is_unmet}
-use Rattle.uc_runs.proofs.Blocks.{born-append, born-dies, option-append, same-origin}
-use Rattle.uc_runs.proofs.Found.{first_is}
-use Rattle.uc_runs.proofs.Grows.{each_grew}
-use Rattle.uc_runs.proofs.Kept.{Kept, IsKnown}
-use Rattle.uc_runs.proofs.Lists.{get-append, below, get-changed, get-change_same, Each-map, Each-at, Each-front, Each-behind}
-use Rattle.uc_runs.proofs.Runs.{kept_reaches}
+use Rattle.uc_machine.proofs.Blocks.{born-append, born-dies, option-append, same-origin}
+use Rattle.uc_machine.proofs.Found.{first_is}
+use Rattle.uc_machine.proofs.Grows.{each_grew}
+use Rattle.uc_machine.proofs.Kept.{Kept, IsKnown}
+use Rattle.uc_machine.proofs.Lists.{get-append, below, get-changed, get-change_same, Each-map, Each-at, Each-front, Each-behind}
+use Rattle.uc_machine.proofs.Runs.{kept_reaches}
 
 -- who is dead
 

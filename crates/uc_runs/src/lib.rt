@@ -5,7 +5,6 @@
 mod laws;
 
 pub use laws::{
-    chains_replay, counts_units, counts_workers, dies_once, ends_pairs_once, entries_grow,
-    fronts_are_earlier, fronts_are_prefixes, goals_at_rest, meetings_are_whole, mores_go_on,
-    one_commit, one_draw, one_end, one_final, one_result, one_state, origins_known, tickets_differ,
+    chains_replay, fronts_are_earlier, goals_at_rest, meetings_are_whole, mores_go_on, one_final,
+    one_result, origins_known,
 };

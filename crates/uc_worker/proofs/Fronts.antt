@@ -111,15 +111,15 @@ flag_set es n flags f j inside a = record {
   long = set_length flags f true ∙ a.long;
   each = λ k h. elim (cases_Bool (f == k)) as (λ _. get_or (set flags f true) k false ≡ is_dead (es ++ Dies f j ∷ []) k) [
     | inl b ↦ (
-      let same : f ≡ k = eqb-true f k b in
-      ap (λ x. get_or (set flags f true) x false) (sym same) ∙ set_here flags f true false inside
-      ∙ sym (dead_append es (Dies f j ∷ []) k ∙ or_true (is_dead es k) (is_dead (Dies f j ∷ []) k) (rw b refl))
-    )
+        let same : f ≡ k = eqb-true f k b in
+        ap (λ x. get_or (set flags f true) x false) (sym same) ∙ set_here flags f true false inside
+        ∙ sym (dead_append es (Dies f j ∷ []) k ∙ or_true (is_dead es k) (is_dead (Dies f j ∷ []) k) (rw b refl))
+        )
     | inr b ↦ (
-      let differ : f ≡ k → ⊥ = λ s. (let t : (f == k) ≡ true = eq-eqb f k s in cc) in
-      set_elsewhere flags f k true false differ ∙ a.each k h
-      ∙ sym (dead_append es (Dies f j ∷ []) k ∙ ap (λ x. is_dead es k || x) (rw b refl) ∙ or_false (is_dead es k))
-    )
+        let differ : f ≡ k → ⊥ = λ s. (let t : (f == k) ≡ true = eq-eqb f k s in cc) in
+        set_elsewhere flags f k true false differ ∙ a.each k h
+        ∙ sym (dead_append es (Dies f j ∷ []) k ∙ ap (λ x. is_dead es k || x) (rw b refl) ∙ or_false (is_dead es k))
+        )
   ];
 }
 

@@ -9,8 +9,8 @@ use crate::goal::both_ends;
 use crate::join::join;
 use crate::meet::meet;
 use std::alloc::{AllocError, Global};
-use uc_machine::{Finding, Job};
 use uc_fact::Equation;
+use uc_machine::{Finding, Job};
 use uc_order::Order;
 use uc_shelf::{Front, Shelf};
 

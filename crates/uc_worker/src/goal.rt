@@ -6,8 +6,8 @@ ghost use Rattle.uc_machine.specs.Results.{IsResult, stop_of};
 ghost use Rattle.uc_machine.specs.declared.task.Job.TheVariants.{Goal, More};
 
 use std::alloc::{AllocError, Global};
-use uc_machine::Finding;
 use uc_fact::Stop;
+use uc_machine::Finding;
 use uc_order::Order;
 use uc_rewrite::normalise;
 use uc_shelf::View;

@@ -52,13 +52,7 @@ fn fact_if(entry: &Entry, count: u32, number: u32) -> Option<&Fact>
     ensures { MatchOption result ((fact : AnyFact) → IsBornAs entry.now count number fact → ⊥) (λ fact. IsBornAs entry.now count number fact.now) }
 {
     match entry {
-        Entry::Born(fact) => {
-            if count == number {
-                Some(fact)
-            } else {
-                None
-            }
-        }
+        Entry::Born(fact) => { if count == number { Some(fact) } else { None } }
         Entry::Dies { .. } => None,
     }
 }

@@ -13,8 +13,8 @@ ghost use Rattle.uc_worker.specs.Meeting.{Adds, IsReducedByIt, FirstReducer, Kil
 use crate::live::{LiveFact, copy_equation, fact_at, live_facts};
 use crate::reducing::reduces;
 use std::alloc::{AllocError, Global};
-use uc_machine::Finding;
 use uc_fact::Equation;
+use uc_machine::Finding;
 use uc_order::Order;
 use uc_pair::{Formed, overlaps};
 use uc_shelf::{Front, Shelf};

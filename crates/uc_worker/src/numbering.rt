@@ -11,11 +11,7 @@ use uc_term::{Node, Seq, Term};
 
 /// The chain with each variable replaced by its place among the names. Its new variables go behind the names, by first
 /// occurrence.
-pub fn number_chain(
-    alloc: Global,
-    chain: &Chain,
-    names: &mut Vec<u32>,
-) -> Result<Chain, AllocError>
+pub fn number_chain(alloc: Global, chain: &Chain, names: &mut Vec<u32>) -> Result<Chain, AllocError>
     requires few { length names.old.items ≤ 8192 }
     requires short { length chain.now.steps ≤ 16384 }
     ensures names { IfOk result (λ _. names.new.items ≡ names.old.items ++ firsts_after names.old.items (variables_of_chain chain.now)) }

@@ -9,9 +9,9 @@ use crate::finding_of;
 use std::alloc::{AllocError, Global};
 use std::sync::Wait;
 use std::test::Fail;
-use uc_machine::{Finding, Job};
 use uc_fact::{By, Chain, Equation, Fact, Origin, Side, Stop};
 use uc_kbo::Kbo;
+use uc_machine::{Finding, Job};
 use uc_pair::{Formed, Size};
 use uc_shelf::{Entry, Front, Shelf};
 use uc_term::{Pos, Seq, Sym, Symbols, Term, TermFault};
@@ -152,11 +152,13 @@ fn is_step(
         return Ok(false);
     }
     let step = &steps[0];
-    Ok(is(alloc, &chain.start, sides.0)?
-        && step.by == by
-        && step.left_to_right
-        && step.position == position
-        && is(alloc, &step.to, sides.1)?)
+    Ok(
+        is(alloc, &chain.start, sides.0)?
+            && step.by == by
+            && step.left_to_right
+            && step.position == position
+            && is(alloc, &step.to, sides.1)?,
+    )
 }
 
 // Over f(a) = b the goal f(f(a)) = a goes on by one step to f(b), at the argument; over f(b) = a as well from there to a.
@@ -176,9 +178,7 @@ fn goals_go_on(rt: HostRuntime) -> Result<(), Fail> {
     let Finding::Ends { left, right, stop } = found else {
         return Err(Fail::from("no ends"));
     };
-    assert!(rt;
-        is_step(alloc, &left, (b"aff", b"bf"), By::Fact(0), Pos(1))?
-    );
+    assert!(rt; is_step(alloc, &left, (b"aff", b"bf"), By::Fact(0), Pos(1))?);
     assert_eq!(rt; right.steps.len(), 0);
     assert_eq!(rt; stop, Stop::Full);
     add(&rt, alloc, &shelf, &mut front, (b"bf", b"a"))?;
@@ -191,9 +191,7 @@ fn goals_go_on(rt: HostRuntime) -> Result<(), Fail> {
     let Finding::Ends { left, right, .. } = found else {
         return Err(Fail::from("no ends"));
     };
-    assert!(rt;
-        is_step(alloc, &left, (b"bf", b"a"), By::Fact(1), Pos(0))?
-    );
+    assert!(rt; is_step(alloc, &left, (b"bf", b"a"), By::Fact(1), Pos(0))?);
     assert!(rt; is(alloc, &right.start, b"a")?);
     Ok(())
 }
@@ -227,9 +225,7 @@ fn an_axiom_is_kept(rt: HostRuntime) -> Result<(), Fail> {
     assert!(rt; is(alloc, &fact.right, b"a")?);
     assert!(rt; fact.oriented);
     assert_eq!(rt; fact.origin, Origin::Axiom(1));
-    assert!(rt;
-        is_step(alloc, &fact.chain, (b"bf", b"a"), By::Axiom(1), Pos(0))?
-    );
+    assert!(rt; is_step(alloc, &fact.chain, (b"bf", b"a"), By::Axiom(1), Pos(0))?);
     assert_eq!(rt; fact.front, 1);
     Ok(())
 }

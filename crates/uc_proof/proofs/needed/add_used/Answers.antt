@@ -9,12 +9,11 @@ loop-number-preserved c =
     let k = c.loop-number.number - 1 in
     let few = c.loop-number.invariant.0 in
     let some = c.loop-number-test.true in
-    let fits : k < length c.args.facts.now = omega arith in
-    (
+    let fits : k < length c.args.facts.now = omega arith in (
       omega arith,
       uses_on (map (λ f. f.now) c.args.facts.now) c.requires.earlier c.args.needed.now c.loop-number.number k c.loop-number.needed c.add_if_used.new.needed c.loop-number.invariant.1 (omega arith) c.index-facts-number.result.now
-      (map-get (λ f. f.now) c.args.facts.now k c.index-facts-number.result (slice_get-get_or c.args.facts.now k _ fits ∙ ap Some (sym c.index-facts-number.is)))
-      c.in_ok-add_if_used.ensures,
+          (map-get (λ f. f.now) c.args.facts.now k c.index-facts-number.result (slice_get-get_or c.args.facts.now k _ fits ∙ ap Some (sym c.index-facts-number.is)))
+          c.in_ok-add_if_used.ensures,
     )
 
 pub returns : goal.returns

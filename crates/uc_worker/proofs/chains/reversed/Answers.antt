@@ -17,9 +17,12 @@ pub loop-step-preserved : goal.loop-step-preserved
 loop-step-preserved c =
     let step = c.in-Some.step in
     let back : Tree → Step = λ t. record { by = step.by; left_to_right = not step.left_to_right; position = step.position; to = t } in
-    let new = c.in_ok-push.ensures.items ∙ ap (λ t. c.loop-step.steps.items ++ back t ∷ []) c.replace.ensures.value in
-    (tt, tt, subst (λ t. Back c.args.chain.start c.args.chain.steps t c.next.new.self.rest.items c.push.new.self.items) (sym c.replace.ensures.after)
-    (back_goes_on c.args.chain.start c.args.chain.steps c.loop-step.last c.loop-step.step-iterator.rest.items c.next.new.self.rest.items step c.loop-step.steps.items c.push.new.self.items c.in-Some.ensures.steps.0 new c.loop-step.invariant.2))
+    let new = c.in_ok-push.ensures.items ∙ ap (λ t. c.loop-step.steps.items ++ back t ∷ []) c.replace.ensures.value in (
+      tt,
+      tt,
+      subst (λ t. Back c.args.chain.start c.args.chain.steps t c.next.new.self.rest.items c.push.new.self.items) (sym c.replace.ensures.after)
+          (back_goes_on c.args.chain.start c.args.chain.steps c.loop-step.last c.loop-step.step-iterator.rest.items c.next.new.self.rest.items step c.loop-step.steps.items c.push.new.self.items c.in-Some.ensures.steps.0 new c.loop-step.invariant.2),
+    )
 
 pub returns : goal.returns
 returns c =

@@ -1,6 +1,0 @@
-use Rattle.uc_runs.proofs.Runs.{kept_reaches}
-use Rattle.uc_runs.proofs.Promises.{counts_units}
-use Rattle.uc_runs.proofs.laws.counts_units.Goals as goal
-
-pub returns : goal.returns
-returns g c = λ o s r. counts_units o s (kept_reaches (g.O.Order.meaning c.args.order.now) o s r)

@@ -1,6 +1,0 @@
-use Rattle.uc_runs.proofs.Runs.{kept_reaches}
-use Rattle.uc_runs.proofs.Promises.{dies_once}
-use Rattle.uc_runs.proofs.laws.dies_once.Goals as goal
-
-pub returns : goal.returns
-returns g c = λ o s r. dies_once o s (kept_reaches (g.O.Order.meaning c.args.order.now) o s r)

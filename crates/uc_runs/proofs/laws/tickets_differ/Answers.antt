@@ -1,6 +1,0 @@
-use Rattle.uc_runs.proofs.Runs.{kept_reaches}
-use Rattle.uc_runs.proofs.Promises.{tickets_differ}
-use Rattle.uc_runs.proofs.laws.tickets_differ.Goals as goal
-
-pub returns : goal.returns
-returns g c = λ o s r. tickets_differ o s (kept_reaches (g.O.Order.meaning c.args.order.now) o s r)
