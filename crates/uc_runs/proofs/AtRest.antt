@@ -40,8 +40,8 @@ use Rattle.uc_machine.specs.State.{Opening, State, Pair, Target, Out, dead_of, i
 use Rattle.uc_machine.specs.Effects.{records, closes, ending_of, publishes, enters, appends, dies, kills, settles, turns, stages, hands_out, takes, ends, restores, reclaim_event, reclaims, recalls, draw_event, wakes, wakes_stage, meets_unmet, unit_of, one_drawn, one_commit, one_reclaim, sides_weight, numbers_rise, task_for, drops, accepts, takes_ends, goes_on, is_met, pair_by, forms, visits, keeps}
 use Rattle.uc_machine.specs.Events.{units, units_after, unit_in, unit_draw, is_unit_draw, draw_in, draws_by, commits_by, reclaims_by, out_to, numbers_of, is_commit_what, is_reclaim_what, ending_in, ended_after, ended_by}
 use Rattle.uc_machine.specs.Promises.{Rising, WasDrawn, later_fact, IsOf}
-use Rattle.std.proofs.Math.ListN.{take_of_length-le}
 use Rattle.std.proofs.lemmas.List.{length-map}
+use Rattle.uc_term.proofs.Terms.{take_of_length-le}
 use Rattle.uc_order.specs.Laws.{Meaning}
 use Rattle.uc_fact.specs.declared.chain.Step.{Step}
 use Rattle.uc_fact.specs.declared.fact.Stop.TheVariants.{Full, Steps, Size}
@@ -287,7 +287,7 @@ module _ (m : Meaning) where
       resting x at _ _ q (full_but_grown b) = awake s.entries (record (goes_on left.chain right.chain x) { stage = Due }) (λ z. cc) (λ z. cc)
       resting x at _ _ q (size_but_grown b) = awake s.entries (record (goes_on left.chain right.chain x) { stage = Due }) (λ z. cc) (λ z. cc)
       resting x at _ _ q (after_full b) =
-          let es : take t.front s.entries ≡ s.entries = take_of_length-le s.entries b in
+          let es : take t.front s.entries ≡ s.entries = take_of_length-le s.entries t.front b in
           let full = both_full left.stop right.stop (sym q) in
           let i : IsNormalIn m s.entries left.term = subst (λ z. IsNormalIn m z left.term) es (ends_full (live (take t.front s.entries)) 4096 l left.term left.chain.steps left.stop both.left_is.normalises full.0) in
           let k : IsNormalIn m s.entries right.term = subst (λ z. IsNormalIn m z right.term) es (ends_full (live (take t.front s.entries)) (4096 - length left.chain.steps) r right.term right.chain.steps right.stop both.right_is.normalises full.1) in
@@ -296,7 +296,7 @@ module _ (m : Meaning) where
             stuck = λ z. absurd (cc);
           }
       resting x at _ _ q (after_size b) =
-          let es : take t.front s.entries ≡ s.entries = take_of_length-le s.entries b in
+          let es : take t.front s.entries ≡ s.entries = take_of_length-le s.entries t.front b in
           record {
             settled = λ z. absurd (cc);
             stuck = λ z. (elim (one_large left.stop right.stop (sym q)) [

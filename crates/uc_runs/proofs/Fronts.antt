@@ -55,7 +55,7 @@ use Rattle.uc_fact.specs.declared.fact.Stop.TheVariants.{Full, Steps, Size}
 use Rattle.uc_fact.specs.Live.{Live, Rule, equations_of}
 use Rattle.uc_fact.specs.Ordered.{Falls, OStep, IsIrreducible}
 use Rattle.uc_rewrite.specs.declared.normal.Normal.{Normal}
-use Rattle.uc_rewrite.specs.Normalising.{Normalises, is_full, is_spent, is_large, goes_on, IsNormalOf}
+use Rattle.uc_rewrite.specs.Normalising.{Normalises, is_full, is_spent, is_large, goes_on as makes_step, IsNormalOf}
 use Rattle.uc_shelf.specs.Entries.{live}
 use Rattle.uc_machine.specs.declared.task.Finding.{Finding}
 use Rattle.uc_machine.specs.declared.task.Finding.TheVariants.{Kept as KeptFact}
@@ -65,22 +65,27 @@ use Rattle.uc_machine.specs.declared.task.Outcome.TheVariants.{Missing as Lacks}
 use Rattle.uc_fact.specs.Chains.{variables_of_chain, reversed}
 use Rattle.uc_machine.specs.Results.{Trial, way, names_of, made, IsTrial, GivesFact, left_is_greater, right_is_greater, none_is_greater, IsResult, goal_comes_to, more_comes_to, pair_is_joined, pair_is_kept, fact_is_stale, fact_meets}
 use Rattle.uc_machine.specs.Finals.{Tests, all_tested, is_joined, is_missing, IsFinal, some_missing, some_large, some_stuck, all_converges}
-use Rattle.uc_machine.proofs.Lists.{Each-map}
+use Rattle.uc_machine.proofs.Lists.{Each-map, Each-front, Each-behind}
 use Rattle.uc_machine.specs.Promises.{StandsBy, IsKeptOver, FrontsAreEarlier, Grew}
-use Rattle.uc_runs.proofs.Renumbered.{back_by, back_is, names_have, each_front, each_rest, renumbered_stands}
+use Rattle.uc_runs.proofs.Renumbered.{back_by, back_is, names_have, renumbered_stands}
 
 module _ (m : Meaning) (laws : Laws m) where
   normal_stands : (es : List Entry) (limit : ℕ) (t end : Tree) (steps : List Step) (stop : Stop) → Normalises m.greater m.least (live es) limit t steps end stop → StandsBy m es stop end
   normal_stands es limit t _ _ _ (is_full i) = i
   normal_stands es _ t _ _ _ (is_spent {v = v} {place = place} {rule = rule} f) = record { place = place; rule = rule; v = v; first = f }
   normal_stands es _ t _ _ _ (is_large {v = v} {place = place} {rule = rule} f l) = record { place = place; rule = rule; v = v; first = f; large = l }
-  normal_stands es _ t end _ stop (goes_on {limit = limit} {v = v} {steps = steps} f l n) = normal_stands es limit v end steps stop n
+  normal_stands es _ t end _ stop (makes_step {limit = limit} {v = v} {steps = steps} f l n) = normal_stands es limit v end steps stop n
 
-  left_names : (l r : Tree) (chain : Chain) → Each (λ (x : ℕ). is_name x (names_of l r chain) ≡ true) (variables l)
-  left_names l r chain = each_front (variables l) (variables r ++ variables_of_chain chain) (names_have (variables l ++ (variables r ++ variables_of_chain chain)))
+  abbrev IsNameOf : Tree → Tree → Chain → ℕ → Type 0
+  IsNameOf l r chain x = is_name x (names_of l r chain) ≡ true
 
-  right_names : (l r : Tree) (chain : Chain) → Each (λ (x : ℕ). is_name x (names_of l r chain) ≡ true) (variables r)
-  right_names l r chain = each_front (variables r) (variables_of_chain chain) (each_rest (variables l) (variables r ++ variables_of_chain chain) (names_have (variables l ++ (variables r ++ variables_of_chain chain))))
+  left_names : (l r : Tree) (chain : Chain) → Each (IsNameOf l r chain) (variables l)
+  left_names l r chain = Each-front (IsNameOf l r chain) (variables l) (variables r ++ variables_of_chain chain) (names_have (variables l ++ (variables r ++ variables_of_chain chain)))
+
+  right_names : (l r : Tree) (chain : Chain) → Each (IsNameOf l r chain) (variables r)
+  right_names l r chain =
+      let behind = Each-behind (IsNameOf l r chain) (variables l) (variables r ++ variables_of_chain chain) (names_have (variables l ++ (variables r ++ variables_of_chain chain))) in
+      Each-front (IsNameOf l r chain) (variables r) (variables_of_chain chain) behind
 
   made_over : (es : List Entry) (n : ℕ) → n ≤ length es → (oriented : Bool) (origin : Origin) (l r : Tree) (chain : Chain) (a b : Stop)
       → StandsBy m (take n es) a l → StandsBy m (take n es) b r → IsKeptOver m es (made oriented origin n l r chain a b)

@@ -60,7 +60,7 @@ one_pair axioms es _ _ _ c d (of_overlap {o = o} {a = a} {b = b} {l = l} {r = r}
 one_pair axioms es _ _ _ _ _ (of_dead {i = i} {f = f} a) (of_dead {f = g} b) = let q : f ≡ g = cc in (ap equation_of q, ap (λ (h : Fact). one_step (ByFact i) (equation_of h)) q)
 
 -- a trial from its parts
-trial_of : Equation → Chain → Normal → Normal → Joinable → Trial
+abbrev trial_of : Equation → Chain → Normal → Normal → Joinable → Trial
 trial_of e c l r a = record { equation = e; chain = c; left = l; right = r; answer = a }
 
 same_trial : (t u : Trial) → t.equation ≡ u.equation → t.chain ≡ u.chain → t.left ≡ u.left → t.right ≡ u.right → t.answer ≡ u.answer → t ≡ u
@@ -188,7 +188,7 @@ module _ (m : Meaning) (laws : Laws m) where
   one_all inners (outer ∷ outers) _ _ (next_outer {fs = u} {others = v} a b) (next_outer {fs = x} {others = y} c d) =
       ap₂ (λ k l. k ++ l) (one_of outer inners u x a c) (one_all inners outers v y b d)
 
-  missing_of : Origin → Fact → Joinable → Missing
+  abbrev missing_of : Origin → Fact → Joinable → Missing
   missing_of o f a = record { origin = o; fact = f; open_case = a }
 
   one_test : (axioms : List Equation) (es : List Entry) (os : List Origin) (ms ns : List Missing) → Tests m axioms es os ms → Tests m axioms es os ns → ms ≡ ns

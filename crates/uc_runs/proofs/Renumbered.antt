@@ -21,7 +21,7 @@ use Rattle.uc_shelf.specs.declared.entry.Entry.{Entry}
 use Rattle.uc_shelf.specs.Entries.{live}
 use Rattle.uc_machine.specs.Lists.{Each}
 use Rattle.uc_machine.specs.Promises.{StandsBy}
-use Rattle.uc_machine.proofs.Lists.{Each-map}
+use Rattle.uc_machine.proofs.Lists.{Each-map, Each-front, Each-behind}
 
 -- a term renumbered by names that it has gives it back
 
@@ -42,48 +42,52 @@ mutual
 
   back_all : (names : List ℕ) (ts : Trees) → Each (λ (x : ℕ). is_name x names ≡ true) (variables_all ts) → apply_all (back_by names) (apply_all (λ x. var (place_of names x)) ts) ≡ ts
   back_all names none h = refl
-  back_all names (more t ts) h = let p = each_split (variables t) (variables_all ts) h in both (back_is names t p.0) (back_all names ts p.1)
+  back_all names (more t ts) h =
+      both (back_is names t (Each-front (λ (x : ℕ). is_name x names ≡ true) (variables t) (variables_all ts) h)) (back_all names ts (Each-behind (λ (x : ℕ). is_name x names ≡ true) (variables t) (variables_all ts) h))
     where
-      each_split : {P : ℕ → Type 0} (xs ys : List ℕ) → Each P (xs ++ ys) → Each P xs × Each P ys
-      each_split [] ys h = (tt, h)
-      each_split (x ∷ xs) ys h = let r = each_split xs ys h.1 in ((h.0, r.0), r.1)
-
       both : {a b : Tree} {us vs : Trees} → a ≡ b → us ≡ vs → more a us ≡ more b vs
       both p q = cc
 
 -- the first occurrences have each number
 
-among_push : (x y : ℕ) (ys : List ℕ) → is_name x ys ≡ true → is_name x (y ∷ ys) ≡ true
-among_push x y ys h = elim (cases_Bool (x == y)) as (λ _. ((x == y) || is_name x ys) ≡ true) [ inl b ↦ rw b refl | inr b ↦ rw b h ]
+-- x is seen or comes
+abbrev Comes : List ℕ → List ℕ → ℕ → Type 0
+Comes seen coming x = (is_name x seen || is_name x coming) ≡ true
 
-firsts_have : (seen xs : List ℕ) → Each (λ (x : ℕ). (is_name x seen || is_name x (firsts_after seen xs)) ≡ true) xs
-firsts_have seen [] = tt
-firsts_have seen (y ∷ ys) = elim (cases_Bool (is_name y seen)) as (λ _. Each (λ (x : ℕ). (is_name x seen || is_name x (firsts_after seen (y ∷ ys))) ≡ true) (y ∷ ys)) [
-  | inl b ↦ rw b (rw b refl, firsts_have seen ys)
-  | inr b ↦ rw b (first_here b, Each-map (λ (x : ℕ) h. moved x (is_name x seen) (is_name x (firsts_after (y ∷ seen) ys)) h) ys (firsts_have (y ∷ seen) ys))
-]
+comes_later : (seen coming : List ℕ) (y x : ℕ) → Comes (y ∷ seen) coming x → Comes seen (y ∷ coming) x
+comes_later seen coming y x h = by_cases (x == y) (is_name x seen) (is_name x coming) h
   where
-    first_here : is_name y seen ≡ false → (is_name y seen || is_name y (y ∷ firsts_after (y ∷ seen) ys)) ≡ true
-    first_here b = rw b (rw (eq-eqb y y refl) refl)
+    by_cases : (c a b : Bool) → ((c || a) || b) ≡ true → (a || (c || b)) ≡ true
+    by_cases true true b h = refl
+    by_cases true false b h = refl
+    by_cases false a b h = h
 
-    moved : (x : ℕ) (a b : Bool) → (((x == y) || a) || b) ≡ true → (a || ((x == y) || b)) ≡ true
-    moved x a b h = by_cases (x == y) a b h
-      where
-        by_cases : (c a b : Bool) → ((c || a) || b) ≡ true → (a || (c || b)) ≡ true
-        by_cases true true b h = refl
-        by_cases true false b h = refl
-        by_cases false a b h = h
+comes_now : (seen coming : List ℕ) (y : ℕ) → Comes seen (y ∷ coming) y
+comes_now seen coming y = by_cases (y == y) (is_name y seen) (is_name y coming) (eq-eqb y y refl)
+  where
+    by_cases : (c a b : Bool) → c ≡ true → (a || (c || b)) ≡ true
+    by_cases true true b h = refl
+    by_cases true false b h = refl
+    by_cases false a b h = absurd (false≢true h)
+
+comes_seen : (seen coming : List ℕ) (y : ℕ) → is_name y seen ≡ true → Comes seen coming y
+comes_seen seen coming y h = by_cases (is_name y seen) (is_name y coming) h
+  where
+    by_cases : (a b : Bool) → a ≡ true → (a || b) ≡ true
+    by_cases true b h = refl
+    by_cases false b h = absurd (false≢true h)
+
+firsts_have_by : (seen ys : List ℕ) (y : ℕ) (b : Bool) → is_name y seen ≡ b → Each (Comes seen (firsts_after seen ys)) ys → Each (Comes (y ∷ seen) (firsts_after (y ∷ seen) ys)) ys
+    → Each (Comes seen (if b then firsts_after seen ys else y ∷ firsts_after (y ∷ seen) ys)) (y ∷ ys)
+firsts_have_by seen ys y true e here there = (comes_seen seen (firsts_after seen ys) y e, here)
+firsts_have_by seen ys y false e here there = (comes_now seen (firsts_after (y ∷ seen) ys) y, Each-map (comes_later seen (firsts_after (y ∷ seen) ys) y) ys there)
+
+firsts_have : (seen xs : List ℕ) → Each (Comes seen (firsts_after seen xs)) xs
+firsts_have seen [] = tt
+firsts_have seen (y ∷ ys) = firsts_have_by seen ys y (is_name y seen) refl (firsts_have seen ys) (firsts_have (y ∷ seen) ys)
 
 pub names_have : (xs : List ℕ) → Each (λ (x : ℕ). is_name x (firsts xs) ≡ true) xs
 names_have xs = firsts_have [] xs
-
-pub each_front : {P : ℕ → Type 0} (xs ys : List ℕ) → Each P (xs ++ ys) → Each P xs
-each_front [] ys h = tt
-each_front (x ∷ xs) ys h = (h.0, each_front xs ys h.1)
-
-pub each_rest : {P : ℕ → Type 0} (xs ys : List ℕ) → Each P (xs ++ ys) → Each P ys
-each_rest [] ys h = h
-each_rest (x ∷ xs) ys h = each_rest xs ys h.1
 
 head_is : (t u : Tree) (ts us : Trees) → more t ts ≡ more u us → t ≡ u
 head_is t u ts us e = cc

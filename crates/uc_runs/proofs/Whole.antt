@@ -93,7 +93,7 @@ in_numbered (x ∷ es) n zero m e h q =
 in_numbered (x ∷ es) n (suc k) m e h q = in_rest (in_numbered es (n + 1) k m e h (omega arith))
 
 in_live : (es : List Entry) (j : ℕ) (a : Fact) → slice_get (born es) j ≡ Some a → is_dead es j ≡ false → In (live es) (record { number = j; equation = equation_of a })
-in_live es j a at alive = in_filter (λ (f : Live). not (is_dead es f.number)) (numbered_from 0 (equations es)) (record { number = j; equation = equation_of a }) (in_numbered (equations es) 0 j j (equation_of a) (map-get equation_of (born es) j a at) refl) (rw alive refl)
+in_live es j a at alive = in_filter (λ (f : Live). not (is_dead es f.number)) (numbered_from 0 (equations es)) (record { number = j; equation = equation_of a }) (in_numbered (equations es) 0 j j (equation_of a) (map-get equation_of (born es) j a at) (omega arith)) (rw alive refl)
 
 -- numbers stay
 
