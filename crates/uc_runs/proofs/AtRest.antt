@@ -135,6 +135,11 @@ all_other : (gs hs : List Target) (j : Job) (out : List Out) → ((k : Job) → 
 all_other gs hs j [] f a b = tt
 all_other gs hs j (t ∷ ts) f a b = (f t.job a.0 b.0, all_other gs hs j ts f a.1 b.1)
 
+-- the goal of a task is out
+
+pub is_busy : (gs : List Target) (g : ℕ) → map_option (λ (x : Target). x.stage) (slice_get gs g) ≡ Some Busy → (x : Target) → slice_get gs g ≡ Some x → x.stage ≡ Busy
+is_busy gs g b x at = let c : map_option (λ (y : Target). y.stage) (Some x) ≡ Some Busy = rw at at b in cc
+
 -- stops
 
 both_full : (a b : Stop) → stop_of a b ≡ Full → (a ≡ Full) × (b ≡ Full)
@@ -209,7 +214,7 @@ module _ (m : Meaning) where
   rests_entry o e s a = record {
     rest = rest_woken (s.entries ++ e ∷ []) s.goals;
     ends = Each-map (λ (t : Out) b. job_ends_woken s.goals t.job b) s.out a.ends;
-    as_many = length-map wakes s.goals ∙ a.as_many;
+    as_many = length-map s.goals wakes ∙ a.as_many;
   }
 
   rests_publish : (o : Opening) (f : Fact) (s : State) → Rests o s → Rests o (publishes f s)
@@ -344,9 +349,6 @@ module _ (m : Meaning) where
   result_more axioms es _ _ (comes_stale a b) g x y c d stop e q = absurd (cc)
   result_more axioms es _ _ (comes_to_meet a b h k) g x y c d stop e q = absurd (cc)
 
-  pub is_busy : (gs : List Target) (g : ℕ) → map_option (λ (x : Target). x.stage) (slice_get gs g) ≡ Some Busy → (x : Target) → slice_get gs g ≡ Some x → x.stage ≡ Busy
-  is_busy gs g b x at = let c : map_option (λ (y : Target). y.stage) (Some x) ≡ Some Busy = rw at at b in cc
-
   rests_accepted : (o : Opening) (s : State) (t : Out) (h : Happening) → Rests o s → Rests o (accepts t h s)
   rests_accepted o s t h a = record { rest = a.rest; ends = rests_ended o s t.ticket a; as_many = a.as_many }
 
@@ -401,8 +403,8 @@ module _ (m : Meaning) where
   all_due es (g ∷ gs) = (awake es (goal_of g) (λ q. cc) (λ q. cc), all_due es gs)
 
   rests_starts : (o : Opening) (s : State) → Starts o s → Rests o s
-  rests_starts o _ (axioms_wait l) = record { rest = all_due [] o.goals; ends = tt; as_many = length-map goal_of o.goals }
-  rests_starts o _ (too_many_axioms l) = record { rest = all_due [] o.goals; ends = tt; as_many = length-map goal_of o.goals }
+  rests_starts o _ (axioms_wait l) = record { rest = all_due [] o.goals; ends = tt; as_many = length-map o.goals goal_of }
+  rests_starts o _ (too_many_axioms l) = record { rest = all_due [] o.goals; ends = tt; as_many = length-map o.goals goal_of }
 
   pub rests_reaches : (o : Opening) (s : State) → Reaches m o s → Rests o s
   rests_reaches o s (starts a) = rests_starts o s a

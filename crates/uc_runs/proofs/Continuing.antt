@@ -90,9 +90,9 @@ both_spent m es l r left right both e =
 
 -- what is kept
 
-record Going (gs : List Target) (out : List Out) (h : List Event) : Type 0 where
+record Going (gs : List Target) (outs : List Out) (h : List Event) : Type 0 where
   continued : (g : ℕ) (x : Target) → slice_get gs g ≡ Some x → x.stage ≡ Continued → WasSpent g h
-  out : Each (λ (t : Out). GoesOn h t.job) out
+  out : Each (λ (t : Out). GoesOn h t.job) outs
 
 abbrev IsGoing : State → Type 0
 IsGoing s = Going s.goals s.out s.history

@@ -42,7 +42,6 @@ use Rattle.uc_machine.specs.Promises.{Rising, WasDrawn, later_fact, IsOf}
 use Rattle.std.specs.Prelude.{get_or, if◌then◌else◌}
 use Rattle.std.proofs.lemmas.List.{take-append-le, length-take-le, length-append}
 use Rattle.std.proofs.Math.Seq.{take-length}
-use Rattle.uc_term.specs.Tree.{var, app, Trees, none, more, apply, apply_all}
 use Rattle.uc_term.specs.Variables.{variables, variables_all, is_among as is_name, firsts, firsts_after, place_of, renumbered_by}
 use Rattle.uc_term.specs.Within.{Within}
 use Rattle.uc_term.specs.Conversion.{Turn}

@@ -111,7 +111,7 @@ module _ (m : Meaning) where
       omega arith
 
   origins_grown : (axioms : List Equation) (es fs : List Entry) (ps : List Pair) → Grew es fs → Each (HasOrigin axioms es) ps → Each (HasOrigin axioms fs) ps
-  origins_grown axioms es fs ps g h = subst (λ (z : List Entry). Each (HasOrigin axioms z) ps) (sym g.is) (Each-map (λ (x : Pair) k ne. origin_more axioms es g.more x.origin (k ne)) ps h)
+  origins_grown axioms es fs ps g h = subst (λ (z : List Entry). Each (HasOrigin axioms z) ps) (sym g.is) (Each-map {P = HasOrigin axioms es} {Q = HasOrigin axioms (es ++ g.more)} (λ x k ne. origin_more axioms es g.more x.origin (k ne)) ps h)
 
   -- a pair that isn't too large changes its state
   origins_changed : (axioms : List Equation) (es : List Entry) (ps : List Pair) (c : Condition) (p : ℕ) → ((x : Pair) → slice_get ps p ≡ Some x → x.condition ≡ Large → ⊥) → Each (HasOrigin axioms es) ps → Each (HasOrigin axioms es) (change (λ (x : Pair). record x { condition = c }) ps p)
@@ -148,10 +148,6 @@ module _ (m : Meaning) where
   pairs_listed : (axioms : List Equation) (es fs : List Entry) (gs : List Formed) → Each (IsSmall es) gs → Each (HasOrigin axioms es) (map (pair_by fs) gs)
   pairs_listed axioms es fs [] h = tt
   pairs_listed axioms es fs (g ∷ gs) h = ((λ ne. h.0 (λ e. ne (ap (condition_by fs g.overlap) e))), pairs_listed axioms es fs gs h.1)
-
-  each_two : {P : Pair → Type 0} (xs ys : List Pair) → Each P xs → Each P ys → Each P (xs ++ ys)
-  each_two [] ys a b = b
-  each_two (x ∷ xs) ys a b = (a.0, each_two xs ys a.1 b)
 
   -- the calls
 
@@ -201,7 +197,7 @@ module _ (m : Meaning) where
   knows_visits : (o : Opening) (i n : ℕ) (ks : List ℕ) (fs : List Formed) (f : Fact) (x : State) → slice_get (born (take n x.entries)) i ≡ Some f → AreMeetings m (take n x.entries) i (equation_of f) (live (take n x.entries)) fs
       → Each (λ k. k < length (born x.entries)) ks → Knows o x → Knows o (visits i ks fs x)
   knows_visits o i n ks fs f x at meets low h =
-      each_two (each (kills i) ks x).pairs (map (pair_by (each (kills i) ks x).entries) fs)
+      Each-append (HasOrigin o.axioms ((each (kills i) ks x).entries)) (each (kills i) ks x).pairs (map (pair_by (each (kills i) ks x).entries) fs)
       (knows_each o i (length (born x.entries)) ks x low (omega arith) h)
       (origins_grown o.axioms (take n x.entries) ((each (kills i) ks x).entries) (map (pair_by (each (kills i) ks x).entries) fs) grown
       (pairs_listed o.axioms (take n x.entries) ((each (kills i) ks x).entries) fs (meeting_listed (take n x.entries) i f at (live (take n x.entries)) fs (live_named o.axioms (take n x.entries)) meets)))

@@ -108,18 +108,18 @@ module _ (axioms : List Equation) (facts : List Fact) where
     steps_renumbered names step.to steps a.1,
   )
 
-  named_further : (more : List Fact) (by : By) (e : Equation) → named axioms facts by ≡ Some e → named axioms (facts ++ more) by ≡ Some e
-  named_further more (ByAxiom k) e h = h
-  named_further more (ByFact k) e h = ap (λ (es : List Equation). slice_get es k) (map-append equation_of facts more) ∙ kept (map equation_of facts) (map equation_of more) k e h
+  named_further : (later : List Fact) (by : By) (e : Equation) → named axioms facts by ≡ Some e → named axioms (facts ++ later) by ≡ Some e
+  named_further later (ByAxiom k) e h = h
+  named_further later (ByFact k) e h = ap (λ (es : List Equation). slice_get es k) (map-append equation_of facts later) ∙ kept (map equation_of facts) (map equation_of later) k e h
     where
       kept : (xs ys : List Equation) (n : ℕ) (x : Equation) → slice_get xs n ≡ Some x → slice_get (xs ++ ys) n ≡ Some x
       kept [] ys n x e = absurd (cc)
       kept (y ∷ xs) ys zero x e = e
       kept (y ∷ xs) ys (suc n) x e = kept xs ys n x e
 
-  steps_further : (more : List Fact) (t : Tree) (steps : List Step) → AreReplacements axioms facts t steps → AreReplacements axioms (facts ++ more) t steps
-  steps_further more t [] a = tt
-  steps_further more t (step ∷ steps) a = (record { equation = a.0.equation; equation_is = named_further more step.by a.0.equation a.0.equation_is; replaces = a.0.replaces }, steps_further more step.to steps a.1)
+  steps_further : (later : List Fact) (t : Tree) (steps : List Step) → AreReplacements axioms facts t steps → AreReplacements axioms (facts ++ later) t steps
+  steps_further later t [] a = tt
+  steps_further later t (step ∷ steps) a = (record { equation = a.0.equation; equation_is = named_further later step.by a.0.equation a.0.equation_is; replaces = a.0.replaces }, steps_further later step.to steps a.1)
 
   -- chains
 
@@ -140,8 +140,8 @@ module _ (axioms : List Equation) (facts : List Fact) where
     replays = steps_renumbered names c.start c.steps a.replays;
   }
 
-  pub leads_further : (more : List Fact) (c : Chain) (u v : Tree) → LeadsFrom axioms facts c u v → LeadsFrom axioms (facts ++ more) c u v
-  leads_further more c u v a = record { start_is = a.start_is; end_is = a.end_is; replays = steps_further more c.start c.steps a.replays }
+  pub leads_further : (later : List Fact) (c : Chain) (u v : Tree) → LeadsFrom axioms facts c u v → LeadsFrom axioms (facts ++ later) c u v
+  leads_further later c u v a = record { start_is = a.start_is; end_is = a.end_is; replays = steps_further later c.start c.steps a.replays }
 
   leads_by_one : (by : By) (e : Equation) → named axioms facts by ≡ Some e → LeadsFrom axioms facts (one_step by e) e.left e.right
   leads_by_one by e h = record {
@@ -220,8 +220,7 @@ module _ (m : Meaning) (axioms : List Equation) (es : List Entry) where
     end_is = refl;
     replays = (
       record { equation = equation_of a; equation_is = map-get equation_of (born es) o.outer a x; replaces = by_other_side o.outer_side (equation_of a) l 0 q.top q.by_outer },
-      record { equation = equation_of b; equation_is = map-get equation_of (born es) o.inner b y; replaces = by_inner_side o.inner_side (equation_of b) q.top q.there r q.by_inner },
-      tt,
+      (record { equation = equation_of b; equation_is = map-get equation_of (born es) o.inner b y; replaces = by_inner_side o.inner_side (equation_of b) q.top q.there r q.by_inner }, tt),
     );
   })
 
