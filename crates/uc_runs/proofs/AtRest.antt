@@ -1,68 +1,49 @@
 -- In every state of a run a Settled goal's ends are irreducible by the facts that live now, and a Stuck goal has an end from
 -- which the next step is too large.
-use Rattle.std.proofs.Common.{◌≡◌, ℕ, zero, suc, ◌+◌, ◌-◌, ◌<◌, ◌≤◌, List, [], ◌∷◌, ◌++◌, length, Bool, true, false, cond, ◌==◌, Option, Some, None, refl, ap, sym, ◌∙◌, arith, inl, inr, append_assoc, subst, map, take, slice_get, ltb}
-use Rattle.std.specs.Prelude.{◌&&◌, ◌||◌, ◌⊎◌, ◌↔◌, count_by, nat_lt, replicate}
-use Rattle.std.proofs.lemmas.Bool.{cases_Bool, eqb-true, eqb-false, eq-eqb, ne_eqb, cases_eq, false≢true, or_parts, false_from_ne_true}
-use Rattle.std.proofs.lemmas.List.Sums.{sum_by-cons, sum_by_push}
-use Rattle.std.proofs.lemmas.List.{append-nil, length_push}
-use Rattle.std.specs.List.{sum_by}
+use Rattle.std.proofs.Common.{◌≡◌, ℕ, zero, suc, ◌+◌, ◌-◌, List, [], ◌∷◌, ◌++◌, length, false, ◌==◌, Some, refl, ap, sym, ◌∙◌, inl, inr, subst, map, take, slice_get}
+use Rattle.std.specs.Prelude.{◌⊎◌}
+use Rattle.std.proofs.lemmas.Bool.{cases_Bool, eqb-false}
 use Rattle.uc_term.specs.Tree.{Tree}
 use Rattle.uc_term.specs.declared.equation.Equation.{Equation}
-use Rattle.uc_term.specs.declared.equation.Side.{Side}
-use Rattle.uc_term.specs.declared.equation.Side.TheVariants.{Left, Right}
 use Rattle.uc_fact.specs.declared.chain.Chain.{Chain}
 use Rattle.uc_fact.specs.declared.fact.Fact.{Fact}
-use Rattle.uc_fact.specs.declared.fact.Overlap.{Overlap}
-use Rattle.uc_fact.specs.declared.fact.Origin.{Origin}
-use Rattle.uc_fact.specs.declared.fact.Origin.TheVariants.{Axiom, Overlap as OfOverlap, Revived}
 use Rattle.uc_fact.specs.declared.fact.Stop.{Stop}
-use Rattle.uc_pair.specs.declared.formed.Formed.{Formed}
-use Rattle.uc_queue.specs.declared.entry.Entry.{Entry as Place}
-use Rattle.uc_ledger.specs.declared.ledger.State.{State as Condition}
-use Rattle.uc_ledger.specs.declared.ledger.State.TheVariants.{Waiting, Out as OutTo, Done, Orphan, Large}
 use Rattle.uc_shelf.specs.declared.entry.Entry.{Entry}
 use Rattle.uc_shelf.specs.declared.entry.Entry.TheVariants.{Born, Dies}
 use Rattle.uc_shelf.specs.Entries.{born, is_dead}
-use Rattle.uc_machine.specs.declared.state.Meeting.{Meeting}
-use Rattle.uc_machine.specs.declared.state.Meeting.TheVariants.{Unmet, Visiting, Met}
 use Rattle.uc_machine.specs.declared.state.Stage.{Stage}
 use Rattle.uc_machine.specs.declared.state.Stage.TheVariants.{Due, Busy, Continued, Settled, Stuck}
-use Rattle.uc_machine.specs.declared.state.Numbers.{Numbers}
 use Rattle.uc_machine.specs.declared.event.Verdict.{Verdict}
-use Rattle.uc_machine.specs.declared.event.Event.{Event}
 use Rattle.uc_machine.specs.declared.event.GoalEnd.{GoalEnd}
 use Rattle.uc_machine.specs.declared.event.Happening.{Happening}
-use Rattle.uc_machine.specs.declared.event.Happening.TheVariants.{DrawGoal, DrawMore, DrawMeet, DrawJoin, CommitGoal, CommitMore, CommitMeet, CommitJoined, CommitKept, CommitLate, Dropped, ReclaimGoal, ReclaimMore, ReclaimMeet, ReclaimJoin, AuditKept, Close}
+use Rattle.uc_machine.specs.declared.event.Happening.TheVariants.{CommitGoal, CommitMore, CommitMeet, CommitJoined, CommitKept, CommitLate}
 use Rattle.uc_machine.specs.declared.task.Job.{Job}
 use Rattle.uc_machine.specs.declared.task.Job.TheVariants.{Goal, More, Meet, Join}
-use Rattle.uc_machine.specs.Lists.{At, first, later, change, each, Each, map_option}
-use Rattle.uc_machine.specs.State.{Opening, State, Pair, Target, Out, dead_of, is_draw, draws_in, is_unit, out_at, without, is_waiting, queue_from, queue, peek, is_due, is_continued, is_unmet}
-use Rattle.uc_machine.specs.Effects.{records, closes, ending_of, publishes, enters, appends, dies, kills, settles, turns, stages, hands_out, takes, ends, restores, reclaim_event, reclaims, recalls, draw_event, wakes, wakes_stage, meets_unmet, unit_of, one_drawn, one_commit, one_reclaim, sides_weight, numbers_rise, task_for, drops, accepts, takes_ends, goes_on, is_met, pair_by, forms, visits, keeps}
-use Rattle.uc_machine.specs.Events.{units, units_after, unit_in, unit_draw, is_unit_draw, draw_in, draws_by, commits_by, reclaims_by, out_to, numbers_of, is_commit_what, is_reclaim_what, ending_in, ended_after, ended_by}
-use Rattle.uc_machine.specs.Promises.{Rising, WasDrawn, later_fact, IsOf}
+use Rattle.uc_machine.specs.Lists.{At, first, change, each, Each, map_option}
+use Rattle.uc_machine.specs.State.{Opening, State, Target, Out, out_at, without, is_due, is_continued}
+use Rattle.uc_machine.specs.Effects.{publishes, enters, kills, ends, reclaims, wakes, wakes_stage, task_for, drops, accepts, goes_on, visits}
 use Rattle.std.proofs.lemmas.List.{length-map}
 use Rattle.uc_term.proofs.Terms.{take_of_length-le}
 use Rattle.uc_order.specs.Laws.{Meaning}
 use Rattle.uc_fact.specs.declared.chain.Step.{Step}
 use Rattle.uc_fact.specs.declared.fact.Stop.TheVariants.{Full, Steps, Size}
 use Rattle.uc_fact.specs.Chains.{last_term, end_of, followed_by}
-use Rattle.uc_fact.specs.Live.{Live, Rule, equations_of}
+use Rattle.uc_fact.specs.Live.{Live, equations_of}
 use Rattle.uc_fact.specs.Ordered.{IsIrreducible}
 use Rattle.uc_rewrite.specs.declared.normal.Normal.{Normal}
-use Rattle.uc_rewrite.specs.Normalising.{Normalises, is_full, is_spent, is_large, goes_on as makes_step, FirstStep}
+use Rattle.uc_rewrite.specs.Normalising.{Normalises, is_full, is_spent, is_large, goes_on as makes_step}
 use Rattle.uc_shelf.specs.Entries.{live}
 use Rattle.uc_machine.specs.declared.task.Finding.{Finding}
 use Rattle.uc_machine.specs.declared.task.Finding.TheVariants.{Ends}
-use Rattle.uc_machine.specs.declared.task.Missing.{Missing}
 use Rattle.uc_machine.specs.declared.task.Outcome.{Outcome}
 use Rattle.uc_machine.specs.Draws.{Reply, with_ends, Draws, verdict_stands, goal_is_due, fact_is_unmet, orphan_is_dropped, goal_is_continued, pair_is_drawn, budget_is_out, budget_is_spent, all_is_out, all_is_done}
 use Rattle.uc_machine.specs.Commits.{GoalEnds, ends_meet, ends_differ, StageAfter, after_steps, full_but_grown, size_but_grown, after_full, after_size, Meets, within_limit, past_limit, newly_waiting, stays, Commits, is_late, goal_ends, more_ends, pair_joins, fact_is_kept, fact_is_stale, fact_is_dead, fact_meets}
 use Rattle.uc_machine.specs.Results.{NormaliseBoth, stop_of, IsResult, goal_comes_to, more_comes_to, pair_is_joined, pair_is_kept, fact_is_stale as comes_stale, fact_meets as comes_to_meet}
 use Rattle.uc_machine.specs.Runs.{goal_of, Starts, axioms_wait, too_many_axioms, AuditReply, Audits, is_closed, is_spent, is_kept, Closes, converges, has_large, has_stuck, Reaches, starts, draws_on, commits_on, reclaims_on, recalls_on, audits_on, closes_on}
 use Rattle.uc_machine.specs.Promises.{IsStuckIn, StaysAtRest, GoalsAtRest, IsNormalIn}
-use Rattle.uc_machine.proofs.Kept.{Kept, IsBusy, is_same, Apart}
+use Rattle.uc_machine.proofs.Kept.{Kept, IsBusy, is_same}
 use Rattle.uc_machine.proofs.Lists.{Each-map, Each-push, Each-without, Each-at, get-changed, get-change_same, get-change_other, length-change}
-use Rattle.uc_machine.proofs.Found.{IsFound, first_is}
+use Rattle.uc_machine.proofs.Found.{first_is}
 use Rattle.uc_machine.proofs.Blocks.{apart_from}
 use Rattle.uc_machine.proofs.Steps.{at_task}
 use Rattle.uc_machine.proofs.Runs.{kept_reaches}

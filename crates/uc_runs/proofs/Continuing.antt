@@ -1,5 +1,5 @@
 -- In every state of a run the last commit of a Continued goal made exactly 4,096 steps, a further one being possible.
-use Rattle.std.proofs.Common.{◌≡◌, ℕ, zero, suc, ◌+◌, ◌-◌, ◌<◌, ◌≤◌, List, [], ◌∷◌, ◌++◌, length, Bool, true, false, cond, ◌==◌, Option, Some, None, refl, ap, sym, ◌∙◌, arith, inl, inr, subst, map, take, slice_get}
+use Rattle.std.proofs.Common.{◌≡◌, ℕ, zero, suc, ◌+◌, ◌-◌, ◌≤◌, List, [], ◌∷◌, ◌++◌, length, true, false, cond, ◌==◌, Option, Some, None, refl, ap, sym, ◌∙◌, arith, inl, inr, subst, map, take, slice_get}
 use Rattle.std.specs.Prelude.{◌⊎◌}
 use Rattle.std.proofs.lemmas.Bool.{cases_Bool, eqb-false, eq-eqb, ne_eqb, cases_eq, false≢true}
 use Rattle.uc_term.specs.declared.equation.Equation.{Equation}
@@ -14,28 +14,25 @@ use Rattle.uc_fact.specs.Live.{Live}
 use Rattle.uc_rewrite.specs.declared.normal.Normal.{Normal}
 use Rattle.uc_rewrite.specs.Normalising.{Normalises, is_full, is_spent as has_spent, is_large, goes_on as makes_step}
 use Rattle.uc_shelf.specs.declared.entry.Entry.{Entry}
-use Rattle.uc_shelf.specs.declared.entry.Entry.TheVariants.{Born, Dies}
 use Rattle.uc_shelf.specs.Entries.{is_dead, live}
 use Rattle.uc_machine.specs.declared.state.Stage.{Stage}
 use Rattle.uc_machine.specs.declared.state.Stage.TheVariants.{Due, Busy, Continued, Settled, Stuck}
 use Rattle.uc_machine.specs.declared.event.Event.{Event}
 use Rattle.uc_machine.specs.declared.event.Verdict.{Verdict}
 use Rattle.uc_machine.specs.declared.event.GoalEnd.{GoalEnd}
-use Rattle.uc_machine.specs.declared.event.GoalEnd.TheVariants.{Met as EndsMet, Full as EndsFull, Steps as EndsSteps, Size as EndsSize}
+use Rattle.uc_machine.specs.declared.event.GoalEnd.TheVariants.{Met as EndsMet, Steps as EndsSteps}
 use Rattle.uc_machine.specs.declared.event.Happening.{Happening}
 use Rattle.uc_machine.specs.declared.event.Happening.TheVariants.{CommitGoal, CommitMore, CommitMeet}
 use Rattle.uc_machine.specs.declared.task.Finding.{Finding}
 use Rattle.uc_machine.specs.declared.task.Finding.TheVariants.{Ends}
 use Rattle.uc_machine.specs.declared.task.Job.{Job}
 use Rattle.uc_machine.specs.declared.task.Job.TheVariants.{Goal, More, Meet, Join}
-use Rattle.uc_machine.specs.declared.task.Missing.{Missing}
 use Rattle.uc_machine.specs.declared.task.Outcome.{Outcome}
-use Rattle.uc_fact.specs.Chains.{end_of}
 use Rattle.uc_machine.specs.Commits.{GoalEnds, ends_meet, ends_differ, StageAfter, after_steps, full_but_grown, size_but_grown, after_full, after_size, Meets, within_limit, past_limit, newly_waiting, stays, steps_of, end_word, Commits, is_late, goal_ends, more_ends, pair_joins, fact_is_kept, fact_is_stale, fact_is_dead, fact_meets}
 use Rattle.uc_machine.specs.Draws.{Reply, with_ends, Draws, verdict_stands, goal_is_due, fact_is_unmet, orphan_is_dropped, goal_is_continued, pair_is_drawn, budget_is_out, budget_is_spent, all_is_out, all_is_done}
-use Rattle.uc_machine.specs.Effects.{wakes, wakes_stage, kills, dies, visits, drops, accepts, is_met, goes_on, task_for, hands_out, draw_event, records, closes, ending_of, reclaims, reclaim_event}
+use Rattle.uc_machine.specs.Effects.{wakes, wakes_stage, kills, visits, drops, goes_on, task_for, draw_event, reclaims}
 use Rattle.uc_machine.specs.Events.{GoalCommit, goal_commit, else_this, last_commit}
-use Rattle.uc_machine.specs.Lists.{At, change, each, Each}
+use Rattle.uc_machine.specs.Lists.{change, each, Each}
 use Rattle.uc_machine.specs.Promises.{WasSpent, GoesOn, MoresGoOn}
 use Rattle.uc_machine.specs.Results.{NormaliseBoth, stop_of, IsResult}
 use Rattle.uc_machine.specs.Runs.{goal_of, Starts, axioms_wait, too_many_axioms, AuditReply, Audits, is_closed, is_spent, is_kept, Closes, converges, has_large, has_stuck, Reaches, starts, draws_on, commits_on, reclaims_on, recalls_on, audits_on, closes_on}

@@ -1,60 +1,24 @@
 -- A kept fact's front is earlier than its birth, and a side whose stop is Full is irreducible there.
-use Rattle.std.proofs.Common.{◌≡◌, ℕ, zero, suc, ◌+◌, ◌-◌, ◌<◌, ◌≤◌, List, [], ◌∷◌, ◌++◌, length, Bool, true, false, cond, ◌==◌, Option, Some, None, refl, ap, sym, ◌∙◌, arith, inl, inr, append_assoc, subst, map, take, slice_get, ltb}
-use Rattle.std.specs.Prelude.{◌&&◌, ◌||◌, ◌⊎◌, ◌↔◌, count_by, nat_lt, replicate}
-use Rattle.std.proofs.lemmas.Bool.{cases_Bool, eqb-true, eqb-false, eq-eqb, ne_eqb, cases_eq, false≢true, or_parts, false_from_ne_true}
-use Rattle.std.proofs.lemmas.List.Sums.{sum_by-cons, sum_by_push}
-use Rattle.std.proofs.lemmas.List.{append-nil, length_push}
-use Rattle.std.specs.List.{sum_by}
+use Rattle.std.proofs.Common.{◌≡◌, ℕ, zero, suc, ◌+◌, ◌-◌, ◌<◌, ◌≤◌, List, [], ◌∷◌, ◌++◌, length, Bool, true, false, Some, refl, ap, sym, ◌∙◌, arith, inl, inr, subst, take, slice_get}
+use Rattle.std.specs.Prelude.{◌⊎◌}
 use Rattle.uc_term.specs.Tree.{Tree}
 use Rattle.uc_term.specs.declared.equation.Equation.{Equation}
-use Rattle.uc_term.specs.declared.equation.Side.{Side}
-use Rattle.uc_term.specs.declared.equation.Side.TheVariants.{Left, Right}
 use Rattle.uc_fact.specs.declared.chain.Chain.{Chain}
 use Rattle.uc_fact.specs.declared.fact.Fact.{Fact}
-use Rattle.uc_fact.specs.declared.fact.Overlap.{Overlap}
 use Rattle.uc_fact.specs.declared.fact.Origin.{Origin}
-use Rattle.uc_fact.specs.declared.fact.Origin.TheVariants.{Axiom, Overlap as OfOverlap, Revived}
 use Rattle.uc_fact.specs.declared.fact.Stop.{Stop}
-use Rattle.uc_pair.specs.declared.formed.Formed.{Formed}
-use Rattle.uc_queue.specs.declared.entry.Entry.{Entry as Place}
-use Rattle.uc_ledger.specs.declared.ledger.State.{State as Condition}
-use Rattle.uc_ledger.specs.declared.ledger.State.TheVariants.{Waiting, Out as OutTo, Done, Orphan, Large}
 use Rattle.uc_shelf.specs.declared.entry.Entry.{Entry}
 use Rattle.uc_shelf.specs.declared.entry.Entry.TheVariants.{Born, Dies}
-use Rattle.uc_shelf.specs.Entries.{born, is_dead}
-use Rattle.uc_machine.specs.declared.state.Meeting.{Meeting}
-use Rattle.uc_machine.specs.declared.state.Meeting.TheVariants.{Unmet, Visiting, Met}
-use Rattle.uc_machine.specs.declared.state.Stage.{Stage}
-use Rattle.uc_machine.specs.declared.state.Stage.TheVariants.{Due, Busy, Continued, Settled, Stuck}
-use Rattle.uc_machine.specs.declared.state.Numbers.{Numbers}
-use Rattle.uc_machine.specs.declared.event.Verdict.{Verdict}
-use Rattle.uc_machine.specs.declared.event.Event.{Event}
-use Rattle.uc_machine.specs.declared.event.GoalEnd.{GoalEnd}
-use Rattle.uc_machine.specs.declared.event.Happening.{Happening}
-use Rattle.uc_machine.specs.declared.event.Happening.TheVariants.{DrawGoal, DrawMore, DrawMeet, DrawJoin, CommitGoal, CommitMore, CommitMeet, CommitJoined, CommitKept, CommitLate, Dropped, ReclaimGoal, ReclaimMore, ReclaimMeet, ReclaimJoin, AuditKept, Close}
 use Rattle.uc_machine.specs.declared.task.Job.{Job}
-use Rattle.uc_machine.specs.declared.task.Job.TheVariants.{Goal, More, Meet, Join}
-use Rattle.uc_machine.specs.Lists.{At, first, later, change, each, Each, map_option}
-use Rattle.uc_machine.specs.State.{Opening, State, Pair, Target, Out, dead_of, is_draw, draws_in, is_unit, out_at, without, is_waiting, queue_from, queue, peek, is_due, is_continued, is_unmet}
-use Rattle.uc_machine.specs.Effects.{records, closes, ending_of, publishes, enters, appends, dies, kills, settles, turns, stages, hands_out, takes, ends, restores, reclaim_event, reclaims, recalls, draw_event, wakes, wakes_stage, meets_unmet, unit_of, one_drawn, one_commit, one_reclaim, sides_weight, numbers_rise, task_for, drops, accepts, takes_ends, goes_on, is_met, pair_by, forms, visits, keeps}
-use Rattle.uc_machine.specs.Events.{units, units_after, unit_in, unit_draw, is_unit_draw, draw_in, draws_by, commits_by, reclaims_by, out_to, numbers_of, is_commit_what, is_reclaim_what, ending_in, ended_after, ended_by}
-use Rattle.uc_machine.specs.Promises.{Rising, WasDrawn, later_fact, IsOf}
-use Rattle.std.specs.Prelude.{get_or, if◌then◌else◌}
+use Rattle.uc_machine.specs.Lists.{first, Each}
+use Rattle.uc_machine.specs.State.{State}
 use Rattle.std.proofs.lemmas.List.{take-append-le, length-take-le, length-append}
 use Rattle.std.proofs.Math.Seq.{take-length}
-use Rattle.uc_term.specs.Variables.{variables, variables_all, is_among as is_name, firsts, firsts_after, place_of, renumbered_by}
-use Rattle.uc_term.specs.Within.{Within}
-use Rattle.uc_term.specs.Conversion.{Turn}
-use Rattle.uc_term.proofs.Terms.{apply-apply}
-use Rattle.uc_term.proofs.Conversion.{Within-apply}
+use Rattle.uc_term.specs.Variables.{variables, is_among as is_name}
 use Rattle.uc_order.specs.Laws.{Meaning, Laws}
 use Rattle.uc_order.specs.Members.{In, in_front, in_rest}
 use Rattle.uc_fact.specs.declared.chain.Step.{Step}
-use Rattle.uc_fact.specs.declared.fact.Stop.TheVariants.{Full, Steps, Size}
-use Rattle.uc_fact.specs.Live.{Live, Rule, equations_of}
-use Rattle.uc_fact.specs.Ordered.{Falls, OStep, IsIrreducible}
-use Rattle.uc_rewrite.specs.declared.normal.Normal.{Normal}
-use Rattle.uc_rewrite.specs.Normalising.{Normalises, is_full, is_spent, is_large, goes_on as makes_step, IsNormalOf}
+use Rattle.uc_rewrite.specs.Normalising.{Normalises, is_full, is_spent, is_large, goes_on as makes_step}
 use Rattle.uc_shelf.specs.Entries.{live}
 use Rattle.uc_machine.specs.declared.task.Finding.{Finding}
 use Rattle.uc_machine.specs.declared.task.Finding.TheVariants.{Kept as KeptFact}
@@ -64,9 +28,9 @@ use Rattle.uc_machine.specs.declared.task.Outcome.TheVariants.{Missing as Lacks}
 use Rattle.uc_fact.specs.Chains.{variables_of_chain, reversed}
 use Rattle.uc_machine.specs.Results.{Trial, way, names_of, made, IsTrial, GivesFact, left_is_greater, right_is_greater, none_is_greater, IsResult, goal_comes_to, more_comes_to, pair_is_joined, pair_is_kept, fact_is_stale, fact_meets}
 use Rattle.uc_machine.specs.Finals.{Tests, all_tested, is_joined, is_missing, IsFinal, some_missing, some_large, some_stuck, all_converges}
-use Rattle.uc_machine.proofs.Lists.{Each-map, Each-front, Each-behind}
-use Rattle.uc_machine.specs.Promises.{StandsBy, IsKeptOver, FrontsAreEarlier, Grew}
-use Rattle.uc_runs.proofs.Renumbered.{back_by, back_is, names_have, renumbered_stands}
+use Rattle.uc_machine.proofs.Lists.{Each-front, Each-behind}
+use Rattle.uc_machine.specs.Promises.{StandsBy, IsKeptOver, Grew}
+use Rattle.uc_runs.proofs.Renumbered.{names_have, renumbered_stands}
 
 module _ (m : Meaning) (laws : Laws m) where
   normal_stands : (es : List Entry) (limit : ℕ) (t end : Tree) (steps : List Step) (stop : Stop) → Normalises m.greater m.least (live es) limit t steps end stop → StandsBy m es stop end

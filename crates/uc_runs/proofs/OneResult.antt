@@ -1,5 +1,5 @@
 -- A task has one result over the entries of its front, and the final pass one answer.
-use Rattle.std.proofs.Common.{◌≡◌, ℕ, ◌+◌, ◌-◌, ◌<◌, ◌≤◌, List, [], ◌∷◌, ◌++◌, length, Bool, true, false, Option, Some, None, refl, ap, ap₂, sym, ◌∙◌, arith, subst, slice_get}
+use Rattle.std.proofs.Common.{◌≡◌, ℕ, ◌+◌, ◌-◌, ◌≤◌, List, [], ◌∷◌, ◌++◌, length, Option, Some, None, refl, ap, ap₂, sym, ◌∙◌, arith, subst}
 use Rattle.uc_term.specs.declared.equation.Equation.{Equation}
 use Rattle.uc_term.specs.Tree.{Tree}
 use Rattle.uc_order.specs.Laws.{Meaning, Laws}
@@ -8,18 +8,15 @@ use Rattle.uc_fact.specs.declared.chain.By.TheVariants.{Axiom as ByAxiom, Fact a
 use Rattle.uc_fact.specs.declared.fact.Fact.{Fact}
 use Rattle.uc_fact.specs.declared.fact.Origin.{Origin}
 use Rattle.uc_fact.specs.declared.fact.Overlap.{Overlap}
-use Rattle.uc_fact.specs.declared.fact.Stop.{Stop}
-use Rattle.uc_fact.specs.declared.fact.System.{System}
 use Rattle.uc_fact.specs.declared.joinable.Joinable.{Joinable}
 use Rattle.uc_fact.specs.declared.joinable.Joinable.TheVariants.{Joined as IsJoinedBy}
 use Rattle.uc_fact.specs.declared.joinable.Reason.{Reason}
-use Rattle.uc_fact.specs.Live.{Live, equation_of, equations_of}
+use Rattle.uc_fact.specs.Live.{Live, equation_of}
 use Rattle.uc_rewrite.specs.declared.normal.Normal.{Normal}
 use Rattle.uc_rewrite.proofs.Unique.{one_normal}
 use Rattle.uc_pair.specs.declared.formation.Formation.{Formation}
 use Rattle.uc_pair.specs.declared.formation.Formation.TheVariants.{Pair as Forms}
 use Rattle.uc_pair.specs.declared.formed.Formed.{Formed}
-use Rattle.uc_pair.specs.Listing.{AreOverlaps}
 use Rattle.uc_pair.specs.Overlapping.{read_from}
 use Rattle.uc_pair.specs.Pairs.{IsPairOf}
 use Rattle.uc_pair.proofs.OnePair.{one_formation}
@@ -28,17 +25,17 @@ use Rattle.uc_rewrite.specs.Normalising.{IsNormalOf}
 use Rattle.uc_ground.specs.Joining.{IsAnswer, IsJoined}
 use Rattle.uc_ground.proofs.Unique.{one_answer}
 use Rattle.uc_shelf.specs.declared.entry.Entry.{Entry}
-use Rattle.uc_shelf.specs.Entries.{born, live}
+use Rattle.uc_shelf.specs.Entries.{live}
 use Rattle.uc_machine.specs.declared.task.Finding.{Finding}
 use Rattle.uc_machine.specs.declared.task.Finding.TheVariants.{Ends, Joined, Kept, Stale, Met}
 use Rattle.uc_machine.specs.declared.task.Job.{Job}
 use Rattle.uc_machine.specs.declared.task.Missing.{Missing}
 use Rattle.uc_machine.specs.declared.task.Outcome.{Outcome}
-use Rattle.uc_machine.specs.declared.task.Outcome.TheVariants.{Convergent, Missing as Lacks, Large, GoalUnsettled}
+use Rattle.uc_machine.specs.declared.task.Outcome.TheVariants.{Missing as Lacks, Large, GoalUnsettled}
 use Rattle.uc_fact.specs.Chains.{one_step}
-use Rattle.uc_machine.specs.Finals.{OverlapsOf, no_inner, next_inner, AllOverlaps, no_outer, next_outer, Tests, all_tested, is_joined, is_missing, TestsAll, axioms_from, small_ones, first_large, first_stuck, IsFinal, some_missing, some_large, some_stuck, all_converges}
+use Rattle.uc_machine.specs.Finals.{OverlapsOf, no_inner, next_inner, AllOverlaps, no_outer, next_outer, Tests, all_tested, is_joined, is_missing, TestsAll, axioms_from, small_ones, first_large, IsFinal, some_missing, some_large, some_stuck, all_converges}
 use Rattle.uc_machine.specs.Lists.{At}
-use Rattle.uc_machine.specs.Results.{stop_of, Trial, IsPair, of_axiom, of_overlap, of_dead, NormaliseBoth, IsTrial, GivesFact, left_is_greater, right_is_greater, none_is_greater, Reduces, IsStaleBy, IsFresh, AreKills, no_facts, kills_it, spares_it, is_no_earlier, AreMeetings, with_itself, with_earlier, not_with_later, IsResult, goal_comes_to, more_comes_to, pair_is_joined, pair_is_kept, fact_is_stale, fact_meets}
+use Rattle.uc_machine.specs.Results.{stop_of, Trial, IsPair, of_axiom, of_overlap, of_dead, NormaliseBoth, IsTrial, GivesFact, left_is_greater, right_is_greater, none_is_greater, IsStaleBy, AreKills, no_facts, kills_it, spares_it, is_no_earlier, AreMeetings, with_itself, with_earlier, not_with_later, IsResult, goal_comes_to, more_comes_to, pair_is_joined, pair_is_kept, fact_is_stale, fact_meets}
 use Rattle.uc_machine.specs.State.{State, Target}
 
 -- pairs

@@ -1,5 +1,5 @@
 -- In every state of a run the pairs that aren't too large come from what is there.
-use Rattle.std.proofs.Common.{◌≡◌, ℕ, zero, suc, ◌+◌, ◌<◌, ◌≤◌, List, [], ◌∷◌, ◌++◌, length, Bool, true, false, cond, ◌==◌, Option, Some, None, refl, ap, sym, ◌∙◌, arith, inl, inr, append_assoc, subst, map, take, drop, slice_get}
+use Rattle.std.proofs.Common.{◌≡◌, ℕ, zero, suc, ◌+◌, ◌<◌, ◌≤◌, List, [], ◌∷◌, ◌++◌, length, true, ◌==◌, Some, refl, ap, sym, ◌∙◌, arith, inl, inr, append_assoc, subst, map, take, drop, slice_get}
 use Rattle.std.proofs.lemmas.Bool.{cases_Bool, eq-eqb}
 use Rattle.std.proofs.lemmas.List.{take-append-drop, length-append}
 use Rattle.uc_term.specs.declared.equation.Equation.{Equation}
@@ -9,10 +9,8 @@ use Rattle.uc_order.specs.Members.{In, in_front, in_rest}
 use Rattle.uc_fact.specs.declared.fact.Fact.{Fact}
 use Rattle.uc_fact.specs.declared.fact.Origin.{Origin}
 use Rattle.uc_fact.specs.declared.fact.Origin.TheVariants.{Axiom, Overlap as OfOverlap, Revived}
-use Rattle.uc_fact.specs.declared.fact.Overlap.{Overlap}
 use Rattle.uc_fact.specs.Live.{Live, equation_of}
 use Rattle.uc_pair.specs.declared.formed.Formed.{Formed}
-use Rattle.uc_pair.specs.declared.formed.Size.{Size}
 use Rattle.uc_pair.specs.declared.formed.Size.TheVariants.{Large as TooLarge}
 use Rattle.uc_pair.specs.Listing.{AreOverlaps}
 use Rattle.uc_ledger.specs.declared.ledger.State.{State as Condition}
@@ -43,16 +41,16 @@ use Rattle.uc_machine.specs.Runs.{axiom_pairs, Starts, axioms_wait, too_many_axi
 use Rattle.uc_machine.specs.declared.state.Meeting.TheVariants.{Visiting}
 use Rattle.uc_machine.specs.State.{Opening, State, Pair, Out, out_at, without, peek}
 use Rattle.uc_machine.proofs.Blocks.{born-append}
-use Rattle.uc_machine.proofs.Calls.{place_waits, MeetsRightly, out_restored}
+use Rattle.uc_machine.proofs.Calls.{place_waits, out_restored}
 use Rattle.uc_machine.proofs.Found.{peek_is}
 use Rattle.uc_machine.proofs.Grows.{kills_grew, each_grew}
 use Rattle.uc_machine.proofs.Kept.{Kept, IsBusy}
 use Rattle.uc_machine.proofs.Lists.{get-append, below, Each-map, Each-push}
-use Rattle.uc_machine.proofs.Meetings.{IsOfFacts, OfBoth, facts_differ, Each-append}
+use Rattle.uc_machine.proofs.Meetings.{IsOfFacts, facts_differ, Each-append}
 use Rattle.uc_runs.proofs.Replayed.{live_named}
 use Rattle.uc_machine.proofs.Runs.{kept_reaches, result_meets}
 use Rattle.uc_machine.proofs.Steps.{at_task, kept_reclaim, Each-both}
-use Rattle.uc_runs.proofs.Whole.{IsMeeting, result_lists}
+use Rattle.uc_runs.proofs.Whole.{result_lists}
 
 -- pairs that aren't too large
 

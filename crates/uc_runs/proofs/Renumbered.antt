@@ -1,5 +1,5 @@
 -- What a term can do next is kept when its variables are renumbered.
-use Rattle.std.proofs.Common.{◌≡◌, ℕ, zero, suc, ◌+◌, ◌<◌, ◌≤◌, List, [], ◌∷◌, ◌++◌, length, Bool, true, false, ◌==◌, Option, Some, None, refl, ap, sym, ◌∙◌, arith, inl, inr, subst}
+use Rattle.std.proofs.Common.{◌≡◌, ℕ, suc, ◌+◌, ◌<◌, List, [], ◌∷◌, Bool, true, false, ◌==◌, refl, ap, sym, ◌∙◌, arith, inl, inr, subst}
 use Rattle.std.specs.Prelude.{◌||◌, get_or, if◌then◌else◌}
 use Rattle.std.proofs.lemmas.Bool.{cases_Bool, eqb-true, eq-eqb, false≢true}
 use Rattle.uc_term.specs.declared.node.Sym.{Sym}
@@ -13,7 +13,7 @@ use Rattle.uc_order.specs.Laws.{Meaning, Laws}
 use Rattle.uc_fact.specs.declared.fact.Stop.{Stop}
 use Rattle.uc_fact.specs.declared.fact.Stop.TheVariants.{Full, Steps, Size}
 use Rattle.uc_fact.specs.Live.{Live, Rule, rules_of, equations_of}
-use Rattle.uc_fact.specs.Ordered.{Falls, OStep, AreIrreducible, IsIrreducible, IsIrreducibleBelow}
+use Rattle.uc_fact.specs.Ordered.{Falls, OStep, IsIrreducible, IsIrreducibleBelow}
 use Rattle.uc_rewrite.specs.Normalising.{Makes, FirstRule, this_rule, later_rule, FirstStep, in_arguments, at_the_term, FirstStepAmong, in_this, in_another}
 use Rattle.uc_pair.specs.Reading.{renamed, renamed_all}
 use Rattle.uc_pair.proofs.Names.{renamed_nodes}

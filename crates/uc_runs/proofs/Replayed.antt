@@ -1,13 +1,13 @@
 -- Chains that replay: put together, gone back, renumbered, of normal forms, of pairs, and of the facts that tasks give.
-use Rattle.std.proofs.Common.{◌≡◌, ℕ, zero, suc, ◌+◌, ◌-◌, ◌<◌, ◌≤◌, List, [], ◌∷◌, ◌++◌, length, Bool, true, false, Option, Some, None, refl, ap, sym, ◌∙◌, arith, subst, map, slice_get}
-use Rattle.std.specs.Prelude.{not, filter}
+use Rattle.std.proofs.Common.{◌≡◌, ℕ, zero, suc, ◌+◌, ◌-◌, List, [], ◌∷◌, ◌++◌, length, Bool, true, false, Some, refl, ap, sym, ◌∙◌, arith, subst, map, slice_get}
+use Rattle.std.specs.Prelude.{not}
 use Rattle.std.proofs.lemmas.List.{map-append}
 use Rattle.uc_term.specs.declared.equation.Equation.{Equation}
 use Rattle.uc_term.specs.declared.equation.Side.{Side}
 use Rattle.uc_term.specs.declared.equation.Side.TheVariants.{Left, Right}
 use Rattle.uc_term.specs.declared.node.Sym.{Sym}
 use Rattle.uc_term.specs.Equations.{side_of, other_side_of}
-use Rattle.uc_term.specs.Tree.{Tree, var, app, Trees, none, more, apply}
+use Rattle.uc_term.specs.Tree.{Tree, var, app, Trees, none, more}
 use Rattle.uc_term.specs.Variables.{place_of, renumbered_by}
 use Rattle.uc_term.proofs.Gets.{map-get}
 use Rattle.uc_term.proofs.Terms.{apply-var}
@@ -21,14 +21,14 @@ use Rattle.uc_fact.specs.declared.fact.Fact.{Fact}
 use Rattle.uc_fact.specs.declared.fact.Origin.{Origin}
 use Rattle.uc_fact.specs.declared.fact.Overlap.{Overlap}
 use Rattle.uc_fact.specs.declared.fact.Stop.{Stop}
-use Rattle.uc_fact.specs.Chains.{last_term, ReplacesAt, end_of, one_step, followed_by, step_back, steps_back, reversed, renumbered_step, renumbered_chain}
+use Rattle.uc_fact.specs.Chains.{last_term, ReplacesAt, one_step, followed_by, step_back, steps_back, reversed, renumbered_step, renumbered_chain}
 use Rattle.uc_fact.specs.Live.{Live, Rule, rules_of, numbered_from, equation_of}
 use Rattle.uc_rewrite.specs.declared.normal.Normal.{Normal}
 use Rattle.uc_rewrite.specs.Normalising.{is_left, step_by, FirstRule, this_rule, later_rule, FirstStep, in_arguments, at_the_term, FirstStepAmong, in_this, in_another, Normalises, is_full, is_spent, is_large, goes_on, IsNormalOf}
 use Rattle.uc_rewrite.specs.Replay.{named, replaced_side, IsReplacement, AreReplacements, LeadsFrom}
 use Rattle.uc_pair.specs.declared.formation.Formation.TheVariants.{Pair as Forms}
 use Rattle.uc_pair.specs.Overlapping.{read_from}
-use Rattle.uc_pair.specs.Pairs.{IsPairOf, Replays as ReplaysBy, is_right, is_left as is_left_side}
+use Rattle.uc_pair.specs.Pairs.{Replays as ReplaysBy, is_right, is_left as is_left_side}
 use Rattle.uc_pair.proofs.Paired.{replays_of}
 use Rattle.uc_shelf.specs.declared.entry.Entry.{Entry}
 use Rattle.uc_shelf.specs.Entries.{born, is_dead, equations, live}

@@ -1,5 +1,5 @@
 -- In every state of a run the chains of facts and goals replay.
-use Rattle.std.proofs.Common.{◌≡◌, ℕ, zero, suc, ◌+◌, ◌-◌, ◌<◌, ◌≤◌, List, [], ◌∷◌, ◌++◌, length, Bool, true, false, cond, Option, Some, None, refl, ap, sym, ◌∙◌, arith, inl, inr, subst, map, take, drop, slice_get}
+use Rattle.std.proofs.Common.{◌≡◌, ℕ, zero, suc, ◌+◌, ◌-◌, ◌<◌, List, [], ◌∷◌, ◌++◌, length, Some, refl, ap, sym, ◌∙◌, arith, inl, inr, subst, map, take, drop, slice_get}
 use Rattle.std.proofs.lemmas.Bool.{cases_Bool}
 use Rattle.std.proofs.lemmas.List.{take-append-le, take-append-drop}
 use Rattle.std.proofs.Math.Seq.{take-length}
@@ -9,10 +9,7 @@ use Rattle.uc_term.proofs.Gets.{get_pushed}
 use Rattle.uc_order.specs.Laws.{Meaning}
 use Rattle.uc_fact.specs.declared.chain.Chain.{Chain}
 use Rattle.uc_fact.specs.declared.fact.Fact.{Fact}
-use Rattle.uc_fact.specs.declared.fact.Origin.{Origin}
 use Rattle.uc_fact.specs.declared.fact.Stop.{Stop}
-use Rattle.uc_rewrite.specs.declared.normal.Normal.{Normal}
-use Rattle.uc_pair.specs.declared.formed.Formed.{Formed}
 use Rattle.uc_shelf.specs.declared.entry.Entry.{Entry}
 use Rattle.uc_shelf.specs.declared.entry.Entry.TheVariants.{Born, Dies}
 use Rattle.uc_shelf.specs.Entries.{born, is_dead}
@@ -31,14 +28,14 @@ use Rattle.uc_machine.specs.declared.task.Outcome.{Outcome}
 use Rattle.uc_fact.specs.Chains.{end_of, followed_by}
 use Rattle.uc_machine.specs.Commits.{GoalEnds, ends_meet, ends_differ, Meets, within_limit, past_limit, newly_waiting, stays, Commits, is_late, goal_ends, more_ends, pair_joins, fact_is_kept, fact_is_stale, fact_is_dead, fact_meets}
 use Rattle.uc_machine.specs.Draws.{Reply, Draws, verdict_stands, goal_is_due, fact_is_unmet, orphan_is_dropped, goal_is_continued, pair_is_drawn, budget_is_out, budget_is_spent, all_is_out, all_is_done}
-use Rattle.uc_machine.specs.Effects.{wakes, goes_on, dies, kills, visits, drops, reclaims, recalls}
-use Rattle.uc_machine.specs.Lists.{change, each, Each}
-use Rattle.uc_rewrite.specs.Replay.{LeadsFrom, FactsReplay}
-use Rattle.uc_machine.specs.Promises.{Grew, GoalReplays, ChainsReplay}
-use Rattle.uc_machine.specs.Results.{NormaliseBoth, IsResult}
+use Rattle.uc_machine.specs.Effects.{wakes, goes_on, kills, visits, drops, reclaims}
+use Rattle.uc_machine.specs.Lists.{change, each}
+use Rattle.uc_rewrite.specs.Replay.{LeadsFrom}
+use Rattle.uc_machine.specs.Promises.{Grew, ChainsReplay}
+use Rattle.uc_machine.specs.Results.{IsResult}
 use Rattle.uc_machine.specs.Runs.{goal_of, Starts, axioms_wait, too_many_axioms, AuditReply, Audits, is_closed, is_spent, is_kept, Closes, converges, has_large, has_stuck, MayAudit, Reaches, starts, draws_on, commits_on, reclaims_on, recalls_on, audits_on, closes_on}
 use Rattle.uc_machine.specs.State.{Opening, State, Target, Out}
-use Rattle.uc_runs.proofs.AtRest.{HasEnds, JobEnds, GoalResult, result_goal, result_more, Rests, rests_reaches}
+use Rattle.uc_runs.proofs.AtRest.{HasEnds, JobEnds, GoalResult, result_goal, result_more, rests_reaches}
 use Rattle.uc_machine.proofs.Blocks.{born-append, born-dies}
 use Rattle.uc_runs.proofs.Earlier.{audited_grew}
 use Rattle.uc_machine.proofs.Lists.{Each-at, below}

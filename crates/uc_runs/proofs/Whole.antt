@@ -1,7 +1,7 @@
 -- In every state of a run no meeting has lost an overlap.
-use Rattle.std.proofs.Common.{◌≡◌, ℕ, zero, suc, ◌+◌, ◌<◌, ◌≤◌, List, [], ◌∷◌, ◌++◌, length, Bool, true, false, cond, ◌==◌, Option, Some, None, refl, ap, sym, ◌∙◌, arith, inl, inr, append_assoc, subst, map, take, drop, slice_get}
+use Rattle.std.proofs.Common.{◌≡◌, ℕ, zero, suc, ◌+◌, ◌<◌, ◌≤◌, List, [], ◌∷◌, ◌++◌, length, Bool, true, false, cond, ◌==◌, Some, None, refl, ap, sym, ◌∙◌, arith, inl, inr, append_assoc, subst, map, take, drop, slice_get}
 use Rattle.std.specs.Prelude.{◌||◌, ◌⊎◌, not, filter}
-use Rattle.std.proofs.lemmas.Bool.{cases_Bool, eqb-false, eq-eqb, cases_eq, cases_order, false≢true, or_parts}
+use Rattle.std.proofs.lemmas.Bool.{cases_Bool, eq-eqb, cases_eq, cases_order, false≢true, or_parts}
 use Rattle.std.proofs.lemmas.List.{take-append-drop}
 use Rattle.uc_term.specs.declared.equation.Equation.{Equation}
 use Rattle.uc_term.proofs.Gets.{map-get, get_pushed}
@@ -32,17 +32,15 @@ use Rattle.uc_fact.specs.declared.chain.Chain.{Chain}
 use Rattle.uc_fact.specs.declared.fact.Stop.{Stop}
 use Rattle.uc_machine.specs.Commits.{GoalEnds, ends_meet, ends_differ, Meets, within_limit, past_limit, newly_waiting, stays, Commits, is_late, goal_ends, more_ends, pair_joins, fact_is_kept, fact_is_stale, fact_is_dead, fact_meets}
 use Rattle.uc_machine.specs.Draws.{Reply, Draws, verdict_stands, goal_is_due, fact_is_unmet, orphan_is_dropped, goal_is_continued, pair_is_drawn, budget_is_out, budget_is_spent, all_is_out, all_is_done}
-use Rattle.uc_machine.specs.Effects.{meets_unmet, kills, dies, visits, drops, accepts, is_met, pair_by, reclaims, recalls}
+use Rattle.uc_machine.specs.Effects.{meets_unmet, kills, visits, drops, accepts, is_met, pair_by, reclaims}
 use Rattle.uc_machine.specs.Lists.{change, each, Each, map_option}
-use Rattle.uc_machine.specs.Promises.{Grew, IsOf, HasNumber, AreNumbered, BothAreNumbered, MeetingsAreWhole}
+use Rattle.uc_machine.specs.Promises.{Grew, HasNumber, BothAreNumbered, MeetingsAreWhole}
 use Rattle.uc_machine.specs.Results.{AreMeetings, with_itself, with_earlier, not_with_later, IsResult, goal_comes_to, more_comes_to, pair_is_joined, pair_is_kept, fact_is_stale as comes_stale, fact_meets as comes_to_meet}
 use Rattle.uc_machine.specs.Runs.{Starts, axioms_wait, too_many_axioms, AuditReply, Audits, is_closed, is_spent, is_kept, Closes, converges, has_large, has_stuck, Reaches, starts, draws_on, commits_on, reclaims_on, recalls_on, audits_on, closes_on}
-use Rattle.uc_machine.specs.State.{Opening, State, Pair, Out, is_unmet}
+use Rattle.uc_machine.specs.State.{Opening, State, Pair, Out}
 use Rattle.uc_machine.proofs.Blocks.{born-append, born-dies, option-append, same-origin}
-use Rattle.uc_machine.proofs.Found.{first_is}
 use Rattle.uc_machine.proofs.Grows.{each_grew}
-use Rattle.uc_machine.proofs.Kept.{Kept, IsKnown}
-use Rattle.uc_machine.proofs.Lists.{get-append, below, get-changed, get-change_same, Each-map, Each-at, Each-front, Each-behind}
+use Rattle.uc_machine.proofs.Lists.{get-append, below, get-changed, Each-map, Each-front, Each-behind}
 use Rattle.uc_machine.proofs.Runs.{kept_reaches}
 
 -- who is dead
