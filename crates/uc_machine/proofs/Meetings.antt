@@ -108,7 +108,7 @@ module _ (m : Meaning) where
   lists_of outer inner place fs (at_variable l a b) = all_later outer inner place fs (lists_of outer inner (place + 1) fs b)
   lists_of outer inner place fs (no_unifier l a b) = all_later outer inner place fs (lists_of outer inner (place + 1) fs b)
   lists_of outer inner place fs (repeats l a b) = all_later outer inner place fs (lists_of outer inner (place + 1) fs b)
-  lists_of outer inner place fs (goes_nowhere l a b) = all_later outer inner place fs (lists_of outer inner (place + 1) fs b)
+  lists_of outer inner place fs (goes_nowhere l n a b) = all_later outer inner place fs (lists_of outer inner (place + 1) fs b)
   lists_of outer inner place fs (leads_up o a b) = all_later outer inner place fs (lists_of outer inner (place + 1) fs b)
   lists_of outer inner place _ (is_listed {list = fs} o a b c d) = (record { outer_is = refl; outer_side_is = refl; inner_is = refl; inner_side_is = refl; from = omega arith }, all_later outer inner place fs (lists_of outer inner (place + 1) fs d))
 
@@ -117,7 +117,7 @@ module _ (m : Meaning) where
   lists_differ outer inner place fs (at_variable l a b) = lists_differ outer inner (place + 1) fs b
   lists_differ outer inner place fs (no_unifier l a b) = lists_differ outer inner (place + 1) fs b
   lists_differ outer inner place fs (repeats l a b) = lists_differ outer inner (place + 1) fs b
-  lists_differ outer inner place fs (goes_nowhere l a b) = lists_differ outer inner (place + 1) fs b
+  lists_differ outer inner place fs (goes_nowhere l n a b) = lists_differ outer inner (place + 1) fs b
   lists_differ outer inner place fs (leads_up o a b) = lists_differ outer inner (place + 1) fs b
   lists_differ outer inner place _ (is_listed {list = fs} o a b c d) = (no_earlier outer inner place fs (lists_of outer inner (place + 1) fs d), lists_differ outer inner (place + 1) fs d)
 
