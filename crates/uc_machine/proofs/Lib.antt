@@ -1,0 +1,13 @@
+pub mod Lists
+pub mod Kept
+pub mod Accounts
+pub mod Blocks
+pub mod Found
+pub mod Steps
+pub mod Calls
+pub mod Meetings
+pub mod Grows
+pub mod Promises
+pub mod Runs
+pub mod OneDraw
+pub mod OneCall

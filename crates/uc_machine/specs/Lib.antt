@@ -1,0 +1,11 @@
+pub mod Lists
+pub mod State
+pub mod Effects
+pub mod Draws
+pub mod Commits
+pub mod Results
+pub mod Finals
+pub mod Runs
+pub mod Events
+pub mod Promises
+pub mod Origins

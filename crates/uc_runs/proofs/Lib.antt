@@ -1,0 +1,11 @@
+pub mod Renumbered
+pub mod Fronts
+pub mod Earlier
+pub mod AtRest
+pub mod Replacing
+pub mod Replayed
+pub mod Replaying
+pub mod Whole
+pub mod OneResult
+pub mod Continuing
+pub mod Origins

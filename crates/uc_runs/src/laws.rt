@@ -1,0 +1,62 @@
+//! What every run of the machine keeps, each the contract of a function that does nothing.
+
+ghost use Rattle.std.specs.Prelude.{◌≡◌, List};
+ghost use Rattle.uc_term.specs.declared.equation.Equation.{Equation as AnyEquation};
+ghost use Rattle.uc_shelf.specs.declared.entry.Entry.{Entry as AnyEntry};
+ghost use Rattle.uc_machine.specs.declared.task.Finding.{Finding as AnyFinding};
+ghost use Rattle.uc_machine.specs.declared.task.Job.{Job as AnyJob};
+ghost use Rattle.uc_machine.specs.declared.task.Outcome.{Outcome as AnyOutcome};
+ghost use Rattle.uc_machine.specs.State.{Opening, State};
+ghost use Rattle.uc_machine.specs.Results.{IsResult};
+ghost use Rattle.uc_machine.specs.Finals.{IsFinal};
+ghost use Rattle.uc_machine.specs.Runs.{Reaches};
+ghost use Rattle.uc_machine.specs.Promises.{FrontsAreEarlier, GoalsAtRest, ChainsReplay, MeetingsAreWhole, MoresGoOn};
+ghost use Rattle.uc_machine.specs.Origins.{OriginsAreKnown};
+
+use uc_order::Order;
+
+/// Each fact's chain replays from its left to its right side over the axioms and earlier facts, and each goal's chains replay
+/// from its sides to its present ends.
+pub fn chains_replay<O: Order>(order: &O)
+    ensures { (o : Opening) (s : State) → Reaches (O.meaning order.now) o s → ChainsReplay o s }
+{}
+
+/// While no verdict stands, no meeting has lost an overlap: of two facts that live, the meeting of the later one being over, each
+/// overlap has its pair.
+pub fn meetings_are_whole<O: Order>(order: &O)
+    ensures { (o : Opening) (s : State) → Reaches (O.meaning order.now) o s → MeetingsAreWhole (O.meaning order.now) s }
+{}
+
+/// A More is drawn only for a goal whose last commit made exactly 4,096 steps, a further one being possible.
+pub fn mores_go_on<O: Order>(order: &O)
+    ensures { (o : Opening) (s : State) → Reaches (O.meaning order.now) o s → MoresGoOn s }
+{}
+
+/// Each pair that isn't too large comes from an axiom of the problem, a fact that is born, or an overlap that is in the list of
+/// its two facts and isn't too large.
+pub fn origins_known<O: Order>(order: &O)
+    ensures { (o : Opening) (s : State) → Reaches (O.meaning order.now) o s → OriginsAreKnown (O.meaning order.now) o s }
+{}
+
+/// Each kept fact's front names a prefix of the entries before its birth, and each side stands by its stop in that front: after
+/// `Full` it has no ordered step by the facts that live there, else a step is possible, after `Size` one to a term that is too
+/// large.
+pub fn fronts_are_earlier<O: Order>(order: &O)
+    ensures { (o : Opening) (s : State) → Reaches (O.meaning order.now) o s → FrontsAreEarlier (O.meaning order.now) s }
+{}
+
+/// A Settled goal's ends have no ordered step by the facts that live now, and a Stuck goal has an end whose next ordered step
+/// by these facts leads to a term that is too large.
+pub fn goals_at_rest<O: Order>(order: &O)
+    ensures { (o : Opening) (s : State) → Reaches (O.meaning order.now) o s → GoalsAtRest (O.meaning order.now) s }
+{}
+
+/// The result of a task is a function of the task, the entries of its front, the axioms and the order.
+pub fn one_result<O: Order>(order: &O)
+    ensures { (axioms : List AnyEquation) (entries : List AnyEntry) (job : AnyJob) (a b : AnyFinding) → IsResult (O.meaning order.now) axioms entries job a → IsResult (O.meaning order.now) axioms entries job b → a ≡ b }
+{}
+
+/// What the final pass answers is a function of the axioms, the book's state and the order.
+pub fn one_final<O: Order>(order: &O)
+    ensures { (axioms : List AnyEquation) (s : State) (a b : AnyOutcome) → IsFinal (O.meaning order.now) axioms s a → IsFinal (O.meaning order.now) axioms s b → a ≡ b }
+{}
