@@ -1,6 +1,6 @@
 -- In every state of a run a Settled goal's ends are irreducible by the facts that live now, and a Stuck goal has an end from
 -- which the next step is too large.
-use Rattle.std.proofs.Common.{◌≡◌, ℕ, zero, suc, ◌+◌, ◌-◌, List, [], ◌∷◌, ◌++◌, length, false, ◌==◌, Some, refl, ap, sym, ◌∙◌, inl, inr, subst, map, take, slice_get}
+use Rattle.std.proofs.Common.{◌≡◌, ℕ, zero, suc, ◌-◌, List, [], ◌∷◌, ◌++◌, length, false, ◌==◌, Some, refl, ap, sym, ◌∙◌, inl, inr, subst, map, take, slice_get}
 use Rattle.std.specs.Prelude.{◌⊎◌}
 use Rattle.std.proofs.lemmas.Bool.{cases_Bool, eqb-false}
 use Rattle.uc_term.specs.Tree.{Tree}
@@ -19,9 +19,9 @@ use Rattle.uc_machine.specs.declared.event.Happening.{Happening}
 use Rattle.uc_machine.specs.declared.event.Happening.TheVariants.{CommitGoal, CommitMore, CommitMeet, CommitJoined, CommitKept, CommitLate}
 use Rattle.uc_machine.specs.declared.task.Job.{Job}
 use Rattle.uc_machine.specs.declared.task.Job.TheVariants.{Goal, More, Meet, Join}
-use Rattle.uc_machine.specs.Lists.{At, first, change, each, Each, map_option}
+use Rattle.uc_machine.specs.Lists.{At, change, each, Each, map_option}
 use Rattle.uc_machine.specs.State.{Opening, State, Target, Out, out_at, without, is_due, is_continued}
-use Rattle.uc_machine.specs.Effects.{publishes, enters, kills, ends, reclaims, wakes, wakes_stage, task_for, drops, accepts, goes_on, visits}
+use Rattle.uc_machine.specs.Effects.{publishes, enters, kills, reclaims, wakes, wakes_stage, task_for, drops, accepts, goes_on, visits}
 use Rattle.std.proofs.lemmas.List.{length-map}
 use Rattle.uc_term.proofs.Terms.{take_of_length-le}
 use Rattle.uc_order.specs.Laws.{Meaning}

@@ -1,5 +1,5 @@
 -- In every state of a run each kept fact's front is earlier, and its Full sides are irreducible there.
-use Rattle.std.proofs.Common.{◌≡◌, ℕ, ◌-◌, ◌≤◌, List, [], ◌∷◌, length, refl, sym, inl, inr, subst, take}
+use Rattle.std.proofs.Common.{◌≡◌, ℕ, ◌≤◌, List, [], ◌∷◌, length, refl, sym, inl, inr, subst, take}
 use Rattle.std.proofs.lemmas.Bool.{cases_Bool}
 use Rattle.uc_fact.specs.declared.chain.Chain.{Chain}
 use Rattle.uc_fact.specs.declared.fact.Stop.{Stop}

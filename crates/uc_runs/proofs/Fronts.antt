@@ -1,5 +1,5 @@
 -- A kept fact's front is earlier than its birth, and a side whose stop is Full is irreducible there.
-use Rattle.std.proofs.Common.{◌≡◌, ℕ, zero, suc, ◌+◌, ◌-◌, ◌<◌, ◌≤◌, List, [], ◌∷◌, ◌++◌, length, Bool, true, false, Some, refl, ap, sym, ◌∙◌, arith, inl, inr, subst, take, slice_get}
+use Rattle.std.proofs.Common.{◌≡◌, ℕ, zero, suc, ◌<◌, ◌≤◌, List, [], ◌∷◌, ◌++◌, length, Bool, true, false, Some, refl, ap, sym, ◌∙◌, arith, inl, inr, subst, take, slice_get}
 use Rattle.std.specs.Prelude.{◌⊎◌}
 use Rattle.uc_term.specs.Tree.{Tree}
 use Rattle.uc_term.specs.declared.equation.Equation.{Equation}
@@ -10,7 +10,7 @@ use Rattle.uc_fact.specs.declared.fact.Stop.{Stop}
 use Rattle.uc_shelf.specs.declared.entry.Entry.{Entry}
 use Rattle.uc_shelf.specs.declared.entry.Entry.TheVariants.{Born, Dies}
 use Rattle.uc_machine.specs.declared.task.Job.{Job}
-use Rattle.uc_machine.specs.Lists.{first, Each}
+use Rattle.uc_machine.specs.Lists.{Each}
 use Rattle.uc_machine.specs.State.{State}
 use Rattle.std.proofs.lemmas.List.{take-append-le, length-take-le, length-append}
 use Rattle.std.proofs.Math.Seq.{take-length}
