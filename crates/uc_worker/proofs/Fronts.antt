@@ -106,12 +106,13 @@ set_length [] i b = refl
 set_length (x ∷ xs) zero b = refl
 set_length (x ∷ xs) (suc i) b = ap suc (set_length xs i b)
 
-pub flag_set : (es : List Entry) (n : ℕ) (flags : List Bool) (f j : ℕ) → f < length flags → AreFlags es n flags → AreFlags (es ++ Dies f j ∷ []) n (set flags f true)
-flag_set es n flags f j inside a = record {
+pub flag_set : (es : List Entry) (n : ℕ) (flags : List Bool) (f j : ℕ) → AreFlags es n flags → AreFlags (es ++ Dies f j ∷ []) n (set flags f true)
+flag_set es n flags f j a = record {
   long = set_length flags f true ∙ a.long;
   each = λ k h. elim (cases_Bool (f == k)) as (λ _. get_or (set flags f true) k false ≡ is_dead (es ++ Dies f j ∷ []) k) [
     | inl b ↦ (
         let same : f ≡ k = eqb-true f k b in
+        let inside : f < length flags = (let long = a.long in omega (arith, same, h, long)) in
         ap (λ x. get_or (set flags f true) x false) (sym same) ∙ set_here flags f true false inside
         ∙ sym (dead_append es (Dies f j ∷ []) k ∙ or_true (is_dead es k) (is_dead (Dies f j ∷ []) k) (rw b refl))
         )
@@ -123,15 +124,11 @@ flag_set es n flags f j inside a = record {
   ];
 }
 
-pub born_kills_none : (e : Entry) → ((f j : ℕ) → e ≡ Dies f j → ⊥) → (k : ℕ) → is_dead (e ∷ []) k ≡ false
-born_kills_none (Born f) n k = refl
-born_kills_none (Dies f j) n k = absurd (n f j refl)
+pub born_marks_none : (es : List Entry) (n : ℕ) (flags : List Bool) (e : Entry) (f : Fact) → e ≡ Born f → AreFlags es n flags → AreFlags (es ++ e ∷ []) n flags
+born_marks_none es n flags e f b a = subst (λ x. AreFlags (es ++ x ∷ []) n flags) (sym b) (flags_stay es n flags (Born f) (λ k h. refl) a)
 
-pub outside_kills_none : (f j n k : ℕ) → n ≤ f → k < n → is_dead (Dies f j ∷ []) k ≡ false
-outside_kills_none f j n k h l = elim (cases_Bool (f == k)) as (λ _. is_dead (Dies f j ∷ []) k ≡ false) [
-  | inl b ↦ (let s = eqb-true f k b in absurd (omega (arith, s, h, l)))
-  | inr b ↦ rw b refl
-]
+pub death_marks_one : (es : List Entry) (n : ℕ) (flags new : List Bool) (e : Entry) (f j : ℕ) → e ≡ Dies f j → new ≡ set flags f true → AreFlags es n flags → AreFlags (es ++ e ∷ []) n new
+death_marks_one es n flags new e f j d s a = subst (λ x. AreFlags (es ++ x ∷ []) n new) (sym d) (subst (AreFlags (es ++ Dies f j ∷ []) n) (sym s) (flag_set es n flags f j a))
 
 pub next_entries : (es : List Entry) (k : ℕ) (e : Entry) → Some e ≡ slice_get es k → take (k + 1) es ≡ take k es ++ e ∷ []
 next_entries [] k e h = absurd cc

@@ -4,7 +4,7 @@ use Rattle.uc_worker.proofs.Fronts.{no_flags, next_entries, all_flags}
 use Rattle.uc_worker.proofs.live.dead_flags.Goals as goal
 
 pub loop-k-init : goal.loop-k-init
-loop-k-init c = no_flags (length c.args.front.now.entries) c.in_ok-flags.flags.items ?made
+loop-k-init c = no_flags (length c.args.front.now.entries) c.in_ok-flags.flags.items (c.in_ok-flags.ensures.items_if_clones_equal (λ y e. e))
 
 pub loop-k-preserved : goal.loop-k-preserved
 loop-k-preserved c =
