@@ -30,8 +30,8 @@ ahead_found es number k count e f at b a =
     a.rest ∙ ap (λ n. slice_get (born (drop k es)) n) z ∙ ap (λ l. slice_get (born l) 0) (drop_at es k e at) ∙ ap (λ x. slice_get (born (x ∷ drop (k + 1) es)) 0) b.born
 
 pub ahead_goes_on : (es : List Entry) (number k count n : ℕ) (e : Entry) → Some e ≡ slice_get es k → ((f : Fact) → IsBornAs e count number f → ⊥) → n ≡ count + length (born (e ∷ [])) → Ahead es number k count → Ahead es number (k + 1) n
-ahead_goes_on es number k count n (Born f) at no c a =
-    let differ : count ≡ number → ⊥ = λ s. no f (record { born = refl; same = s }) in
+ahead_goes_on es number k count n (Born f) at differs c a =
+    let differ : count ≡ number → ⊥ = λ s. differs f (record { born = refl; same = s }) in
     let one : n ≡ count + 1 = c in
     let less : count < number = (let h = a.before in omega (arith, h, differ)) in
     let next : number - count ≡ suc (number - n) = omega arith in
@@ -40,7 +40,7 @@ ahead_goes_on es number k count n (Born f) at no c a =
       before = omega arith;
       rest = a.rest ∙ ap (λ l. slice_get (born l) (number - count)) (drop_at es k (Born f) at) ∙ ap (λ x. slice_get (f ∷ born (drop (k + 1) es)) x) next;
     }
-ahead_goes_on es number k count n (Dies f j) at no c a =
+ahead_goes_on es number k count n (Dies f j) at differs c a =
     let same : n ≡ count = (let e : n ≡ count + 0 = c in omega arith) in
     record {
       few = (let h = a.few in omega arith);

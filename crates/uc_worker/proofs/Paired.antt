@@ -27,6 +27,7 @@ use Rattle.uc_machine.specs.Results.{IsPair, of_axiom, of_overlap, of_dead}
 use Rattle.uc_machine.specs.Origins.{IsListed}
 
 member_is : {A : Type 0} (P : A → Type 0) (xs : List A) (x : A) → In xs x → All P xs → P x
+member_is P [] x i all = elim i [ ]
 member_is P (x ∷ xs) _ in_front all = all 0 x (omega arith)
 member_is P (y ∷ xs) x (in_rest i) all = member_is P xs x i (λ k d lt. all (suc k) d (omega arith))
 

@@ -57,7 +57,7 @@ module _ (m : Meaning) (axioms : List Equation) (entries : List Entry) where
   pub open_trial : (origin : Origin) (t : Trial) (front : ℕ) (f : Fact) → IsTrial m axioms entries origin t → (IsJoined t.answer → ⊥) → front ≡ length entries → GivesFact m origin front t f → IsTried m axioms entries origin (EndsDiffer f t.answer)
   open_trial origin t front f i n e g = ends_differ t i n (subst (λ k. GivesFact m origin k t f) e g)
 
-  finding_for : Tried → Finding
+  abbrev finding_for : Tried → Finding
   finding_for (EndsJoin why) = Joined why
   finding_for (EndsDiffer f answer) = Kept f
 

@@ -39,7 +39,7 @@ pub returns-in-Overlap-clause-pair : goal.returns-in-Overlap-clause-pair
 returns-in-Overlap-clause-pair g c =
     let axioms = c.args.axioms.now in
     let entries = c.args.front.now.entries in
-    IfOk-weaker c.by_overlap.result (λ pair. (as : List Equation) → IsPair as entries (OfOverlap c.in-Overlap.overlap) pair.equation pair.chain) (λ pair. IsPair axioms entries c.args.origin.now pair.equation pair.chain)
+    IfOk-weaker c.by_overlap.result (λ pair. (others : List Equation) → IsPair others entries (OfOverlap c.in-Overlap.overlap) pair.equation pair.chain) (λ pair. IsPair axioms entries c.args.origin.now pair.equation pair.chain)
     (λ pair h. subst (λ o. IsPair axioms entries o pair.equation pair.chain) (sym c.in-Overlap.is) (h axioms)) c.by_overlap.ensures.pair
 
 pub returns-in-Revived-clause-pair : goal.returns-in-Revived-clause-pair
