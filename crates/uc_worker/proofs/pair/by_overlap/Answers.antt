@@ -12,10 +12,10 @@ pub pair_of-requires : goal.pair_of-requires
 pair_of-requires g c = is_overlap (g.O.Order.meaning c.args.order.now) c.args.front.now.entries c.args.overlap.now c.requires.listed c.fact_at-a.result.now c.fact_at-b.result.now c.in_ok-outer.outer c.in_ok-inner.inner c.fact_at-a.ensures c.fact_at-b.ensures c.in_ok-outer.ensures c.in_ok-inner.ensures
 
 pub returns-clause-pair : goal.returns-clause-pair
-returns-clause-pair g c axioms = overlap_pair (g.O.Order.meaning c.args.order.now) c.args.front.now.entries c.args.overlap.now c.requires.listed c.fact_at-a.result.now c.fact_at-b.result.now c.in_ok-outer.outer c.in_ok-inner.inner c.fact_at-a.ensures c.fact_at-b.ensures c.in_ok-outer.ensures c.in_ok-inner.ensures axioms c.in_ok-pair_of.field-0 c.in-Pair.left c.in-Pair.right c.in-Pair.chain c.in-Pair.is c.in_ok-pair_of.ensures.pair
+returns-clause-pair g c axioms = overlap_pair (g.O.Order.meaning c.args.order.now) c.args.front.now.entries c.args.overlap.now c.requires.listed c.fact_at-a.result.now c.fact_at-b.result.now c.in_ok-outer.outer c.in_ok-inner.inner c.fact_at-a.ensures c.fact_at-b.ensures c.in_ok-outer.ensures c.in_ok-inner.ensures axioms c.in_ok-left.field-0 c.in-Pair.left c.in-Pair.right c.in-Pair.chain c.in-Pair.is c.in_ok-left.ensures.pair
 
 pub returns-clause-short : goal.returns-clause-short
-returns-clause-short g c = pair_short c.in_ok-outer.outer c.in_ok-inner.inner c.args.overlap.now c.in_ok-pair_of.field-0 c.in-Pair.left c.in-Pair.right c.in-Pair.chain c.in-Pair.is c.in_ok-pair_of.ensures.pair
+returns-clause-short g c = pair_short c.in_ok-outer.outer c.in_ok-inner.inner c.args.overlap.now c.in_ok-left.field-0 c.in-Pair.left c.in-Pair.right c.in-Pair.chain c.in-Pair.is c.in_ok-left.ensures.pair
 
 pub unreachable-requires : goal.unreachable-requires
-unreachable-requires g c = not_large (g.O.Order.meaning c.args.order.now) c.args.front.now.entries c.args.overlap.now c.requires.listed c.fact_at-a.result.now c.fact_at-b.result.now c.in_ok-outer.outer c.in_ok-inner.inner c.fact_at-a.ensures c.fact_at-b.ensures c.in_ok-outer.ensures c.in_ok-inner.ensures c.in_ok-pair_of.field-0 c.in-TooLarge.is c.in_ok-pair_of.ensures.pair
+unreachable-requires g c = not_large (g.O.Order.meaning c.args.order.now) c.args.front.now.entries c.args.overlap.now c.requires.listed c.fact_at-a.result.now c.fact_at-b.result.now c.in_ok-outer.outer c.in_ok-inner.inner c.fact_at-a.ensures c.fact_at-b.ensures c.in_ok-outer.ensures c.in_ok-inner.ensures c.in_ok-left.field-0 c.in-TooLarge.is c.in_ok-left.ensures.pair

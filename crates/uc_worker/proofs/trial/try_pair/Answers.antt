@@ -25,4 +25,4 @@ returns g c =
     let m = g.O.Order.meaning c.args.order.now in
     let t : Trial = record { equation = c.in_ok-pair.pair.equation; chain = c.in_ok-pair.pair.chain; left = c.in_ok-left.left; right = c.in_ok-right.right; answer = c.in_ok-answer.answer } in
     let i = trial_is m c.args.axioms.now c.args.front.now.entries c.args.origin.now t c.view-view.result c.view-view.ensures c.in_ok-pair.ensures.pair c.in_ok-left.ensures.normal c.in_ok-right.ensures.normal c.in_ok-answer.ensures.answer in
-    open_trial m c.args.axioms.now c.args.front.now.entries c.args.origin.now t c.len-source.result c.in_ok-kept.field-0 i c.in_default.ensures c.len-source.ensures.value (c.in_ok-kept.ensures t.equation t.answer)
+    open_trial m c.args.axioms.now c.args.front.now.entries c.args.origin.now t c.len.result c.in_ok-kept.field-0 i c.in_default.ensures c.len.ensures.value (c.in_ok-kept.ensures t.equation t.answer)
