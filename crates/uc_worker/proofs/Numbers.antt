@@ -1,10 +1,10 @@
 -- Chains with their variables numbered, step by step.
-use Rattle.std.proofs.Common.{◌≡◌, ℕ, ◌+◌, ◌*◌, ◌<◌, ◌≤◌, Bool, true, false, List, [], ◌∷◌, ◌++◌, length, take, map, get_or, refl, sym, ap, ap₂, ◌∙◌, subst, append_assoc, append-nil, length-append, arith}
+use Rattle.std.proofs.Common.{◌≡◌, ℕ, ◌+◌, ◌*◌, ◌<◌, ◌≤◌, Bool, true, false, List, [], ◌∷◌, ◌++◌, length, take, map, get_or, refl, sym, ap, ap₂, ◌∙◌, append_assoc, append-nil, arith}
 use Rattle.std.specs.Prelude.{◌||◌}
 use Rattle.std.proofs.lemmas.List.{take_more, map-append, take_all}
-use Rattle.uc_term.specs.Tree.{Tree, var, apply}
-use Rattle.uc_term.specs.Variables.{variables, is_among, firsts, firsts_after, place_of, renumbered_by}
-use Rattle.uc_term.proofs.Firsts.{is_among-append, firsts_after-append, firsts_after-like, firsts-append}
+use Rattle.uc_term.specs.Tree.{Tree, var}
+use Rattle.uc_term.specs.Variables.{variables, is_among, firsts_after, place_of, renumbered_by}
+use Rattle.uc_term.proofs.Firsts.{is_among-append, firsts_after-append, firsts_after-like}
 use Rattle.uc_fact.specs.declared.chain.Step.{Step}
 use Rattle.uc_fact.specs.declared.chain.Chain.{Chain}
 use Rattle.uc_pair.specs.Numbering.{placed_by}

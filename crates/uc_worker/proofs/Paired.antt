@@ -1,5 +1,5 @@
 -- The pairs of tasks.
-use Rattle.std.proofs.Common.{◌≡◌, ◌≢◌, ℕ, zero, suc, ◌<◌, ◌≤◌, List, [], ◌∷◌, length, get_or, slice_get, Some, refl, sym, ap, ◌∙◌, subst, arith}
+use Rattle.std.proofs.Common.{◌≡◌, ℕ, zero, suc, ◌<◌, ◌≤◌, List, [], ◌∷◌, length, get_or, slice_get, Some, sym, ap, ◌∙◌, subst, arith}
 use Rattle.std.specs.Prelude.{All}
 use Rattle.std.proofs.lemmas.Option.{slice_get-get_or}
 use Rattle.uc_term.specs.Tree.{Tree}
@@ -12,12 +12,10 @@ use Rattle.uc_fact.specs.declared.fact.Fact.{Fact}
 use Rattle.uc_fact.specs.declared.fact.Overlap.{Overlap}
 use Rattle.uc_fact.specs.declared.fact.Origin.TheVariants.{Axiom, Overlap as OfOverlap, Revived}
 use Rattle.uc_fact.specs.Live.{equation_of}
-use Rattle.uc_pair.specs.declared.formed.Formed.{Formed}
-use Rattle.uc_pair.specs.declared.formed.Size.TheVariants.{Large}
 use Rattle.uc_pair.specs.declared.formation.Formation.{Formation}
 use Rattle.uc_pair.specs.declared.formation.Formation.TheVariants.{Pair as Forms, TooLarge}
 use Rattle.uc_pair.specs.Overlapping.{IsFormedOf, IsOverlapOf, read_from}
-use Rattle.uc_pair.specs.Pairs.{IsPairOf, IsFormation, forms_pair}
+use Rattle.uc_pair.specs.Pairs.{IsPairOf, forms_pair}
 use Rattle.uc_pair.proofs.Listed.{all_are_formed}
 use Rattle.uc_pair.proofs.OnePair.{large_by_size}
 use Rattle.uc_shelf.specs.declared.entry.Entry.{Entry}

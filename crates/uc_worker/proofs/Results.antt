@@ -1,9 +1,8 @@
 -- What a task comes to, from what its parts come to.
-use Rattle.std.proofs.Common.{◌≡◌, ℕ, ◌-◌, ◌≤◌, List, length, slice_get, Option, Some, None, refl, sym, ap, ap₂, ◌∙◌, subst, arith}
+use Rattle.std.proofs.Common.{◌≡◌, ℕ, ◌-◌, List, length, slice_get, Option, Some, None, sym, subst}
 use Rattle.uc_term.specs.Tree.{Tree}
 use Rattle.uc_term.specs.declared.equation.Equation.{Equation}
 use Rattle.uc_order.specs.Laws.{Meaning}
-use Rattle.uc_fact.specs.declared.chain.Chain.{Chain}
 use Rattle.uc_fact.specs.declared.fact.Fact.{Fact}
 use Rattle.uc_fact.specs.Live.{Live, equation_of}
 use Rattle.uc_pair.specs.declared.formed.Formed.{Formed}

@@ -1,4 +1,4 @@
-use Rattle.std.proofs.Common.{◌++◌, ◌∷◌, [], length, take, sym, ap, ◌∙◌, subst, refl, false, arith}
+use Rattle.std.proofs.Common.{length, take, sym, ap, ◌∙◌, subst, refl, false, arith}
 use Rattle.std.specs.Prelude.{replicate}
 use Rattle.uc_worker.specs.Living.{AreFlags}
 use Rattle.uc_worker.proofs.Fronts.{no_flags, next_entries, all_flags}

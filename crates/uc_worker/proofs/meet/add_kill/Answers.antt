@@ -1,4 +1,4 @@
-use Rattle.std.proofs.Common.{[], sym, append-nil, arith}
+use Rattle.std.proofs.Common.{[], sym, append-nil}
 use Rattle.uc_rewrite.proofs.Decided.{not_of}
 use Rattle.uc_worker.specs.Meeting.{is_killed, is_spared, not_earlier}
 use Rattle.uc_worker.proofs.meet.add_kill.Goals as goal

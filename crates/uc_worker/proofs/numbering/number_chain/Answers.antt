@@ -1,4 +1,4 @@
-use Rattle.std.proofs.Common.{◌≡◌, ◌<◌, ◌≤◌, length, get_or, sym, ap, ◌∙◌, subst, arith}
+use Rattle.std.proofs.Common.{◌≡◌, ◌<◌, ◌≤◌, length, get_or, ap, ◌∙◌, subst, arith}
 use Rattle.uc_worker.proofs.Numbers.{numbered_starts, numbered_goes_on, chain_names, chain_numbered}
 use Rattle.uc_worker.proofs.numbering.number_chain.Goals as goal
 

@@ -1,4 +1,3 @@
-use Rattle.std.proofs.Common.{◌≡◌, sym, ◌∙◌}
 use Rattle.uc_worker.proofs.Paired.{within_born, is_overlap, not_large, overlap_pair, pair_short}
 use Rattle.uc_worker.proofs.pair.by_overlap.Goals as goal
 

@@ -1,13 +1,12 @@
-use Rattle.std.proofs.Common.{◌≡◌, ◌<◌, ◌≤◌, List, length, refl, sym, subst, arith}
+use Rattle.std.proofs.Common.{◌≡◌, ◌<◌, ◌≤◌, List, length, refl, sym, subst}
 use Rattle.std.proofs.lemmas.Result.{IfOk-weaker}
 use Rattle.uc_term.specs.declared.equation.Equation.{Equation}
 use Rattle.uc_fact.specs.declared.chain.By.TheVariants.{Axiom as ByAxiom, Fact as ByFact}
-use Rattle.uc_fact.specs.declared.fact.Origin.TheVariants.{Axiom, Overlap as OfOverlap, Revived}
+use Rattle.uc_fact.specs.declared.fact.Origin.TheVariants.{Overlap as OfOverlap}
 use Rattle.uc_fact.specs.Live.{equation_of}
 use Rattle.uc_fact.specs.Chains.{one_step}
 use Rattle.uc_machine.specs.Results.{IsPair}
 use Rattle.uc_machine.specs.Origins.{IsKnownOrigin}
-use Rattle.uc_worker.specs.declared.pair.Pair.{Pair}
 use Rattle.uc_worker.proofs.Paired.{axiom_pair, dead_pair, one_step_short}
 use Rattle.uc_worker.proofs.pair.pair_from.Goals as goal
 

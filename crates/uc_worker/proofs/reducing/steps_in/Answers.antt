@@ -1,4 +1,4 @@
-use Rattle.std.proofs.Common.{◌≡◌, ◌∙◌}
+use Rattle.std.proofs.Common.{◌∙◌}
 use Rattle.uc_rewrite.proofs.Decided.{never, always}
 use Rattle.uc_worker.proofs.Reduced.{no_step_in, step_in}
 use Rattle.uc_worker.proofs.reducing.steps_in.Goals as goal

@@ -1,8 +1,5 @@
-use Rattle.std.proofs.Common.{sym, arith}
-use Rattle.std.proofs.lemmas.Result.{IfOk-weaker}
-use Rattle.uc_order.specs.Laws.{Meaning}
 use Rattle.uc_shelf.specs.Entries.{live}
-use Rattle.uc_machine.specs.Results.{Trial, IsTrial, GivesFact}
+use Rattle.uc_machine.specs.Results.{Trial}
 use Rattle.uc_worker.proofs.Limits.{normal_within}
 use Rattle.uc_worker.proofs.Results.{trial_is, joined_trial, open_trial}
 use Rattle.uc_worker.proofs.trial.try_pair.Goals as goal
