@@ -1,0 +1,5 @@
+pub mod Firsts
+pub mod Selected
+pub mod Overlapped
+pub mod Tested
+pub mod Concluded
