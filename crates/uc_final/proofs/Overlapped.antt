@@ -90,6 +90,7 @@ each_of_in P [] h = tt
 each_of_in P (f ∷ fs) h = (h f in_front, each_of_in P fs (λ g i. h g (in_rest i)))
 
 member_has : (P : Formed → Type 0) (fs : List Formed) (g : Formed) → Each P fs → In fs g → P g
+member_has P [] g all i = elim i [ ]
 member_has P (f ∷ fs) _ all in_front = all.0
 member_has P (f ∷ fs) g all (in_rest i) = member_has P fs g all.1 i
 
@@ -104,7 +105,7 @@ module _ (m : Meaning) where
   of_rules outer inner place fs (at_variable l a b) = of_rules outer inner (place + 1) fs b
   of_rules outer inner place fs (no_unifier l a b) = of_rules outer inner (place + 1) fs b
   of_rules outer inner place fs (repeats l a b) = of_rules outer inner (place + 1) fs b
-  of_rules outer inner place fs (goes_nowhere l a b) = of_rules outer inner (place + 1) fs b
+  of_rules outer inner place fs (goes_nowhere l n a b) = of_rules outer inner (place + 1) fs b
   of_rules outer inner place fs (leads_up o a b) = of_rules outer inner (place + 1) fs b
   of_rules outer inner place _ (is_listed {list = fs} o a b c d) = (record { outer_is = refl; inner_is = refl }, of_rules outer inner (place + 1) fs d)
 
