@@ -3,3 +3,5 @@ pub mod Selected
 pub mod Overlapped
 pub mod Tested
 pub mod Concluded
+pub mod Converged
+pub mod Decided

@@ -80,7 +80,7 @@ each_filter P p (x ∷ xs) h = elim (cases_Bool (p x)) as (λ _. Each P (filter 
   | inr b ↦ rw b (each_filter P p xs h.1)
 ]
 
-each_append : {A : Type 0} (P : A → Type 0) (xs ys : List A) → Each P xs → Each P ys → Each P (xs ++ ys)
+pub each_append : {A : Type 0} (P : A → Type 0) (xs ys : List A) → Each P xs → Each P ys → Each P (xs ++ ys)
 each_append P [] ys a b = b
 each_append P (x ∷ xs) ys a b = (a.0, each_append P xs ys a.1 b)
 
@@ -89,15 +89,15 @@ each_of_in : (P : Formed → Type 0) (fs : List Formed) → ((g : Formed) → In
 each_of_in P [] h = tt
 each_of_in P (f ∷ fs) h = (h f in_front, each_of_in P fs (λ g i. h g (in_rest i)))
 
-member_has : (P : Formed → Type 0) (fs : List Formed) (g : Formed) → Each P fs → In fs g → P g
+pub member_has : (P : Formed → Type 0) (fs : List Formed) (g : Formed) → Each P fs → In fs g → P g
 member_has P [] g all i = elim i [ ]
 member_has P (f ∷ fs) _ all in_front = all.0
 member_has P (f ∷ fs) g all (in_rest i) = member_has P fs g all.1 i
 
 -- it is an overlap of these two facts
-record IsOfFacts (j i : ℕ) (g : Formed) : Type 0 where
-  outer_is : g.overlap.outer ≡ j
-  inner_is : g.overlap.inner ≡ i
+pub record IsOfFacts (j i : ℕ) (g : Formed) : Type 0 where
+  pub outer_is : g.overlap.outer ≡ j
+  pub inner_is : g.overlap.inner ≡ i
 
 module _ (m : Meaning) where
   of_rules : (outer inner : Rule) (place : ℕ) (fs : List Formed) → Lists m.greater outer inner place fs → Each (IsOfFacts outer.number inner.number) fs
@@ -109,7 +109,7 @@ module _ (m : Meaning) where
   of_rules outer inner place fs (leads_up o a b) = of_rules outer inner (place + 1) fs b
   of_rules outer inner place _ (is_listed {list = fs} o a b c d) = (record { outer_is = refl; inner_is = refl }, of_rules outer inner (place + 1) fs d)
 
-  of_facts : (j : ℕ) (a : Equation) (i : ℕ) (b : Equation) (fs : List Formed) → AreOverlaps m.greater j a i b fs → Each (IsOfFacts j i) fs
+  pub of_facts : (j : ℕ) (a : Equation) (i : ℕ) (b : Equation) (fs : List Formed) → AreOverlaps m.greater j a i b fs → Each (IsOfFacts j i) fs
   of_facts j a i b _ (next_rules {list = w} l1 (next_rules {list = x} l2 (next_rules {list = y} l3 (next_rules {list = z} l4 no_rules)))) =
       each_append (IsOfFacts j i) w (x ++ (y ++ (z ++ []))) (of_rules (read_from j Left a) (read_from i Left b) 0 w l1)
       (each_append (IsOfFacts j i) x (y ++ (z ++ [])) (of_rules (read_from j Left a) (read_from i Right b) 0 x l2)
@@ -117,10 +117,10 @@ module _ (m : Meaning) where
       (each_append (IsOfFacts j i) z [] (of_rules (read_from j Right a) (read_from i Right b) 0 z l4) tt)))
 
 -- the fact is born
-record IsBorn (all : List Fact) (j : Live) : Type 0 where
-  fact : Fact
-  at : slice_get all j.number ≡ Some fact
-  is : equation_of fact ≡ j.equation
+pub record IsBorn (all : List Fact) (j : Live) : Type 0 where
+  pub fact : Fact
+  pub at : slice_get all j.number ≡ Some fact
+  pub is : equation_of fact ≡ j.equation
 
 numbered_born : (all : List Fact) (n : ℕ) (fs : List Fact) → ((k : ℕ) (f : Fact) → slice_get fs k ≡ Some f → slice_get all (n + k) ≡ Some f) → Each (IsBorn all) (numbered_from n (map equation_of fs))
 numbered_born all n [] h = tt
@@ -131,7 +131,7 @@ numbered_born all n (f ∷ fs) h =
       numbered_born all (n + 1) fs (λ k g e. (let same : n + suc k ≡ n + 1 + k = omega arith in subst (λ x. slice_get all x ≡ Some g) same (h (suc k) g e))),
     )
 
-live_born : (es : List Entry) → Each (IsBorn (born es)) (live es)
+pub live_born : (es : List Entry) → Each (IsBorn (born es)) (live es)
 live_born es = each_filter (IsBorn (born es)) (λ (f : Live). not (is_dead es f.number)) (numbered_from 0 (equations es)) (numbered_born (born es) 0 (born es) (λ k f e. (let same : k ≡ 0 + k = omega arith in subst (λ x. slice_get (born es) x ≡ Some f) same e)))
 
 module _ (m : Meaning) (es : List Entry) where
