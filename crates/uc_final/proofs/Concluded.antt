@@ -1,18 +1,18 @@
 -- The final answer, from what the phases come to.
-use Rattle.std.proofs.Common.{◌≡◌, List, [], ◌++◌, Bool, true, false, refl, sym, ap, ◌∙◌, subst}
+use Rattle.std.proofs.Common.{◌≡◌, List, Bool, true, false, sym, ap, ◌∙◌, subst}
 use Rattle.std.specs.Prelude.{◌↔◌, IsTrue}
 use Rattle.uc_term.specs.declared.equation.Equation.{Equation}
 use Rattle.uc_order.specs.Laws.{Meaning}
-use Rattle.uc_fact.specs.Live.{Live, equations_of}
+use Rattle.uc_fact.specs.Live.{Live}
 use Rattle.uc_pair.specs.declared.formed.Formed.{Formed}
 use Rattle.uc_shelf.specs.declared.entry.Entry.{Entry}
 use Rattle.uc_shelf.specs.Entries.{live}
 use Rattle.uc_machine.specs.declared.state.Stage.{Stage}
 use Rattle.uc_machine.specs.declared.task.Missing.{Missing}
 use Rattle.uc_machine.specs.declared.task.Outcome.{Outcome}
-use Rattle.uc_machine.specs.declared.task.Outcome.TheVariants.{Convergent, GoalUnsettled}
+use Rattle.uc_machine.specs.declared.task.Outcome.TheVariants.{GoalUnsettled}
 use Rattle.uc_machine.specs.State.{State}
-use Rattle.uc_machine.specs.Finals.{AllOverlaps, Tests, TestsAll, IsFinal, axioms_from, small_ones, some_missing as is_lacking, some_large as is_large, some_stuck as is_stuck_at, all_converges}
+use Rattle.uc_machine.specs.Finals.{AllOverlaps, TestsAll, IsFinal, some_missing as is_lacking, some_large as is_large, some_stuck as is_stuck_at, all_converges}
 use Rattle.uc_final.specs.Stages.{stages_of}
 use Rattle.uc_final.specs.Phases.{ByCases, some_missing, some_large, some_stuck, none_left}
 use Rattle.uc_final.proofs.Firsts.{stuck_goal, no_stuck_goal}

@@ -1,7 +1,6 @@
 -- Where nothing is missing and no overlap is too large, all overlaps and all axioms are joinable.
-use Rattle.std.proofs.Common.{◌≡◌, ℕ, zero, suc, ◌+◌, ◌==◌, Bool, true, false, List, [], ◌∷◌, ◌++◌, slice_get, Option, Some, None, refl, sym, ap, ◌∙◌, subst, arith, ◌⊎◌, inl, inr}
+use Rattle.std.proofs.Common.{◌≡◌, ℕ, zero, suc, ◌+◌, ◌==◌, List, [], ◌∷◌, ◌++◌, slice_get, Option, Some, None, refl, sym, ap, ◌∙◌, subst, arith, ◌⊎◌, inl, inr}
 use Rattle.std.proofs.lemmas.Bool.{cases_Bool, eqb-true}
-use Rattle.uc_term.specs.Tree.{Tree}
 use Rattle.uc_term.specs.declared.equation.Equation.{Equation}
 use Rattle.uc_order.specs.Laws.{Meaning, Laws, HasSym}
 use Rattle.uc_order.specs.Members.{Each as EachMember}
@@ -9,7 +8,7 @@ use Rattle.uc_fact.specs.declared.chain.Chain.{Chain}
 use Rattle.uc_fact.specs.declared.fact.Fact.{Fact}
 use Rattle.uc_fact.specs.declared.fact.Overlap.{Overlap}
 use Rattle.uc_fact.specs.declared.fact.Origin.{Origin}
-use Rattle.uc_fact.specs.declared.fact.Origin.TheVariants.{Axiom, Overlap as OfOverlap, Revived}
+use Rattle.uc_fact.specs.declared.fact.Origin.TheVariants.{Axiom, Overlap as OfOverlap}
 use Rattle.uc_fact.specs.declared.fact.System.{System}
 use Rattle.uc_fact.specs.Ground.{AreOfSignature}
 use Rattle.uc_fact.specs.Live.{Live, fact_at, equation_of, equations_of}
@@ -25,7 +24,7 @@ use Rattle.uc_ground.proofs.Joins.{joins}
 use Rattle.uc_shelf.specs.declared.entry.Entry.{Entry}
 use Rattle.uc_shelf.specs.Entries.{born, live}
 use Rattle.uc_shelf.specs.Rising.{live_rise}
-use Rattle.uc_decide.specs.Converging.{AreJoinable, IsJoinableOverlap, HasJoinableOverlaps, AreJoinableOverlaps, AreJoinableAxioms}
+use Rattle.uc_decide.specs.Converging.{AreJoinable, IsJoinableOverlap, AreJoinableOverlaps, AreJoinableAxioms}
 use Rattle.uc_decide.proofs.Ordered.{ends_join}
 use Rattle.uc_decide.proofs.Pairs.{pair_joins}
 use Rattle.uc_machine.specs.declared.task.Missing.{Missing}

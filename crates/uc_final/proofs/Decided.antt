@@ -1,12 +1,12 @@
 -- A convergent system decides what follows from the axioms.
-use Rattle.std.proofs.Common.{◌≡◌, ℕ, zero, suc, ◌+◌, Bool, true, false, not, List, [], ◌∷◌, filter, map, slice_get, Some, refl, sym, subst, inl, inr}
+use Rattle.std.proofs.Common.{◌≡◌, ℕ, zero, suc, ◌+◌, Bool, not, List, [], ◌∷◌, filter, slice_get, Some, refl, sym, subst, inl, inr}
 use Rattle.std.proofs.lemmas.Bool.{cases_Bool}
 use Rattle.uc_term.specs.Conversion.{Conv}
 use Rattle.uc_term.specs.declared.equation.Equation.{Equation}
 use Rattle.uc_order.specs.Laws.{Meaning, Laws, HasSym}
 use Rattle.uc_fact.specs.declared.fact.System.{System}
 use Rattle.uc_fact.specs.Ground.{AreOfSignature}
-use Rattle.uc_fact.specs.Live.{Live, equation_of, equations_of, numbered_from}
+use Rattle.uc_fact.specs.Live.{Live, equations_of, numbered_from}
 use Rattle.uc_rewrite.specs.Replay.{FactsReplay}
 use Rattle.uc_shelf.specs.declared.entry.Entry.{Entry}
 use Rattle.uc_shelf.specs.Entries.{born, is_dead, equations, live}

@@ -1,5 +1,5 @@
 -- The overlaps of the facts that live, one by one, and what each of them comes from.
-use Rattle.std.proofs.Common.{◌≡◌, ℕ, zero, suc, ◌+◌, ◌<◌, ◌≤◌, Bool, true, false, not, List, [], ◌∷◌, ◌++◌, length, get_or, map, filter, take, slice_get, Some, refl, sym, ap, ◌∙◌, subst, arith, append_assoc, append-nil, inl, inr}
+use Rattle.std.proofs.Common.{◌≡◌, ℕ, zero, suc, ◌+◌, ◌<◌, ◌≤◌, Bool, not, List, [], ◌∷◌, ◌++◌, length, get_or, map, filter, take, slice_get, Some, refl, sym, ap, ◌∙◌, subst, arith, append_assoc, append-nil, inl, inr}
 use Rattle.std.proofs.lemmas.Bool.{cases_Bool}
 use Rattle.std.proofs.lemmas.List.{map_more, take_all}
 use Rattle.uc_term.specs.declared.equation.Equation.{Equation}
@@ -7,14 +7,13 @@ use Rattle.uc_order.specs.Laws.{Meaning}
 use Rattle.uc_order.specs.Members.{In, in_front, in_rest}
 use Rattle.uc_fact.specs.declared.fact.Fact.{Fact}
 use Rattle.uc_fact.specs.declared.fact.Overlap.{Overlap}
-use Rattle.uc_fact.specs.declared.fact.Origin.{Origin}
 use Rattle.uc_fact.specs.Live.{Live, Rule, RiseFrom, AreRising, equation_of, numbered_from}
 use Rattle.uc_pair.specs.declared.formed.Formed.{Formed}
 use Rattle.uc_pair.specs.declared.formed.Size.{Size}
 use Rattle.uc_pair.specs.declared.formed.Size.TheVariants.{Weight, Same, Large}
 use Rattle.uc_term.specs.declared.equation.Side.TheVariants.{Left, Right}
 use Rattle.uc_pair.specs.Overlapping.{read_from}
-use Rattle.uc_pair.specs.Listing.{Lists, no_more_places, at_variable, no_unifier, repeats, goes_nowhere, leads_up, is_listed, ListsEach, no_rules, next_rules, AreOverlaps}
+use Rattle.uc_pair.specs.Listing.{Lists, no_more_places, at_variable, no_unifier, repeats, goes_nowhere, leads_up, is_listed, no_rules, next_rules, AreOverlaps}
 use Rattle.uc_shelf.specs.declared.entry.Entry.{Entry}
 use Rattle.uc_shelf.specs.Entries.{born, is_dead, equations, live}
 use Rattle.uc_machine.specs.Lists.{Each}

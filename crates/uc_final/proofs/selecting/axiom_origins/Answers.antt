@@ -1,5 +1,5 @@
 use Rattle.std.proofs.Common.{arith}
-use Rattle.uc_final.proofs.Selected.{axioms_next, axioms_end}
+use Rattle.uc_final.proofs.Selected.{axioms_next}
 use Rattle.uc_final.proofs.selecting.axiom_origins.Goals as goal
 
 pub loop-k-preserved : goal.loop-k-preserved
