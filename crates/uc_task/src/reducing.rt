@@ -1,0 +1,77 @@
+//! Whether an equation reduces another one.
+
+ghost use Rattle.std.specs.Prelude.{◌↔◌, IsTrue, IfOk};
+ghost use Rattle.uc_machine.specs.Results.{Reduces, StepsIn};
+ghost use Rattle.uc_task.specs.Reducing.{HasInstance, Gives};
+
+use std::alloc::{AllocError, Global};
+use std::slice::from_ref;
+use uc_fact::{Equation, Stop};
+use uc_order::Order;
+use uc_rewrite::{Scan, normalise};
+use uc_term::Term;
+use uc_unify::matches_both;
+
+/// Whether an equation makes an ordered step in a side of another one, or has it as an instance, either way round.
+pub fn reduces<O: Order>(
+    alloc: Global,
+    equation: &Equation,
+    other: &Equation,
+    order: &O,
+) -> Result<bool, AllocError>
+    ensures { IfOk result (λ answer. IsTrue answer ↔ Reduces (O.meaning order.now) equation.now other.now) }
+{
+    if steps_in(alloc, equation, &other.left, order)? {
+        return Ok(true);
+    }
+    if steps_in(alloc, equation, &other.right, order)? {
+        return Ok(true);
+    }
+    has_instance(alloc, equation, other)
+}
+
+/// Whether an equation makes an ordered step in a term.
+fn steps_in<O: Order>(
+    alloc: Global,
+    equation: &Equation,
+    term: &Term,
+    order: &O,
+) -> Result<bool, AllocError>
+    ensures { IfOk result (λ answer. IsTrue answer ↔ StepsIn (O.meaning order.now) equation.now term.now) }
+{
+    let normal = normalise(alloc, term, &Scan::new(from_ref(equation)), order, 0)?;
+    match normal.stop {
+        Stop::Full => Ok(false),
+        Stop::Steps => Ok(true),
+        Stop::Size => Ok(true),
+    }
+}
+
+/// Whether an equation has another one as an instance, either way round.
+fn has_instance(alloc: Global, equation: &Equation, other: &Equation) -> Result<bool, AllocError>
+    ensures { IfOk result (λ answer. IsTrue answer ↔ HasInstance equation.now other.now) }
+{
+    if is_instance(alloc, &equation.left, &equation.right, other)? {
+        return Ok(true);
+    }
+    is_instance(alloc, &equation.right, &equation.left, other)
+}
+
+/// Whether one substitution makes the two terms the left and the right side of an equation.
+fn is_instance(
+    alloc: Global,
+    left: &Term,
+    right: &Term,
+    other: &Equation,
+) -> Result<bool, AllocError>
+    ensures { IfOk result (λ answer. IsTrue answer ↔ Gives left.now right.now other.now) }
+{
+    let both = matches_both(
+        alloc,
+        left.as_nodes(),
+        other.left.as_nodes(),
+        right.as_nodes(),
+        other.right.as_nodes(),
+    )?;
+    Ok(both.is_some())
+}
