@@ -101,7 +101,11 @@ fn wide(alloc: Global, first: Term, other: &Term) -> Result<Term, TermFault> {
     for _ in 1..WIDTH {
         args.push(other.copy(alloc)?)?;
     }
-    Term::app(alloc, WIDE, args.as_slice())
+    let args = args.as_slice();
+    if args.len() > WIDTH {
+        return Err(TermFault::TooLarge);
+    }
+    Term::app(alloc, WIDE, args)
 }
 
 // The constant under 64 of the unary symbols.
