@@ -187,7 +187,12 @@ fn leads_from(
 {
     match replay(g, chain, axioms, facts)? {
         None => Ok(false),
-        Some((start, end)) => Ok(start.same(from) && end.same(to)),
+        Some((start, end)) => {
+            if !start.same(from) {
+                return Ok(false);
+            }
+            Ok(end.same(to))
+        }
     }
 }
 
@@ -236,14 +241,18 @@ fn meet(
 ) -> Result<bool, Fail>
     ensures { IfOk result (λ meet. IsTrue meet → (meeting : Tree) × LeadsFrom axioms.now facts.now left.now goal.now.left meeting × LeadsFrom axioms.now facts.now right.now goal.now.right meeting) }
 {
-    let meeting = match left.steps.as_slice().last() {
-        None => &left.start,
+    let meeting = last_of(left);
+    if !leads_from(g, axioms, facts, left, &goal.left, meeting)? {
+        return Ok(false);
+    }
+    leads_from(g, axioms, facts, right, &goal.right, meeting)
+}
+
+fn last_of(chain: &Chain) -> &Term {
+    match chain.steps.as_slice().last() {
+        None => &chain.start,
         Some(step) => &step.to,
-    };
-    Ok(
-        leads_from(g, axioms, facts, left, &goal.left, meeting)?
-            && leads_from(g, axioms, facts, right, &goal.right, meeting)?,
-    )
+    }
 }
 
 // Whether there is room for the numbers of all lines.
@@ -346,17 +355,34 @@ fn same_line(a: &Line, b: &Line) -> bool {
         && same_source(&a.source, &b.source)
 }
 
+// The file of a line from this source.
+fn file_of(source: &LineSource) -> &'static [u8] {
+    match source {
+        LineSource::File(_) => b"r.p",
+        LineSource::Chain { .. } => b"",
+        LineSource::Reflexive { .. } => b"",
+        LineSource::EncodeGoal { .. } => b"",
+        LineSource::Refute { .. } => b"",
+    }
+}
+
 #[test]
 fn proofs_of_rows(rt: HostRuntime) -> Result<(), Fail> {
     let g = rt.alloc();
     for row in [SAME, TWICE, OPEN] {
         let mut symbols = Symbols::new(g);
-        let made = extraction_of(g, &mut symbols, &row)?.ok_or("a chain that doesn't replay")?;
-        let proof = made.proof;
+        let made = extraction_of(g, &mut symbols, &row)?.ok_or(
+            "a chain that doesn't lead to its end",
+        )?;
+        let lines = made.proof.lines.as_slice();
         let wanted = read_proof(g, row.proof.as_bytes(), &mut symbols)?;
-        assert!(rt; proof.lines.len() == wanted.lines.len());
-        for (a, b) in proof.lines.as_slice().iter().zip(wanted.lines.as_slice()) {
+        assert!(rt; lines.len() == wanted.lines.len());
+        assert!(rt; lines.len() == made.files.len());
+        for (a, b) in lines.iter().zip(wanted.lines.as_slice()) {
             assert!(rt; same_line(a, b));
+        }
+        for (line, file) in lines.iter().zip(made.files.as_slice()) {
+            assert!(rt; file.as_bytes() == file_of(&line.source));
         }
     }
     Ok(())
