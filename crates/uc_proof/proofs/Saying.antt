@@ -1,5 +1,5 @@
 -- What the line of a part says, by what it is made of.
-use Rattle.std.proofs.Common.{◌≡◌, ℕ, zero, suc, ◌<◌, List, [], ◌∷◌, length, map, get_or, slice_get, Option, Some, None, Result, refl, sym, ap, ◌∙◌, subst, arith}
+use Rattle.std.proofs.Common.{◌≡◌, ℕ, zero, suc, ◌<◌, List, [], ◌∷◌, length, map, get_or, slice_get, Option, Some, None, Result, sym, ap, ◌∙◌, subst, arith}
 use Rattle.std.specs.Result.{IfOk}
 use Rattle.std.proofs.lemmas.Result.{IfOk-weaker}
 use Rattle.std.proofs.lemmas.Option.{slice_get-get_or}
@@ -47,16 +47,26 @@ source_inside problem plan [] k r = absurd r
 source_inside problem plan (s ∷ ss) zero r = omega arith
 source_inside problem plan (s ∷ ss) (suc k) r = let l = source_inside problem plan ss k r in omega arith
 
-pub source_ready : (problem : Problem) (plan : List Part) (ss : List Source) (k : ℕ) (d s : Source) → IsSourceReady problem plan (slice_get ss k) → get_or ss k d ≡ s → IsSourceReady problem plan (Some s)
-source_ready problem plan ss k d s r e = subst (IsSourceReady problem plan) (slice_get-get_or ss k d (source_inside problem plan ss k r) ∙ ap Some e) r
-
 pub goal_inside : (plan : List Part) (cs : List (Option ℕ)) (k : ℕ) → IsGoalReady plan (slice_get cs k) → k < length cs
 goal_inside plan [] k r = absurd r
 goal_inside plan (c ∷ cs) zero r = omega arith
 goal_inside plan (c ∷ cs) (suc k) r = let l = goal_inside plan cs k r in omega arith
 
-pub goal_ready_at : (plan : List Part) (cs : List (Option ℕ)) (k : ℕ) (d c : Option ℕ) → IsGoalReady plan (slice_get cs k) → get_or cs k d ≡ c → IsGoalReady plan (Some c)
-goal_ready_at plan cs k d c r e = subst (IsGoalReady plan) (slice_get-get_or cs k d (goal_inside plan cs k r) ∙ ap Some e) r
+pub source_at : (problem : Problem) (plan : List Part) (ss xs : List Source) (k : ℕ) (d s : Source) → xs ≡ ss → IsSourceReady problem plan (slice_get ss k) → get_or xs k d ≡ s → slice_get ss k ≡ Some s
+source_at problem plan ss xs k d s e r q = slice_get-get_or ss k d (source_inside problem plan ss k r) ∙ ap Some (ap (λ (l : List Source). get_or l k d) (sym e) ∙ q)
+
+pub goal_at : (plan : List Part) (cs xs : List (Option ℕ)) (k : ℕ) (d c : Option ℕ) → xs ≡ cs → IsGoalReady plan (slice_get cs k) → get_or xs k d ≡ c → slice_get cs k ≡ Some c
+goal_at plan cs xs k d c e r q = slice_get-get_or cs k d (goal_inside plan cs k r) ∙ ap Some (ap (λ (l : List (Option ℕ)). get_or l k d) (sym e) ∙ q)
+
+pub item_is : {A : Type 0} (ss xs : List A) (k : ℕ) (x d : A) → xs ≡ ss → slice_get ss k ≡ Some x → get_or xs k d ≡ x
+item_is ss xs k x d e h = ap (λ l. get_or l k d) e ∙ get_is ss k x d h
+
+-- a line with an equation, by its parts
+pub as_equation : {E : Type 0} (r : Result Line E) (name : List ℕ) (s other : LineSource) (e same : Equation) → s ≡ other → e ≡ same → IfOk r (λ line. line ≡ equation_line name s e) → IfOk r (λ line. line ≡ equation_line name other same)
+as_equation r name s other e same p q h = subst (λ (x : LineSource). IfOk r (λ line. line ≡ equation_line name x same)) p (subst (λ (x : Equation). IfOk r (λ line. line ≡ equation_line name s x)) q h)
+
+pub as_refutation : {E : Type 0} (r : Result Line E) (name list other : List ℕ) → list ≡ other → IfOk r (λ line. line ≡ refute_line name list) → IfOk r (λ line. line ≡ refute_line name other)
+as_refutation r name list other p h = subst (λ (x : List ℕ). IfOk r (λ line. line ≡ refute_line name x)) p h
 
 module _ (problem : Problem) (enc : Encoded) (facts : List Fact) (conclusion : Chain) (goal : ℕ) (plan : List Part) where
   pub said_so : {E : Type 0} (r : Result Line E) (name other : List ℕ) (p q : Part) → name ≡ other → p ≡ q → IfOk r (Says problem enc facts conclusion goal plan name p) → IfOk r (Says problem enc facts conclusion goal plan other q)

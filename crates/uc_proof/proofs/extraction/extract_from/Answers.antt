@@ -8,7 +8,7 @@ use Rattle.uc_problem.specs.declared.problem.Problem.{Problem}
 use Rattle.uc_problem.specs.declared.problem.Encoded.{Encoded}
 use Rattle.uc_proof.specs.declared.part.Part.{Part}
 use Rattle.uc_proof.specs.Files.{part_file}
-use Rattle.uc_proof.specs.Written.{AreWritten}
+use Rattle.uc_proof.specs.Written.{line_name, Says, AreWritten}
 use Rattle.uc_proof.proofs.Sources.{goal_asked}
 use Rattle.uc_proof.proofs.Ready.{names_earlier, goal_within}
 use Rattle.uc_proof.proofs.Right.{all_right, refutes_last}
@@ -23,9 +23,9 @@ counted f xs n e = e ∙ sym (length-map xs f)
 planned_at : (plan parts : List Part) (i : ℕ) (d : Part) → parts ≡ plan → i < length parts → slice_get plan i ≡ Some (get_or parts i d)
 planned_at plan parts i d e h = ap (λ l. slice_get l i) (sym e) ∙ slice_get-get_or parts i d h
 
-all_written : (problem : Problem) (encoded : Encoded) (facts : List Fact) (conclusion : Chain) (goal : ℕ) (plan parts : List Part) (i : ℕ) (lines all : List Line) → parts ≡ plan → all ≡ lines → AreWritten problem encoded facts conclusion goal plan 0 (take i parts) lines → AreWritten problem encoded facts conclusion goal plan 0 (take i plan) all
+all_written : (problem : Problem) (encoded : Encoded) (facts : List Fact) (conclusion : Chain) (goal : ℕ) (plan parts : List Part) (i : ℕ) (lines all : List Line) → parts ≡ plan → all ≡ lines → AreWritten problem encoded facts conclusion goal parts 0 (take i parts) lines → AreWritten problem encoded facts conclusion goal plan 0 (take i plan) all
 all_written problem encoded facts conclusion goal plan parts i lines all e q w =
-    subst (λ (ls : List Line). AreWritten problem encoded facts conclusion goal plan 0 (take i plan) ls) (sym q) (subst (λ (ps : List Part). AreWritten problem encoded facts conclusion goal plan 0 (take i ps) lines) e w)
+    subst (λ (ls : List Line). AreWritten problem encoded facts conclusion goal plan 0 (take i plan) ls) (sym q) (subst (λ (ps : List Part). AreWritten problem encoded facts conclusion goal ps 0 (take i ps) lines) e w)
 
 pub needed_for-requires-clause-earlier : goal.needed_for-requires-clause-earlier
 needed_for-requires-clause-earlier c = names_earlier c.args.encoded.now.axioms (map (λ f. f.now) c.args.facts.now) c.requires.facts
@@ -42,8 +42,13 @@ line_of-requires-clause-ready c =
 
 pub loop-number-preserved : goal.loop-number-preserved
 loop-number-preserved c =
-    written_on c.args.problem.now c.args.encoded.now (map (λ f. f.now) c.args.facts.now) c.in_ok-conclusion.conclusion c.args.goal c.in_ok-plan.plan c.parts-parts.result.now c.loop-number.number _ _ c.loop-number.lines.items c.push.new.self.items c.in_ok-renumbered.field-0 c.loop-number-test.true refl c.loop-number.invariant
-    (record { said = c.in_ok-line.line; says = c.in_ok-line.ensures; line_is = c.in_ok-renumbered.ensures }) c.in_ok-push.ensures.items
+    written_on c.args.problem.now c.args.encoded.now (map (λ f. f.now) c.args.facts.now) c.in_ok-conclusion.conclusion c.args.goal c.parts-parts.result.now c.parts-parts.result.now c.loop-number.number _ _ c.loop-number.lines.items c.push.new.self.items c.in_ok-renumbered.field-0 c.loop-number-test.true refl c.loop-number.invariant
+    (record {
+      said = c.in_ok-line.line;
+      says = subst (λ (ps : List Part). Says c.args.problem.now c.args.encoded.now (map (λ f. f.now) c.args.facts.now) c.in_ok-conclusion.conclusion c.args.goal ps (line_name c.loop-number.number) _ c.in_ok-line.line) (sym c.parts-parts.ensures) c.in_ok-line.ensures;
+      line_is = c.in_ok-renumbered.ensures;
+    })
+    c.in_ok-push.ensures.items
 
 pub returns-clause-extracted : goal.returns-clause-extracted
 returns-clause-extracted c =
