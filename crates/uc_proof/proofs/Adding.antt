@@ -5,7 +5,7 @@ use Rattle.uc_problem.specs.declared.problem.Source.{Source}
 use Rattle.uc_problem.specs.declared.problem.Source.TheVariants as source
 use Rattle.uc_proof.specs.declared.part.Part.{Part}
 use Rattle.uc_proof.specs.declared.part.Part.TheVariants as part
-use Rattle.uc_proof.specs.Parts.{is_clause, is_encoding, axioms_where, facts_from, all_parts, Selects, selects_none, selects, passes}
+use Rattle.uc_proof.specs.Parts.{is_clause, is_encoding, axioms_where, facts_from, Selects, selects_none, selects, passes}
 use Rattle.uc_proof.specs.Making.{Adds}
 
 module _ (Is : Part → Type 0) where

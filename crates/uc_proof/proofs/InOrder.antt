@@ -1,12 +1,11 @@
 -- The variables of a renumbered line are numbered by first occurrence.
-use Rattle.std.proofs.Common.{◌≡◌, ℕ, zero, suc, ◌+◌, ◌==◌, ◌||◌, Bool, true, false, List, [], ◌∷◌, ◌++◌, length, map, get_or, if◌then◌else◌, refl, sym, ap, ap₂, ◌∙◌, subst, arith, append_assoc, length-append}
-use Rattle.std.specs.List.{flat_map, AllByRecursion}
+use Rattle.std.proofs.Common.{◌≡◌, ℕ, ◌+◌, ◌==◌, ◌||◌, Bool, true, false, List, [], ◌∷◌, ◌++◌, length, map, get_or, if◌then◌else◌, refl, sym, ap, ap₂, ◌∙◌, subst, append_assoc, length-append}
+use Rattle.std.specs.List.{flat_map}
 use Rattle.std.proofs.lemmas.Bool.{eqb-true, eq-eqb}
 use Rattle.std.proofs.lemmas.List.{map-append}
-use Rattle.uc_term.specs.declared.node.Sym.{Sym}
 use Rattle.uc_term.specs.Tree.{Tree, var, app, Trees, none, more, apply_all}
 use Rattle.uc_term.specs.Variables.{variables, variables_all, is_among, firsts, firsts_after, place_of, renumbered_by}
-use Rattle.uc_term.proofs.Firsts.{is_among-append, or-false}
+use Rattle.uc_term.proofs.Firsts.{is_among-append}
 use Rattle.uc_check.specs.declared.proof.Line.{Line}
 use Rattle.uc_check.specs.declared.proof.LineStep.{LineStep}
 use Rattle.uc_check.specs.declared.proof.LineSource.{LineSource}
@@ -21,7 +20,7 @@ use Rattle.uc_proof.specs.declared.part.Part.{Part}
 use Rattle.uc_proof.specs.Written.{AreWritten}
 use Rattle.uc_proof.specs.Extracted.{IsExtracted}
 use Rattle.uc_proof.specs.Chains.{conclusion_of}
-use Rattle.uc_proof.proofs.Renumbered.{place_named, among_firsts, among_front, among_behind}
+use Rattle.uc_proof.proofs.Renumbered.{place_named, among_firsts, among_behind}
 
 -- names at different places are different
 apart : (xs : List ℕ) (x y : ℕ) → is_among x xs ≡ true → is_among y xs ≡ true → (place_of xs x == place_of xs y) ≡ (x == y)

@@ -1,13 +1,10 @@
 -- The parts of a proof stand in the order of their levels: so what has a lower level stands earlier.
-use Rattle.std.proofs.Common.{◌≡◌, ℕ, zero, suc, ◌+◌, ◌<◌, ◌≤◌, Bool, true, false, List, [], ◌∷◌, ◌++◌, length, map, slice_get, Option, Some, None, refl, sym, ap, ◌∙◌, subst, arith, if◌then◌else◌}
+use Rattle.std.proofs.Common.{◌≡◌, ℕ, zero, suc, ◌+◌, ◌<◌, ◌≤◌, List, [], ◌∷◌, ◌++◌, map, slice_get, Option, Some, refl, sym, ap, subst, arith}
 use Rattle.uc_problem.specs.declared.problem.Source.{Source}
 use Rattle.uc_problem.specs.declared.problem.Source.TheVariants as source
-use Rattle.uc_problem.specs.declared.problem.Problem.{Problem}
-use Rattle.uc_problem.specs.declared.problem.Encoded.{Encoded}
-use Rattle.uc_fact.specs.declared.fact.Fact.{Fact}
 use Rattle.uc_proof.specs.declared.part.Part.{Part}
 use Rattle.uc_proof.specs.declared.part.Part.TheVariants as part
-use Rattle.uc_proof.specs.Parts.{is_clause, is_encoding, axioms_where, facts_from, all_parts, Selects, selects_none, selects, passes}
+use Rattle.uc_proof.specs.Parts.{is_clause, is_encoding, axioms_where, facts_from, Selects, selects_none, selects, passes}
 
 abbrev pub source_level : Option Source → ℕ
 source_level (Some (source.Clause c)) = 0

@@ -1,5 +1,5 @@
 -- What is made of the chains is the proof that they determine.
-use Rattle.std.proofs.Common.{◌≡◌, ℕ, ◌<◌, ◌≤◌, ◌↔◌, List, length, map, take, slice_get, Some, sym, ap, ◌∙◌, subst}
+use Rattle.std.proofs.Common.{◌≡◌, ℕ, ◌≤◌, ◌↔◌, List, length, map, take, slice_get, Some, sym, subst}
 use Rattle.uc_term.proofs.Terms.{take_of_length-le}
 use Rattle.uc_check.specs.declared.proof.Line.{Line}
 use Rattle.uc_fact.specs.declared.chain.Chain.{Chain}

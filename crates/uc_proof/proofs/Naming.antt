@@ -1,9 +1,9 @@
 -- How the variables of a line get their numbers.
-use Rattle.std.proofs.Common.{◌≡◌, ℕ, zero, suc, ◌+◌, ◌<◌, ◌≤◌, ◌==◌, ◌||◌, not, Bool, true, false, cond, List, [], ◌∷◌, ◌++◌, length, map, take, get_or, if◌then◌else◌, refl, sym, ap, ap₂, ◌∙◌, subst, arith, append_assoc, append-nil, ◌⊎◌, inl, inr}
-use Rattle.std.specs.List.{flat_map, list_any, position_or_len}
+use Rattle.std.proofs.Common.{◌≡◌, ℕ, ◌+◌, ◌<◌, ◌≤◌, ◌==◌, ◌||◌, not, Bool, true, false, cond, List, [], ◌∷◌, ◌++◌, length, map, take, get_or, if◌then◌else◌, refl, sym, ap, ap₂, ◌∙◌, subst, arith, append_assoc, append-nil}
+use Rattle.std.specs.List.{list_any, position_or_len}
 use Rattle.std.proofs.lemmas.List.{map-append, take_more}
 use Rattle.std.proofs.lemmas.Grind.{flat_map-append}
-use Rattle.uc_term.specs.Tree.{Tree, var, apply}
+use Rattle.uc_term.specs.Tree.{Tree, var}
 use Rattle.uc_term.specs.Variables.{variables, is_among, firsts, firsts_after, place_of, renumbered_by}
 use Rattle.uc_term.proofs.Agree.{same_if}
 use Rattle.uc_term.proofs.Firsts.{is_among-append, firsts_after-append, firsts_after-like}

@@ -1,8 +1,7 @@
 -- A place of a term has one path.
-use Rattle.std.proofs.Common.{◌≡◌, ℕ, zero, suc, List, [], ◌∷◌, Option, Some, None, option_and_then, refl, sym, ap, ◌∙◌, ◌≢◌}
-use Rattle.uc_term.specs.declared.node.Sym.{Sym}
-use Rattle.uc_term.specs.Tree.{Tree, var, app, Trees, none, more, subterm, put}
-use Rattle.uc_term.specs.Path.{nth, change, written_argument, at_position, put_position}
+use Rattle.std.proofs.Common.{◌≡◌, ℕ, zero, suc, List, [], ◌∷◌, Option, Some, None, option_and_then, refl, sym, ap, ◌∙◌}
+use Rattle.uc_term.specs.Tree.{Tree, var, app, Trees, none, more, subterm}
+use Rattle.uc_term.specs.Path.{nth, change, at_position, put_position}
 use Rattle.uc_term.specs.Positions.{IsPlaceOf}
 
 there : (o : Option Tree) (p : List ℕ) (u : Tree) → option_and_then (λ v. at_position v p) o ≡ Some u → (a : Tree) × (o ≡ Some a) × (at_position a p ≡ Some u)

@@ -1,41 +1,36 @@
 -- An extracted proof can be printed where what it is made of can.
-use Rattle.std.proofs.Common.{◌≡◌, ℕ, zero, suc, ◌+◌, ◌<◌, ◌≤◌, ◌^◌, ◌||◌, Bool, true, false, List, [], ◌∷◌, ◌++◌, length, map, slice_get, Option, Some, None, option_and_then, refl, sym, ap, ap₂, ◌∙◌, subst, arith}
-use Rattle.std.specs.Prelude.{codes, decimal, bytes_eq}
-use Rattle.std.specs.List.{list_any, list_all, AllByRecursion}
+use Rattle.std.proofs.Common.{◌≡◌, ℕ, zero, suc, ◌+◌, ◌<◌, ◌≤◌, ◌^◌, ◌||◌, Bool, true, false, List, [], ◌∷◌, ◌++◌, length, map, Option, Some, None, option_and_then, refl, sym, ap, ◌∙◌, subst, arith}
+use Rattle.std.specs.Prelude.{decimal, bytes_eq}
+use Rattle.std.specs.List.{list_any, AllByRecursion}
 use Rattle.std.specs.Str.Parse.{digits_value}
 use Rattle.std.specs.Cmp.Lexicographic.{bytes_decides}
 use Rattle.std.proofs.lemmas.Fmt.{decimal_is_IsNumeral}
 use Rattle.uc_term.specs.declared.node.Sym.{Sym}
-use Rattle.uc_term.specs.declared.equation.Equation.{Equation}
 use Rattle.uc_term.specs.Tree.{Tree, var, app, Trees, none, more, count, apply, apply_all, subterm}
-use Rattle.uc_term.specs.Over.{IsOver, AreOver, IsTerm}
+use Rattle.uc_term.specs.Over.{AreOver, IsTerm}
 use Rattle.uc_term.specs.Path.{nth, written_argument, at_position}
-use Rattle.uc_term.specs.Positions.{IsPlaceOf}
-use Rattle.uc_term.specs.Table.{Table, Has, IsOf, arity_of}
+use Rattle.uc_term.specs.Table.{Table, arity_of}
 use Rattle.uc_term.specs.Variables.{place_of, renumbered_by}
 use Rattle.uc_clause.specs.Bytes.{is_name}
-use Rattle.uc_clause.specs.Names.{IsSpellable, IsSpellableName}
+use Rattle.uc_clause.specs.Names.{IsSpellable}
 use Rattle.uc_clause.specs.Printable.{IsPrintable, IsPrintableSymbol}
-use Rattle.uc_clause.specs.declared.clause.Sourced.{Sourced}
 use Rattle.uc_clause.proofs.Printed.{number_words}
 use Rattle.uc_check.specs.declared.proof.Line.{Line}
 use Rattle.uc_check.specs.declared.proof.LineStep.{LineStep}
-use Rattle.uc_check.specs.declared.proof.LineSource.{LineSource}
-use Rattle.uc_check.specs.declared.proof.LineSource.TheVariants.{File, Chain as ByChain, Reflexive, EncodeGoal, Refute}
+use Rattle.uc_check.specs.declared.proof.LineSource.TheVariants.{Reflexive, EncodeGoal}
 use Rattle.uc_tstp.specs.Printing.{names_in}
-use Rattle.uc_tstp.specs.Printable.{AreLineNames, IsPath, IsPrintableStep, IsPrintableSource, IsPrintableBody, IsPrintableLine, ArePrintableLines, line_variables, renumbered_step, renumbered_source, renumbered_line}
+use Rattle.uc_tstp.specs.Printable.{AreLineNames, IsPath, IsPrintableStep, IsPrintableLine, ArePrintableLines, line_variables, renumbered_step, renumbered_line}
 use Rattle.uc_fact.specs.declared.chain.Step.{Step}
 use Rattle.uc_fact.specs.declared.chain.Chain.{Chain}
 use Rattle.uc_fact.specs.declared.fact.Fact.{Fact}
 use Rattle.uc_problem.specs.declared.problem.Problem.{Problem}
 use Rattle.uc_problem.specs.declared.problem.Encoded.{Encoded}
-use Rattle.uc_problem.specs.declared.problem.Source.TheVariants as source
 use Rattle.uc_proof.specs.declared.part.Part.{Part}
 use Rattle.uc_proof.specs.declared.part.Part.TheVariants as part
 use Rattle.uc_fact.specs.Chains.{steps_back}
 use Rattle.uc_proof.specs.Chains.{conclusion_of}
 use Rattle.uc_proof.specs.Files.{clause_file, source_file, part_file}
-use Rattle.uc_proof.specs.Written.{line_name, clause_line, equation_line, IsStepFor, AreStepsFor, Says, says_clause, says_denial, says_reflexive, says_goal, says_fact, says_conclusion, refutes_denied, refutes_encoded, IsWritten, AreWritten}
+use Rattle.uc_proof.specs.Written.{line_name, clause_line, equation_line, AreStepsFor, Says, says_clause, says_denial, says_reflexive, says_goal, says_fact, says_conclusion, refutes_denied, refutes_encoded, AreWritten}
 use Rattle.uc_proof.specs.Printable.{IsPrintableChain, ArePrintable}
 use Rattle.uc_proof.specs.Extracted.{IsExtracted}
 

@@ -1,5 +1,5 @@
 -- Each part of a plan can be written: what its line names has a line too.
-use Rattle.std.proofs.Common.{◌≡◌, ℕ, zero, suc, ◌+◌, ◌<◌, ◌↔◌, Bool, true, false, List, [], ◌∷◌, ◌++◌, length, map, take, slice_get, Option, Some, None, refl, sym, ap, ◌∙◌, subst, arith, ◌⊎◌, inl, inr, if◌then◌else◌}
+use Rattle.std.proofs.Common.{◌≡◌, ℕ, zero, suc, ◌+◌, ◌<◌, Bool, true, false, List, [], ◌∷◌, ◌++◌, length, map, take, slice_get, Some, None, refl, sym, ap, ◌∙◌, subst, arith, inl, inr}
 use Rattle.uc_term.specs.Tree.{Tree}
 use Rattle.uc_term.specs.declared.equation.Equation.{Equation}
 use Rattle.uc_clause.specs.declared.clause.Sourced.{Sourced}
@@ -15,7 +15,6 @@ use Rattle.uc_problem.specs.declared.problem.Encoded.{Encoded}
 use Rattle.uc_problem.specs.declared.problem.Source.{Source}
 use Rattle.uc_problem.specs.declared.problem.Source.TheVariants as source
 use Rattle.uc_problem.specs.Holds.{numbers_of}
-use Rattle.uc_problem.specs.Marks.{is_open_goal}
 use Rattle.uc_proof.specs.declared.part.Part.{Part}
 use Rattle.uc_proof.specs.declared.part.Part.TheVariants as part
 use Rattle.uc_proof.specs.Chains.{conclusion_of, ProvesGoal}
@@ -23,7 +22,7 @@ use Rattle.uc_proof.specs.Needed.{IsNamedBy, IsUsed, by_goal, by_fact, IsDenied,
 use Rattle.uc_proof.specs.Parts.{part_of, is_clause, is_encoding, axioms_where, facts_from, all_parts, Selects}
 use Rattle.uc_proof.specs.Making.{IsAmong, IsNamedPart, NameEarlier, AreInside, IsReady, IsSourceReady, IsGoalReady, IsPartReady}
 use Rattle.uc_proof.specs.Extracted.{IsEncodingOf}
-use Rattle.uc_proof.proofs.Among.{among_left, among_right, selected_among, among_selected, axiom_among, fact_among, denial_among}
+use Rattle.uc_proof.proofs.Among.{among_left, among_right, selected_among, among_selected, axiom_among, fact_among}
 use Rattle.uc_proof.proofs.Sources.{IsFrom, from_clause, from_reflexive, from_goal, IsAsked, asked_by_clause, asked_by_encoding, axiom_from, goal_asked}
 use Rattle.uc_proof.proofs.Reversal.{conclusion_leads}
 use Rattle.uc_proof.proofs.Right.{fact_before, fact_count, goal_is_open, inside}

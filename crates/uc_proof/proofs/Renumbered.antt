@@ -1,6 +1,5 @@
 -- Terms whose variables are numbered by their places in a list of names.
-use Rattle.std.proofs.Common.{◌≡◌, ℕ, zero, suc, ◌+◌, ◌==◌, ◌||◌, Bool, true, false, List, [], ◌∷◌, ◌++◌, get_or, map, if◌then◌else◌, refl, sym, ap, ap₂, ◌∙◌, subst, arith}
-use Rattle.std.specs.List.{flat_map}
+use Rattle.std.proofs.Common.{◌≡◌, ℕ, suc, ◌+◌, ◌==◌, ◌||◌, Bool, true, false, List, [], ◌∷◌, ◌++◌, get_or, if◌then◌else◌, refl, sym, ap, ap₂, ◌∙◌, arith}
 use Rattle.std.proofs.lemmas.Bool.{eqb-true, eq-eqb}
 use Rattle.std.proofs.Math.Bool.{or-true}
 use Rattle.uc_term.specs.declared.node.Sym.{Sym}
@@ -12,7 +11,6 @@ use Rattle.uc_term.proofs.Firsts.{is_among-append}
 use Rattle.uc_check.specs.Variants.{AreVariants}
 use Rattle.uc_check.proofs.Renaming.{variants_of}
 use Rattle.uc_check.specs.declared.proof.Line.{Line}
-use Rattle.uc_check.specs.declared.proof.LineStep.{LineStep}
 use Rattle.uc_tstp.specs.Printable.{source_variables, line_variables}
 
 -- the name at the place of a name

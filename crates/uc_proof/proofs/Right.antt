@@ -1,10 +1,9 @@
 -- All lines of an extracted proof are right, and the last one is a refutation.
-use Rattle.std.proofs.Common.{◌≡◌, ℕ, zero, suc, ◌+◌, ◌<◌, ◌≤◌, ◌||◌, Bool, true, false, List, [], ◌∷◌, ◌++◌, length, map, take, get_or, slice_get, Option, Some, None, Ok, refl, sym, ap, ap₂, ◌∙◌, subst, arith, ◌⊎◌, inl, inr, length-append, append-nil, append_assoc, if◌then◌else◌}
-use Rattle.uc_term.specs.Tree.{Tree, var, app, Trees, none, more, apply, subterm, put}
+use Rattle.std.proofs.Common.{◌≡◌, ℕ, zero, suc, ◌+◌, ◌<◌, ◌||◌, Bool, true, false, List, [], ◌∷◌, ◌++◌, length, map, take, get_or, slice_get, Option, Some, None, Ok, refl, sym, ap, ap₂, ◌∙◌, subst, arith, inl, inr, length-append, append-nil, append_assoc, if◌then◌else◌}
+use Rattle.uc_term.specs.Tree.{Tree, var, apply, subterm}
 use Rattle.uc_term.specs.Variables.{variables, firsts, place_of, renumbered_by, has_variable}
-use Rattle.uc_term.specs.Path.{at_position, put_position}
-use Rattle.uc_term.specs.Positions.{IsPlaceOf}
-use Rattle.uc_term.specs.Encoding.{reflexive, refuted, pair_term, yes_term, no_term}
+use Rattle.uc_term.specs.Path.{put_position}
+use Rattle.uc_term.specs.Encoding.{reflexive, refuted, pair_term, no_term}
 use Rattle.uc_term.specs.Equations.{side_of, other_side_of}
 use Rattle.uc_term.specs.declared.equation.Equation.{Equation}
 use Rattle.uc_term.specs.declared.fresh.Fresh.{Fresh}
@@ -12,11 +11,10 @@ use Rattle.uc_term.proofs.Terms.{apply-apply, apply-var}
 use Rattle.uc_clause.specs.declared.clause.Sourced.{Sourced}
 use Rattle.uc_check.specs.declared.proof.Line.{Line}
 use Rattle.uc_check.specs.declared.proof.LineStep.{LineStep}
-use Rattle.uc_check.specs.declared.proof.LineSource.{LineSource}
-use Rattle.uc_check.specs.declared.proof.LineSource.TheVariants.{File, Chain as ByChain, Reflexive, EncodeGoal, Refute}
+use Rattle.uc_check.specs.declared.proof.LineSource.TheVariants.{Chain as ByChain, Reflexive, EncodeGoal}
 use Rattle.uc_check.specs.Variants.{AreVariants}
 use Rattle.uc_check.specs.Replacements.{IsRefutation, from_side, to_side, IsReplacement as IsLineReplacement, Leads, arrives, goes_on}
-use Rattle.uc_check.specs.Lines.{IsClause, IsChain, IsDenial, IsDerived, is_open, named_by, ReadsReflexive, ReadsGoal, RefutesGround, RefutesEncoded, Tested, file_right, chain_right, reflexive_right, goal_right, refute_right}
+use Rattle.uc_check.specs.Lines.{IsChain, IsDenial, IsDerived, is_open, named_by, Tested, file_right, chain_right, reflexive_right, goal_right, refute_right}
 use Rattle.uc_check.specs.Clauses.{equation_of as clause_equation}
 use Rattle.uc_check.specs.Checks.{EndsInRefutation, IsRightLine, AreRightBefore}
 use Rattle.uc_tstp.specs.Printable.{line_variables, renumbered_step, renumbered_source, renumbered_line}
@@ -26,14 +24,13 @@ use Rattle.uc_fact.specs.declared.chain.Step.{Step}
 use Rattle.uc_fact.specs.declared.chain.Chain.{Chain}
 use Rattle.uc_fact.specs.declared.fact.Fact.{Fact}
 use Rattle.uc_fact.specs.Live.{equation_of}
-use Rattle.uc_fact.specs.Chains.{last_term, ReplacesAt}
+use Rattle.uc_fact.specs.Chains.{last_term}
 use Rattle.uc_rewrite.specs.Replay.{named, replaced_side, IsReplacement, AreReplacements, LeadsFrom, FactsReplay}
 use Rattle.uc_problem.specs.declared.problem.Problem.{Problem}
 use Rattle.uc_problem.specs.declared.problem.Encoded.{Encoded}
 use Rattle.uc_problem.specs.declared.problem.Source.{Source}
 use Rattle.uc_problem.specs.declared.problem.Source.TheVariants as source
 use Rattle.uc_problem.specs.Marks.{is_open_goal}
-use Rattle.uc_problem.specs.Encodes.{last_goal}
 use Rattle.uc_pair.proofs.Replacing.{at_position-apply, apply-put_position}
 use Rattle.uc_proof.specs.declared.part.Part.{Part}
 use Rattle.uc_proof.specs.declared.part.Part.TheVariants as part
@@ -44,7 +41,7 @@ use Rattle.uc_proof.specs.Written.{line_name, clause_line, equation_line, refute
 use Rattle.uc_proof.specs.Extracted.{IsEncodingOf, IsExtracted}
 use Rattle.uc_proof.proofs.Renumbered.{Covers, covers_left, covers_right, unnumbered, numbered_variants, open_renamed, ground_stays, both_ground}
 use Rattle.uc_proof.proofs.Levels.{level, source_level, Ascends, lower_earlier, selected_ascend, parts_ascend}
-use Rattle.uc_proof.proofs.Sources.{IsFrom, from_clause, from_reflexive, from_goal, IsAsked, asked_by_clause, asked_by_encoding, axiom_from, goal_asked, none_of}
+use Rattle.uc_proof.proofs.Sources.{IsFrom, from_clause, from_reflexive, from_goal, IsAsked, asked_by_clause, asked_by_encoding, axiom_from, goal_asked}
 use Rattle.uc_proof.proofs.Reversal.{conclusion_leads}
 
 -- the equation that is named among the first facts is named among all of them, and its fact is one of the first

@@ -17,8 +17,8 @@ use Rattle.uc_problem.specs.declared.problem.Source.{Source}
 use Rattle.uc_problem.specs.declared.problem.Source.TheVariants as source
 use Rattle.uc_proof.specs.declared.part.Part.{Part}
 use Rattle.uc_proof.specs.declared.part.Part.TheVariants as part
-use Rattle.uc_proof.specs.Written.{clause_line, equation_line, refute_line, chain_source, Says, says_clause, says_denial, says_reflexive, says_goal, says_fact, says_conclusion, refutes_denied, refutes_encoded}
-use Rattle.uc_proof.specs.Making.{IsAmong, IsSourceReady, IsGoalReady, IsChainLine}
+use Rattle.uc_proof.specs.Written.{clause_line, equation_line, refute_line, Says, says_clause, says_denial, says_reflexive, says_goal, says_fact, says_conclusion, refutes_denied, refutes_encoded}
+use Rattle.uc_proof.specs.Making.{IsSourceReady, IsGoalReady, IsChainLine}
 
 -- what is at a number of a list
 pub get_inside : {A : Type 0} (xs : List A) (n : ℕ) (x : A) → slice_get xs n ≡ Some x → n < length xs

@@ -1,5 +1,5 @@
 -- What is used is found in one pass from the last fact to the first, and what is denied in one over the sources.
-use Rattle.std.proofs.Common.{◌≡◌, ℕ, zero, suc, ◌+◌, ◌<◌, ◌≤◌, ◌↔◌, List, [], ◌∷◌, length, drop, slice_get, Option, Some, None, refl, sym, ap, ◌∙◌, subst, arith, ◌⊎◌, inl, inr}
+use Rattle.std.proofs.Common.{◌≡◌, ℕ, zero, suc, ◌+◌, ◌≤◌, ◌↔◌, List, [], ◌∷◌, length, drop, slice_get, Option, Some, None, refl, sym, ap, ◌∙◌, subst, arith, ◌⊎◌, inl, inr}
 use Rattle.uc_fact.specs.declared.chain.By.{By}
 use Rattle.uc_fact.specs.declared.chain.By.TheVariants.{Axiom as AxiomOf, Fact as FactOf}
 use Rattle.uc_fact.specs.declared.chain.Chain.{Chain}
@@ -9,7 +9,7 @@ use Rattle.uc_problem.specs.declared.problem.Source.{Source}
 use Rattle.uc_problem.specs.declared.problem.Source.TheVariants as source
 use Rattle.uc_proof.specs.declared.part.Part.{Part}
 use Rattle.uc_proof.specs.declared.part.Part.TheVariants as part
-use Rattle.uc_proof.specs.Needed.{IsNamedBy, IsUsed, by_goal, by_fact, IsDenied, is_proved, is_encoded, IsNeeded}
+use Rattle.uc_proof.specs.Needed.{IsUsed, by_goal, by_fact, IsDenied, is_proved, is_encoded, IsNeeded}
 use Rattle.uc_proof.specs.Parts.{part_of}
 use Rattle.uc_proof.specs.Making.{IsAmong, IsNamedPart, IsUsedPart, NameEarlier, IsGoalOf, IsDeniedFrom, IsClauseOf}
 use Rattle.uc_proof.proofs.Among.{one_more}

@@ -1,5 +1,5 @@
 -- The line of each part of a proof.
-use Rattle.std.specs.Prelude.{ℕ, ◌≡◌, ◌+◌, Bool, true, List, [], ◌∷◌, ◌++◌, codes, decimal, slice_get, Some, None}
+use Rattle.std.specs.Prelude.{ℕ, ◌≡◌, ◌+◌, true, List, [], ◌∷◌, ◌++◌, codes, decimal, slice_get, Some, None}
 use Rattle.uc_term.specs.Tree.{Tree, var}
 use Rattle.uc_term.specs.Positions.{IsPlaceOf}
 use Rattle.uc_term.specs.declared.equation.Equation.{Equation}

@@ -1,4 +1,4 @@
-use Rattle.std.proofs.Common.{◌≡◌, ◌+◌, ◌-◌, ◌<◌, ◌≤◌, ◌++◌, ℕ, List, length, take, refl, sym, ap, ◌∙◌, subst, arith, append-nil}
+use Rattle.std.proofs.Common.{◌≡◌, ◌+◌, ◌-◌, ◌<◌, ◌++◌, ℕ, List, length, take, sym, ap, ◌∙◌, subst, arith, append-nil}
 use Rattle.uc_fact.specs.declared.chain.Step.{Step}
 use Rattle.uc_fact.specs.Chains.{steps_back}
 use Rattle.uc_proof.proofs.Writing.{pushed_back}

@@ -1,4 +1,4 @@
-use Rattle.std.proofs.Common.{◌+◌, ◌-◌, ◌<◌, arith, length}
+use Rattle.std.proofs.Common.{◌-◌, arith}
 use Rattle.uc_proof.proofs.Writing.{before_last}
 use Rattle.uc_proof.proofs.conclusion.term_before.Goals as goal
 

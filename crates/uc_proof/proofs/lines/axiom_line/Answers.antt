@@ -1,5 +1,4 @@
-use Rattle.std.proofs.Common.{◌≡◌, ◌∷◌, [], ℕ, List, slice_get, ap, ◌∙◌, subst}
-use Rattle.uc_term.specs.declared.equation.Equation.{Equation}
+use Rattle.std.proofs.Common.{◌∷◌, [], ap, ◌∙◌, subst}
 use Rattle.uc_check.specs.declared.proof.LineSource.TheVariants.{Reflexive, EncodeGoal}
 use Rattle.uc_problem.specs.declared.problem.Source.TheVariants as source
 use Rattle.uc_proof.specs.Making.{IsSourceReady}

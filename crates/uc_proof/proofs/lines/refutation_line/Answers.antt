@@ -1,4 +1,4 @@
-use Rattle.std.proofs.Common.{◌≡◌, ◌∷◌, [], ℕ, List, Some, None}
+use Rattle.std.proofs.Common.{◌∷◌, [], Some, None}
 use Rattle.uc_proof.proofs.Saying.{goal_at, as_refutation, denied_said, encoded_said}
 use Rattle.uc_proof.proofs.lines.refutation_line.Goals as goal
 

@@ -1,7 +1,7 @@
-use Rattle.std.proofs.Common.{◌≡◌, ℕ, ◌+◌, ◌-◌, ◌<◌, Some, map, length, slice_get, sym, ap, ◌∙◌, subst, arith}
+use Rattle.std.proofs.Common.{◌≡◌, ℕ, ◌-◌, ◌<◌, Some, map, length, sym, ap, ◌∙◌, subst, arith}
 use Rattle.std.proofs.lemmas.Option.{slice_get-get_or}
 use Rattle.uc_term.proofs.Gets.{map-get}
-use Rattle.uc_proof.proofs.Using.{Uses, uses_begin, uses_on, uses_all}
+use Rattle.uc_proof.proofs.Using.{Uses, uses_on, uses_all}
 use Rattle.uc_proof.proofs.needed.add_used.Goals as goal
 
 pub loop-number-preserved : goal.loop-number-preserved

@@ -1,4 +1,4 @@
-use Rattle.std.proofs.Common.{◌≡◌, ◌<◌, length, ◌↔◌, ◌⊎◌, ℕ, List, Option, Some, map, slice_get, get_or, ap, sym, ◌∙◌, subst}
+use Rattle.std.proofs.Common.{◌<◌, length, ◌↔◌, ◌⊎◌, ℕ, List, Option, map, slice_get, ap, sym, ◌∙◌, subst}
 use Rattle.uc_fact.specs.declared.chain.Step.{Step}
 use Rattle.uc_problem.specs.declared.problem.Source.{Source}
 use Rattle.std.proofs.lemmas.Option.{slice_get-get_or}

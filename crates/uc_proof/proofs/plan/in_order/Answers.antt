@@ -1,8 +1,8 @@
-use Rattle.std.proofs.Common.{◌≡◌, ◌+◌, ◌<◌, ◌∷◌, ◌++◌, ℕ, List, [], length, map, refl, subst, arith}
+use Rattle.std.proofs.Common.{◌+◌, ◌∷◌, ◌++◌, ℕ, List, [], length, map, subst, arith}
 use Rattle.uc_problem.specs.declared.problem.Source.{Source}
 use Rattle.uc_proof.specs.declared.part.Part.{Part}
 use Rattle.uc_proof.specs.declared.part.Part.TheVariants as part
-use Rattle.uc_proof.specs.Parts.{is_clause, is_encoding, axioms_where, facts_from, all_parts, Selects}
+use Rattle.uc_proof.specs.Parts.{is_clause, is_encoding, axioms_where, facts_from, all_parts}
 use Rattle.uc_proof.specs.Making.{IsAmong, Adds}
 use Rattle.uc_proof.proofs.Among.{selected_length}
 use Rattle.uc_proof.proofs.Adding.{adds_both, adds_all, parts_count}

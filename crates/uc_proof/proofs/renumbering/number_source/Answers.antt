@@ -1,4 +1,4 @@
-use Rattle.std.proofs.Common.{◌≡◌, ◌++◌, List, map, ap, ◌∙◌, ℕ}
+use Rattle.std.proofs.Common.{◌++◌, List, map, ap, ◌∙◌, ℕ}
 use Rattle.uc_term.specs.Variables.{firsts_after}
 use Rattle.uc_check.specs.declared.proof.LineStep.{LineStep}
 use Rattle.uc_tstp.specs.Printable.{renumbered_step}

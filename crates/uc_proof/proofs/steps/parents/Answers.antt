@@ -1,4 +1,4 @@
-use Rattle.std.proofs.Common.{◌≡◌, ap, sym, ◌∙◌}
+use Rattle.std.proofs.Common.{ap, ◌∙◌}
 use Rattle.uc_term.specs.Variables.{firsts}
 use Rattle.uc_term.proofs.Terms.{take_of_length-le}
 use Rattle.uc_proof.proofs.Writing.{bys, parent_seen}

@@ -1,4 +1,4 @@
-use Rattle.std.proofs.Common.{◌≡◌, true, sym, ◌∙◌, subst}
+use Rattle.std.proofs.Common.{sym, ◌∙◌, subst}
 use Rattle.uc_proof.specs.Making.{IsAmong}
 use Rattle.uc_proof.proofs.Same.{same, decides}
 use Rattle.uc_proof.proofs.Among.{any_among}
