@@ -1,19 +1,15 @@
 -- What each call keeps.
-use Rattle.std.proofs.Common.{◌≡◌, ℕ, zero, suc, ◌+◌, ◌-◌, ◌<◌, ◌≤◌, List, [], ◌∷◌, ◌++◌, length, Bool, true, false, cond, ◌==◌, Option, Some, None, refl, ap, sym, ◌∙◌, arith, inl, inr, append_assoc, subst, map, take, slice_get, ltb}
-use Rattle.std.specs.Prelude.{◌&&◌, ◌||◌, ◌⊎◌, ◌↔◌, count_by, nat_lt, replicate}
-use Rattle.std.proofs.lemmas.Bool.{cases_Bool, eqb-true, eqb-false, eq-eqb, ne_eqb, cases_eq, false≢true, or_parts, false_from_ne_true}
-use Rattle.std.proofs.lemmas.List.Sums.{sum_by-cons, sum_by_push}
-use Rattle.std.proofs.lemmas.List.{append-nil, length_push}
+use Rattle.std.proofs.Common.{◌≡◌, ℕ, zero, suc, ◌+◌, ◌<◌, ◌≤◌, List, [], ◌∷◌, ◌++◌, length, true, false, cond, ◌==◌, Some, refl, ap, sym, ◌∙◌, arith, inl, inr, append_assoc, subst, map, take, slice_get}
+use Rattle.std.specs.Prelude.{◌⊎◌, replicate}
+use Rattle.std.proofs.lemmas.Bool.{cases_Bool, eq-eqb, cases_eq, false≢true}
+use Rattle.std.proofs.lemmas.List.{append-nil}
 use Rattle.std.specs.List.{sum_by}
-use Rattle.uc_term.specs.Tree.{Tree}
 use Rattle.uc_term.specs.declared.equation.Equation.{Equation}
-use Rattle.uc_term.specs.declared.equation.Side.{Side}
-use Rattle.uc_term.specs.declared.equation.Side.TheVariants.{Left, Right}
 use Rattle.uc_fact.specs.declared.chain.Chain.{Chain}
 use Rattle.uc_fact.specs.declared.fact.Fact.{Fact}
 use Rattle.uc_fact.specs.declared.fact.Overlap.{Overlap}
 use Rattle.uc_fact.specs.declared.fact.Origin.{Origin}
-use Rattle.uc_fact.specs.declared.fact.Origin.TheVariants.{Axiom, Overlap as OfOverlap, Revived}
+use Rattle.uc_fact.specs.declared.fact.Origin.TheVariants.{Overlap as OfOverlap}
 use Rattle.uc_fact.specs.declared.fact.Stop.{Stop}
 use Rattle.uc_pair.specs.declared.formed.Formed.{Formed}
 use Rattle.uc_queue.specs.declared.entry.Entry.{Entry as Place}
@@ -25,38 +21,33 @@ use Rattle.uc_shelf.specs.Entries.{born, is_dead}
 use Rattle.uc_machine.specs.declared.state.Meeting.{Meeting}
 use Rattle.uc_machine.specs.declared.state.Meeting.TheVariants.{Unmet, Visiting, Met}
 use Rattle.uc_machine.specs.declared.state.Stage.{Stage}
-use Rattle.uc_machine.specs.declared.state.Stage.TheVariants.{Due, Busy, Continued, Settled, Stuck}
-use Rattle.uc_machine.specs.declared.state.Numbers.{Numbers}
 use Rattle.uc_machine.specs.declared.event.Verdict.{Verdict}
-use Rattle.uc_machine.specs.declared.event.Event.{Event}
 use Rattle.uc_machine.specs.declared.event.GoalEnd.{GoalEnd}
 use Rattle.uc_machine.specs.declared.event.Happening.{Happening}
-use Rattle.uc_machine.specs.declared.event.Happening.TheVariants.{DrawGoal, DrawMore, DrawMeet, DrawJoin, CommitGoal, CommitMore, CommitMeet, CommitJoined, CommitKept, CommitLate, Dropped, ReclaimGoal, ReclaimMore, ReclaimMeet, ReclaimJoin, AuditKept, Close}
+use Rattle.uc_machine.specs.declared.event.Happening.TheVariants.{CommitGoal, CommitMore, CommitMeet, CommitJoined, CommitKept}
 use Rattle.uc_machine.specs.declared.task.Job.{Job}
 use Rattle.uc_machine.specs.declared.task.Job.TheVariants.{Goal, More, Meet, Join}
-use Rattle.uc_machine.specs.Lists.{At, first, later, change, each, Each, map_option}
-use Rattle.uc_machine.specs.State.{Opening, State, Pair, Target, Out, dead_of, is_draw, draws_in, is_unit, out_at, without, is_waiting, queue_from, queue, peek, is_due, is_continued, is_unmet}
-use Rattle.uc_machine.specs.Effects.{records, closes, ending_of, publishes, enters, appends, dies, kills, settles, turns, stages, hands_out, takes, ends, restores, reclaim_event, reclaims, recalls, draw_event, wakes, wakes_stage, meets_unmet, unit_of, one_drawn, one_commit, one_reclaim, sides_weight, numbers_rise, task_for, drops, accepts, takes_ends, goes_on, is_met, pair_by, forms, visits, keeps}
-use Rattle.uc_machine.specs.Events.{units, units_after, unit_in, unit_draw, is_unit_draw, draw_in, draws_by, commits_by, reclaims_by, out_to, numbers_of, is_commit_what, is_reclaim_what, ending_in, ended_after, ended_by}
-use Rattle.uc_machine.specs.Promises.{Rising, WasDrawn, later_fact, IsOf}
-use Rattle.std.proofs.lemmas.Bool.{ltb-true, cases_order}
+use Rattle.uc_machine.specs.Lists.{change, each, Each}
+use Rattle.uc_machine.specs.State.{Opening, State, Pair, Target, Out, draws_in, out_at, without, is_waiting, queue, is_due, is_continued, is_unmet}
+use Rattle.uc_machine.specs.Effects.{dies, kills, turns, stages, reclaims, recalls, meets_unmet, unit_of, drops, accepts, takes_ends, goes_on, is_met, pair_by, forms, visits}
+use Rattle.uc_machine.specs.Events.{ending_in}
+use Rattle.uc_machine.specs.Promises.{later_fact, IsOf}
+use Rattle.std.proofs.lemmas.Bool.{cases_order}
 use Rattle.uc_order.specs.Laws.{Meaning}
-use Rattle.uc_fact.specs.declared.joinable.Reason.{Reason}
 use Rattle.uc_machine.specs.declared.event.Verdict.TheVariants.{Proved, PairsOut, BudgetOut}
 use Rattle.uc_machine.specs.declared.event.GoalEnd.TheVariants.{Met as EndsMet}
 use Rattle.uc_machine.specs.declared.task.Finding.{Finding}
-use Rattle.uc_machine.specs.declared.task.Finding.TheVariants.{Ends, Joined, Kept as KeptFact, Stale, Met as Visited}
+use Rattle.uc_machine.specs.declared.task.Finding.TheVariants.{Met as Visited}
 use Rattle.uc_machine.specs.declared.task.Missing.{Missing}
 use Rattle.uc_machine.specs.declared.task.Outcome.{Outcome}
-use Rattle.uc_fact.specs.Chains.{end_of}
-use Rattle.uc_machine.specs.Draws.{Reply, NoneDue, NoneUnmet, IsLate, Waits, NothingWaits, Draws, verdict_stands, goal_is_due, fact_is_unmet, orphan_is_dropped, goal_is_continued, pair_is_drawn, budget_is_out, budget_is_spent, all_is_out, all_is_done}
-use Rattle.uc_machine.specs.Commits.{GoalEnds, ends_meet, ends_differ, StageAfter, Meets, within_limit, past_limit, deaths, newly_waiting, stays, steps_of, end_word, Commits, is_late, goal_ends, more_ends, pair_joins, fact_is_kept, fact_is_stale, fact_is_dead, fact_meets}
-use Rattle.uc_machine.specs.Runs.{AuditReply, axiom_pairs, opened, Starts, axioms_wait, too_many_axioms, Audits, is_closed, is_spent, is_kept, Closes, converges, has_large, has_stuck, IsDrained, IsAudited, not_yet, once_more, MayAudit}
-use Rattle.uc_machine.proofs.Kept.{Facts, IsBusy, is_same, Tasks, EndsOnce, Numbered, Accounts, Kept}
-use Rattle.uc_machine.proofs.Lists.{get-append, below, get-change_same, get-change_other, Each-map}
-use Rattle.uc_machine.proofs.Found.{IsFound, first_is, IsPlace, peek_is}
+use Rattle.uc_machine.specs.Draws.{Reply, Draws, verdict_stands, goal_is_due, fact_is_unmet, orphan_is_dropped, goal_is_continued, pair_is_drawn, budget_is_out, budget_is_spent, all_is_out, all_is_done}
+use Rattle.uc_machine.specs.Commits.{GoalEnds, ends_meet, ends_differ, Meets, within_limit, past_limit, newly_waiting, stays, steps_of, end_word, Commits, is_late, goal_ends, more_ends, pair_joins, fact_is_kept, fact_is_stale, fact_is_dead, fact_meets}
+use Rattle.uc_machine.specs.Runs.{AuditReply, axiom_pairs, opened, Starts, axioms_wait, too_many_axioms, Audits, is_closed, is_spent, is_kept, Closes, converges, has_large, has_stuck, IsAudited, not_yet, once_more, MayAudit}
+use Rattle.uc_machine.proofs.Kept.{IsBusy, is_same, Numbered, Kept}
+use Rattle.uc_machine.proofs.Lists.{below, get-change_same, get-change_other, Each-map}
+use Rattle.uc_machine.proofs.Found.{first_is, IsPlace, peek_is}
 use Rattle.uc_machine.proofs.Blocks.{busy-goal, busy-more, busy-append, ends-append, origin-append, born-dies}
-use Rattle.uc_machine.proofs.Steps.{tasks_stay, kept_goal, kept_more, kept_meet, kept_join, kept_drop, kept_close, kept_publish, kept_kills, IsCommitOf, kept_accept, kept_late, at_task, kept_done, kept_met, kept_ends, kept_reclaim, kept_audit}
+use Rattle.uc_machine.proofs.Steps.{tasks_stay, kept_goal, kept_more, kept_meet, kept_join, kept_drop, kept_close, kept_publish, kept_kills, IsCommitOf, kept_late, at_task, kept_done, kept_met, kept_ends, kept_reclaim, kept_audit}
 
 -- draw
 

@@ -1,29 +1,26 @@
 -- From one state one commit, one audit, one close and one start leave one state.
-use Rattle.std.proofs.Common.{◌≡◌, ℕ, ◌+◌, ◌<◌, ◌≤◌, List, Bool, true, false, Option, Some, None, length, refl, ap, sym, ◌∙◌, arith, subst}
+use Rattle.std.proofs.Common.{◌≡◌, ℕ, ◌+◌, ◌<◌, ◌≤◌, true, Some, None, length, refl, ap, sym, ◌∙◌, arith, subst}
 use Rattle.std.proofs.lemmas.Bool.{false≢true}
 use Rattle.uc_term.specs.Tree.{Tree}
 use Rattle.uc_fact.specs.declared.chain.Chain.{Chain}
 use Rattle.uc_fact.specs.declared.fact.Fact.{Fact}
 use Rattle.uc_fact.specs.declared.fact.Origin.{Origin}
 use Rattle.uc_fact.specs.declared.fact.Stop.{Stop}
-use Rattle.uc_pair.specs.declared.formed.Formed.{Formed}
 use Rattle.uc_shelf.specs.Entries.{born, is_dead}
 use Rattle.uc_ledger.specs.declared.ledger.State.TheVariants.{Done}
 use Rattle.uc_machine.specs.declared.state.Stage.{Stage}
 use Rattle.uc_machine.specs.declared.event.Verdict.{Verdict}
-use Rattle.uc_machine.specs.declared.event.Verdict.TheVariants.{Proved, PairsOut}
+use Rattle.uc_machine.specs.declared.event.Verdict.TheVariants.{PairsOut}
 use Rattle.uc_machine.specs.declared.event.GoalEnd.{GoalEnd}
-use Rattle.uc_machine.specs.declared.event.GoalEnd.TheVariants.{Met as EndsMet}
 use Rattle.uc_machine.specs.declared.event.Happening.{Happening}
 use Rattle.uc_machine.specs.declared.event.Happening.TheVariants.{CommitGoal, CommitMore, CommitMeet, CommitJoined, CommitKept}
 use Rattle.uc_machine.specs.declared.task.Finding.{Finding}
-use Rattle.uc_machine.specs.declared.task.Job.{Job}
 use Rattle.uc_machine.specs.declared.task.Job.TheVariants.{Goal, More, Meet, Join}
 use Rattle.uc_machine.specs.declared.task.Outcome.{Outcome}
 use Rattle.uc_machine.specs.Commits.{HasGrown, HasNotGrown, StageAfter, after_steps, full_but_grown, size_but_grown, after_full, after_size, GoalEnds, ends_meet, ends_differ, Meets, within_limit, past_limit, deaths, newly_waiting, stays, steps_of, end_word, Commits, is_late, goal_ends, more_ends, pair_joins, fact_is_kept, fact_is_stale, fact_is_dead, fact_meets}
 use Rattle.uc_machine.specs.Effects.{accepts, closes, takes_ends, stages, turns, publishes, kills, visits, is_met}
 use Rattle.uc_machine.specs.Lists.{each}
-use Rattle.uc_machine.specs.Runs.{AuditReply, KeptAs, ClosedBy, Starts, axioms_wait, too_many_axioms, Audits, is_closed, is_spent, is_kept, Closes, converges, has_large, has_stuck}
+use Rattle.uc_machine.specs.Runs.{AuditReply, ClosedBy, Starts, axioms_wait, too_many_axioms, Audits, is_closed, is_spent, is_kept, Closes, converges, has_large, has_stuck}
 use Rattle.uc_machine.specs.State.{Opening, State, Out, waiting}
 
 -- commit

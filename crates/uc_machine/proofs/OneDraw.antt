@@ -1,14 +1,13 @@
 -- From one state one draw has one answer and leaves one state.
-use Rattle.std.proofs.Common.{◌≡◌, ℕ, ◌+◌, ◌<◌, ◌≤◌, [], Bool, true, false, Option, Some, None, slice_get, refl, ap, sym, ◌∙◌, arith, subst}
+use Rattle.std.proofs.Common.{◌≡◌, ℕ, ◌+◌, ◌<◌, ◌≤◌, true, false, Some, None, slice_get, refl, ap, sym, ◌∙◌, arith, subst}
 use Rattle.std.proofs.lemmas.Bool.{false≢true}
 use Rattle.uc_queue.specs.declared.entry.Entry.{Entry as Place}
 use Rattle.uc_machine.specs.declared.state.Meeting.{Meeting}
 use Rattle.uc_machine.specs.declared.event.Verdict.{Verdict}
-use Rattle.uc_machine.specs.declared.event.Verdict.TheVariants.{BudgetOut}
 use Rattle.uc_machine.specs.declared.task.Job.TheVariants.{Goal, More, Meet, Join}
 use Rattle.uc_machine.specs.Lists.{At}
-use Rattle.uc_machine.specs.Draws.{Reply, Drew, Idle, Drained, Closed, with_ends, NoneDue, NoneUnmet, IsLate, Waits, goal_waits, pair_waits, NothingWaits, HasBudget, IsSpent, Draws, verdict_stands, goal_is_due, fact_is_unmet, orphan_is_dropped, goal_is_continued, pair_is_drawn, budget_is_out, budget_is_spent, all_is_out, all_is_done}
-use Rattle.uc_machine.specs.Effects.{hands_out, task_for, drops, closes}
+use Rattle.uc_machine.specs.Draws.{Reply, Drew, Closed, with_ends, NoneUnmet, Waits, goal_waits, pair_waits, NothingWaits, HasBudget, IsSpent, Draws, verdict_stands, goal_is_due, fact_is_unmet, orphan_is_dropped, goal_is_continued, pair_is_drawn, budget_is_out, budget_is_spent, all_is_out, all_is_done}
+use Rattle.uc_machine.specs.Effects.{hands_out, task_for, drops}
 use Rattle.uc_machine.specs.State.{Opening, State, Target, Pair, first_due, first_unmet, first_continued, peek, is_orphan, orphan_at, head_is_orphan}
 
 -- the answer and the state

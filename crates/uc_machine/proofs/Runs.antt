@@ -1,5 +1,5 @@
 -- Every run keeps what the machine keeps.
-use Rattle.std.proofs.Common.{◌≡◌, ℕ, List, Some, refl, subst, length, take}
+use Rattle.std.proofs.Common.{◌≡◌, ℕ, List, subst, length, take}
 use Rattle.uc_term.specs.declared.equation.Equation.{Equation}
 use Rattle.uc_order.specs.Laws.{Meaning}
 use Rattle.uc_pair.specs.declared.formed.Formed.{Formed}
@@ -10,10 +10,9 @@ use Rattle.uc_machine.specs.declared.task.Job.{Job}
 use Rattle.uc_machine.specs.declared.task.Job.TheVariants.{Meet}
 use Rattle.uc_machine.specs.declared.task.Finding.{Finding}
 use Rattle.uc_machine.specs.declared.task.Finding.TheVariants.{Met as Visited}
-use Rattle.uc_machine.specs.State.{Opening, State, Out}
+use Rattle.uc_machine.specs.State.{Opening, State}
 use Rattle.uc_machine.specs.Results.{IsResult, fact_meets}
 use Rattle.uc_machine.specs.Runs.{Reaches, starts, draws_on, commits_on, reclaims_on, recalls_on, audits_on, closes_on}
-use Rattle.uc_machine.specs.Effects.{reclaims, recalls}
 use Rattle.uc_machine.proofs.Kept.{Kept}
 use Rattle.uc_machine.proofs.Steps.{kept_reclaim}
 use Rattle.uc_machine.proofs.Calls.{MeetsRightly, kept_draws, kept_commits, kept_recalls, kept_audited, kept_closes, kept_starts}

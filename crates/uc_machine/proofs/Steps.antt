@@ -1,46 +1,29 @@
 -- What each change keeps.
-use Rattle.std.proofs.Common.{◌≡◌, ℕ, zero, suc, ◌+◌, ◌-◌, ◌<◌, ◌≤◌, List, [], ◌∷◌, ◌++◌, length, Bool, true, false, cond, ◌==◌, Option, Some, None, refl, ap, sym, ◌∙◌, arith, inl, inr, append_assoc, subst, map, take, slice_get, ltb}
-use Rattle.std.specs.Prelude.{◌&&◌, ◌||◌, ◌⊎◌, ◌↔◌, count_by, nat_lt, replicate}
-use Rattle.std.proofs.lemmas.Bool.{cases_Bool, eqb-true, eqb-false, eq-eqb, ne_eqb, cases_eq, false≢true, or_parts, false_from_ne_true}
-use Rattle.std.proofs.lemmas.List.Sums.{sum_by-cons, sum_by_push}
+use Rattle.std.proofs.Common.{◌≡◌, ℕ, ◌+◌, ◌<◌, ◌≤◌, List, [], ◌∷◌, ◌++◌, length, true, false, cond, ◌==◌, Option, Some, None, refl, ap, sym, ◌∙◌, arith, inl, inr, subst, slice_get}
+use Rattle.std.proofs.lemmas.Bool.{cases_Bool, cases_eq}
 use Rattle.std.proofs.lemmas.List.{append-nil, length_push}
-use Rattle.std.specs.List.{sum_by}
 use Rattle.uc_term.specs.Tree.{Tree}
-use Rattle.uc_term.specs.declared.equation.Equation.{Equation}
-use Rattle.uc_term.specs.declared.equation.Side.{Side}
-use Rattle.uc_term.specs.declared.equation.Side.TheVariants.{Left, Right}
-use Rattle.uc_fact.specs.declared.chain.Chain.{Chain}
 use Rattle.uc_fact.specs.declared.fact.Fact.{Fact}
-use Rattle.uc_fact.specs.declared.fact.Overlap.{Overlap}
 use Rattle.uc_fact.specs.declared.fact.Origin.{Origin}
-use Rattle.uc_fact.specs.declared.fact.Origin.TheVariants.{Axiom, Overlap as OfOverlap, Revived}
-use Rattle.uc_fact.specs.declared.fact.Stop.{Stop}
-use Rattle.uc_pair.specs.declared.formed.Formed.{Formed}
-use Rattle.uc_queue.specs.declared.entry.Entry.{Entry as Place}
-use Rattle.uc_ledger.specs.declared.ledger.State.{State as Condition}
-use Rattle.uc_ledger.specs.declared.ledger.State.TheVariants.{Waiting, Out as OutTo, Done, Orphan, Large}
-use Rattle.uc_shelf.specs.declared.entry.Entry.{Entry}
+use Rattle.uc_fact.specs.declared.fact.Origin.TheVariants.{Revived}
+use Rattle.uc_ledger.specs.declared.ledger.State.TheVariants.{Waiting, Out as OutTo, Done, Orphan}
 use Rattle.uc_shelf.specs.declared.entry.Entry.TheVariants.{Born, Dies}
 use Rattle.uc_shelf.specs.Entries.{born, is_dead}
 use Rattle.uc_machine.specs.declared.state.Meeting.{Meeting}
 use Rattle.uc_machine.specs.declared.state.Meeting.TheVariants.{Unmet, Visiting, Met}
-use Rattle.uc_machine.specs.declared.state.Stage.{Stage}
-use Rattle.uc_machine.specs.declared.state.Stage.TheVariants.{Due, Busy, Continued, Settled, Stuck}
-use Rattle.uc_machine.specs.declared.state.Numbers.{Numbers}
+use Rattle.uc_machine.specs.declared.state.Stage.TheVariants.{Busy}
 use Rattle.uc_machine.specs.declared.event.Verdict.{Verdict}
 use Rattle.uc_machine.specs.declared.event.Event.{Event}
-use Rattle.uc_machine.specs.declared.event.GoalEnd.{GoalEnd}
 use Rattle.uc_machine.specs.declared.event.Happening.{Happening}
-use Rattle.uc_machine.specs.declared.event.Happening.TheVariants.{DrawGoal, DrawMore, DrawMeet, DrawJoin, CommitGoal, CommitMore, CommitMeet, CommitJoined, CommitKept, CommitLate, Dropped, ReclaimGoal, ReclaimMore, ReclaimMeet, ReclaimJoin, AuditKept, Close}
+use Rattle.uc_machine.specs.declared.event.Happening.TheVariants.{DrawGoal, DrawMore, DrawMeet, DrawJoin, CommitLate, Dropped, ReclaimGoal, ReclaimMore, ReclaimMeet, ReclaimJoin, AuditKept, Close}
 use Rattle.uc_machine.specs.declared.task.Job.{Job}
 use Rattle.uc_machine.specs.declared.task.Job.TheVariants.{Goal, More, Meet, Join}
-use Rattle.uc_machine.specs.Lists.{At, first, later, change, each, Each, map_option}
-use Rattle.uc_machine.specs.State.{Opening, State, Pair, Target, Out, dead_of, is_draw, draws_in, is_unit, out_at, without, is_waiting, queue_from, queue, peek, is_due, is_continued, is_unmet}
-use Rattle.uc_machine.specs.Effects.{records, closes, ending_of, publishes, enters, appends, dies, kills, settles, turns, stages, hands_out, takes, ends, restores, reclaim_event, reclaims, recalls, next_ticket, draw_event, wakes, wakes_stage, meets_unmet, unit_of, one_drawn, one_commit, one_reclaim, sides_weight, numbers_rise, task_for, drops, accepts, takes_ends, goes_on, is_met, pair_by, forms, visits, keeps}
-use Rattle.uc_machine.specs.Events.{units, units_after, unit_in, unit_draw, is_unit_draw, draw_in, draws_by, commits_by, reclaims_by, out_to, numbers_of, is_commit_what, is_reclaim_what, ending_in, ended_after, ended_by, draws_pair, drew_pair}
-use Rattle.uc_machine.specs.Promises.{Rising, WasDrawn, later_fact, IsOf}
-use Rattle.uc_machine.proofs.Kept.{NotIn, Distinct, Facts, is_among, IsBusy, is_same, Apart, AllApart, Tasks, may_draw, to_draw, is_join, joins, EndsOnce, Numbered, Accounts, Kept, IsKnown}
-use Rattle.uc_machine.proofs.Lists.{get-append, below, get-change_same, get-change_other, Each-map, Each-push, Each-without, Each-at}
+use Rattle.uc_machine.specs.Lists.{change, Each, map_option}
+use Rattle.uc_machine.specs.State.{Opening, State, Pair, Target, Out, is_draw, draws_in, out_at, without}
+use Rattle.uc_machine.specs.Effects.{records, closes, ending_of, publishes, dies, kills, turns, hands_out, ends, reclaims, next_ticket, draw_event, meets_unmet, unit_of, one_reclaim, sides_weight, numbers_rise, task_for, drops, accepts, is_met, keeps}
+use Rattle.uc_machine.specs.Events.{unit_in, unit_draw, is_unit_draw, is_commit_what, is_reclaim_what, ending_in, draws_pair, drew_pair}
+use Rattle.uc_machine.proofs.Kept.{Facts, IsBusy, is_same, Tasks, may_draw, to_draw, is_join, EndsOnce, Numbered, Accounts, Kept, IsKnown}
+use Rattle.uc_machine.proofs.Lists.{get-append, get-change_same, get-change_other, Each-map, Each-push, Each-without, Each-at}
 use Rattle.uc_machine.proofs.Accounts.{accounts_draw, accounts_commit, accounts_reclaim, accounts_other, accounts_grow}
 use Rattle.uc_machine.proofs.Blocks.{facts_born, facts_dies, facts_meeting, apart_push, apart_without, apart_from, is_same-sym, busy-goal, busy-more, busy-meet, busy-join, IsFree, is_apart, busy-wakes, busy-append, busy-dies, to_draw-less, ends-append, ends-other, ends-change, ends-out, ends-drawn, ends-gone, ends-commit, ends-back, numbered-change, numbered-meetings, stays-met, numbered-append}
 

@@ -1,5 +1,5 @@
 -- A commit: what the result of a task changes.
-use Rattle.std.specs.Prelude.{◌≡◌, ◌≢◌, ℕ, ◌+◌, ◌<◌, ◌≤◌, List, [], ◌∷◌, Bool, true, false, Option, Some, None, length, count_by, take}
+use Rattle.std.specs.Prelude.{◌≡◌, ◌≢◌, ℕ, ◌+◌, ◌<◌, ◌≤◌, List, true, false, Some, None, length, count_by, take}
 use Rattle.uc_term.specs.Tree.{Tree}
 use Rattle.uc_fact.specs.declared.chain.Chain.{Chain}
 use Rattle.uc_fact.specs.declared.fact.Fact.{Fact}
@@ -25,7 +25,7 @@ use Rattle.uc_machine.specs.declared.task.Finding.{Finding}
 use Rattle.uc_machine.specs.declared.task.Finding.TheVariants.{Ends, Joined, Kept, Stale, Met}
 use Rattle.uc_machine.specs.Lists.{each}
 use Rattle.uc_fact.specs.Chains.{end_of}
-use Rattle.uc_machine.specs.State.{Opening, State, Out, Pair, dead_of, is_waiting, waiting, out_at}
+use Rattle.uc_machine.specs.State.{Opening, State, Out, dead_of, is_waiting, waiting, out_at}
 use Rattle.uc_machine.specs.Effects.{accepts, closes, takes_ends, stages, turns, publishes, kills, visits, is_met, pair_by}
 
 -- the number of the event that is recorded next; the first is 1

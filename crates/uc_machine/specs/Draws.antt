@@ -1,5 +1,5 @@
 -- A draw: the first of its rules that holds gives the answer.
-use Rattle.std.specs.Prelude.{◌≡◌, ◌≢◌, ℕ, ◌+◌, ◌<◌, ◌≤◌, List, [], Bool, true, false, Option, Some, None, slice_get, length}
+use Rattle.std.specs.Prelude.{◌≡◌, ◌≢◌, ℕ, ◌+◌, ◌<◌, ◌≤◌, [], true, false, Some, None, slice_get, length}
 use Rattle.uc_term.specs.Tree.{Tree}
 use Rattle.uc_queue.specs.declared.entry.Entry.{Entry as Place}
 use Rattle.uc_machine.specs.declared.state.Meeting.{Meeting}
@@ -9,7 +9,7 @@ use Rattle.uc_machine.specs.declared.task.Job.{Job}
 use Rattle.uc_machine.specs.declared.task.Job.TheVariants.{Goal, More, Meet, Join}
 use Rattle.uc_machine.specs.Lists.{At}
 use Rattle.uc_fact.specs.Chains.{end_of}
-use Rattle.uc_machine.specs.State.{Opening, State, Target, Out, Pair, first_due, first_unmet, first_continued, peek, queue, head_is_orphan, is_orphan}
+use Rattle.uc_machine.specs.State.{Opening, State, Target, Out, Pair, first_due, first_unmet, first_continued, peek, head_is_orphan, is_orphan}
 use Rattle.uc_machine.specs.Effects.{hands_out, task_for, drops, closes}
 
 -- what a draw answers

@@ -2,7 +2,6 @@
 -- changes are made.
 use Rattle.std.specs.Prelude.{ℕ, ◌+◌, ◌-◌, List, [], ◌∷◌, ◌++◌, cond, Option, Some, None, slice_get, length, map}
 use Rattle.uc_term.specs.Tree.{nodes}
-use Rattle.uc_term.specs.declared.equation.Equation.{Equation}
 use Rattle.uc_fact.specs.declared.chain.Chain.{Chain}
 use Rattle.uc_fact.specs.declared.fact.Fact.{Fact}
 use Rattle.uc_fact.specs.declared.fact.Overlap.{Overlap}
@@ -26,7 +25,6 @@ use Rattle.uc_machine.specs.declared.event.Ending.{Ending}
 use Rattle.uc_machine.specs.declared.event.Ending.TheVariants.{Proved as ByProof, Saturated as BySaturation, Budget as ByBudget, Pairs as ByPairs, Size as BySize}
 use Rattle.uc_machine.specs.declared.event.Happening.{Happening}
 use Rattle.uc_machine.specs.declared.event.Happening.TheVariants.{DrawGoal, DrawMore, DrawMeet, DrawJoin, Dropped, ReclaimGoal, ReclaimMore, ReclaimMeet, ReclaimJoin, Close}
-use Rattle.uc_machine.specs.declared.event.Event.{Event}
 use Rattle.uc_machine.specs.declared.task.Job.{Job}
 use Rattle.uc_machine.specs.declared.task.Job.TheVariants.{Goal, More, Meet, Join}
 use Rattle.uc_machine.specs.Lists.{change, each}

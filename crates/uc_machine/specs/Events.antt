@@ -4,7 +4,7 @@ use Rattle.uc_machine.specs.declared.state.Numbers.{Numbers}
 use Rattle.uc_machine.specs.declared.event.Event.{Event}
 use Rattle.uc_machine.specs.declared.event.GoalEnd.{GoalEnd}
 use Rattle.uc_machine.specs.declared.event.Happening.{Happening}
-use Rattle.uc_machine.specs.declared.event.Happening.TheVariants.{DrawGoal, DrawMore, DrawMeet, DrawJoin, CommitGoal, CommitMore, CommitMeet, CommitJoined, CommitKept, CommitLate, Dropped, ReclaimGoal, ReclaimMore, ReclaimMeet, ReclaimJoin, AuditKept, Close}
+use Rattle.uc_machine.specs.declared.event.Happening.TheVariants.{DrawMore, DrawJoin, CommitGoal, CommitMore, CommitMeet, CommitJoined, CommitKept, CommitLate, ReclaimGoal, ReclaimMore, ReclaimMeet, ReclaimJoin, AuditKept}
 use Rattle.uc_machine.specs.State.{Out, is_draw}
 
 abbrev pub is_unit_draw : Happening → Bool

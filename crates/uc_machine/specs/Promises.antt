@@ -1,15 +1,14 @@
 -- What holds in every state that a run reaches, sentence by sentence.
-use Rattle.std.specs.Prelude.{◌≡◌, ℕ, suc, ◌+◌, ◌<◌, ◌≤◌, ◌==◌, ◌↔◌, ◌⊎◌, nat_lt, List, [], ◌∷◌, ◌++◌, Bool, true, false, cond, Option, Some, None, length, count_by, take, slice_get}
+use Rattle.std.specs.Prelude.{◌≡◌, ℕ, suc, ◌+◌, ◌<◌, ◌≤◌, ◌==◌, ◌↔◌, ◌⊎◌, nat_lt, List, [], ◌∷◌, ◌++◌, Bool, true, false, cond, Some, None, length, count_by, take, slice_get}
 use Rattle.uc_term.specs.Tree.{Tree, nodes}
 use Rattle.uc_term.specs.declared.equation.Equation.{Equation}
 use Rattle.uc_order.specs.Laws.{Meaning}
-use Rattle.uc_fact.specs.declared.chain.Chain.{Chain}
 use Rattle.uc_fact.specs.declared.fact.Fact.{Fact}
 use Rattle.uc_fact.specs.declared.fact.Overlap.{Overlap}
 use Rattle.uc_fact.specs.declared.fact.Origin.TheVariants.{Overlap as OfOverlap}
 use Rattle.uc_fact.specs.declared.fact.Stop.{Stop}
 use Rattle.uc_fact.specs.declared.fact.Stop.TheVariants.{Full, Steps as Spent, Size as TooLarge}
-use Rattle.uc_fact.specs.Live.{Live, Rule, equation_of, equations_of}
+use Rattle.uc_fact.specs.Live.{Rule, equation_of, equations_of}
 use Rattle.uc_fact.specs.Ordered.{IsIrreducible}
 use Rattle.uc_rewrite.specs.Normalising.{FirstStep}
 use Rattle.uc_rewrite.specs.Replay.{LeadsFrom, FactsReplay}
@@ -21,7 +20,6 @@ use Rattle.uc_queue.specs.declared.entry.Entry.{Entry as Place}
 use Rattle.uc_shelf.specs.declared.entry.Entry.{Entry}
 use Rattle.uc_shelf.specs.declared.entry.Entry.TheVariants.{Born, Dies}
 use Rattle.uc_shelf.specs.Entries.{born, is_dead, live}
-use Rattle.uc_machine.specs.declared.state.Meeting.{Meeting}
 use Rattle.uc_machine.specs.declared.state.Meeting.TheVariants.{Unmet, Visiting, Met}
 use Rattle.uc_machine.specs.declared.state.Stage.TheVariants.{Continued, Settled, Stuck}
 use Rattle.uc_machine.specs.declared.event.Event.{Event}
