@@ -20,3 +20,5 @@ pub mod Visits
 pub mod Rules
 pub mod Ends
 pub mod Jobs
+pub mod Steady
+pub mod Standing

@@ -1,0 +1,123 @@
+-- The task at a place of the tasks out, and what its end needs and leaves.
+use Rattle.std.proofs.Common.{◌≡◌, ℕ, zero, suc, ◌+◌, ◌-◌, ◌<◌, ◌≤◌, ◌^◌, List, [], ◌∷◌, ◌++◌, length, get_or, map, Bool, true, false, Option, Some, None, refl, ap, sym, ◌∙◌, arith, subst}
+use Rattle.std.specs.Prelude.{remove, slice_get, vec_len, vec_capacity}
+use Rattle.std.proofs.lemmas.List.{append-nil, length_push}
+use Rattle.boxcar.specs.Table.{Shelves}
+use Rattle.uc_shelf.specs.declared.entry.Entry.{Entry}
+use Rattle.uc_shelf.specs.Entries.{born}
+use Rattle.uc_shelf.specs.Fronts.{IsOf}
+use Rattle.uc_ledger.specs.declared.ledger.State.TheVariants.{Out as OutTo}
+use Rattle.uc_shelf.specs.Sights.{Sight}
+use Rattle.uc_machine.specs.declared.event.Event.{Event}
+use Rattle.uc_machine.specs.declared.event.Happening.{Happening}
+use Rattle.uc_machine.specs.declared.task.Job.{Job}
+use Rattle.uc_machine.specs.declared.task.Job.TheVariants.{Goal, More, Meet, Join}
+use Rattle.uc_machine.specs.Lists.{Each, change, map_option}
+use Rattle.uc_machine.specs.State.{Opening, State, Target, Pair, Out, out_at, draws_in, is_draw_what}
+use Rattle.uc_machine.specs.Effects.{unit_of, reclaims, accepts, reclaim_event, one_reclaim, one_commit}
+use Rattle.uc_book.specs.declared.tasks.TaskRow.{TaskRow}
+use Rattle.uc_book.specs.declared.parts.Parts.{Parts}
+use Rattle.uc_book.specs.TaskRows.{out_of, is_join, unit_if_join, HasFront, StandsAt}
+use Rattle.uc_book.specs.Parts.{state_of, closings, Fit, HasRoom, IsSubjectOut}
+use Rattle.uc_book.specs.Ending.{CanEnd, CanAccept, CanReturn, HasEnded}
+use Rattle.uc_machine.proofs.Lists.{length-change}
+use Rattle.uc_book.proofs.Histories.{draws-none, no_draw}
+use Rattle.uc_book.proofs.PutBack.{joins_left}
+use Rattle.uc_book.proofs.Fitting.{joins, fit_ended, room_ended}
+
+-- the row at the place is that of the task
+pub row_out : (ts : List TaskRow) (at : ℕ) (t : Out) (row : TaskRow) → StandsAt ts at t → row ≡ get_or ts at row → out_of row ≡ t
+row_out ts at t row s e = ap out_of e ∙ s.is row
+
+pub each_row : (P : TaskRow → Type 0) (ts : List TaskRow) (at : ℕ) (row : TaskRow) → at < length ts → row ≡ get_or ts at row → Each P ts → P row
+each_row P [] at row l e h = absurd (omega arith)
+each_row P (t ∷ ts) zero row l e h = subst P (sym e) h.0
+each_row P (t ∷ ts) (suc at) row l e h = each_row P ts at row (omega arith) e h.1
+
+pub unit_few : (j : Job) → unit_of j ≤ 1
+unit_few (Goal g l r) = omega arith
+unit_few (More g l r) = omega arith
+unit_few (Meet i) = omega arith
+unit_few (Join p o) = omega arith
+
+-- WHAT AN END NEEDS
+
+-- what a job is about is out as long as facts, pairs and goals stay
+pub still_out : (p q : Parts) (w : ℕ) (j : Job) → q.facts.front ≡ p.facts.front → q.pairs.pairs ≡ p.pairs.pairs → q.goals ≡ p.goals → IsSubjectOut p w j → IsSubjectOut q w j
+still_out p q w (Goal g l r) a b e h = subst (λ (gs : List Target). g < length gs) (sym e) h
+still_out p q w (More g l r) a b e h = subst (λ (gs : List Target). g < length gs) (sym e) h
+still_out p q w (Meet i) a b e h = subst (λ (f : Sight). i < length (born f.entries)) (sym a) h
+still_out p q w (Join n o) a b e h = subst (λ (ps : List Pair). map_option (λ (x : Pair). x.condition) (slice_get ps n) ≡ Some (OutTo w)) (sym b) h
+
+some_room : (p : Parts) (at : ℕ) (t : Out) → HasRoom p → StandsAt p.tasks.items at t → vec_len p.history + closings p.verdict < vec_capacity p.history
+some_room p at t r s =
+    let e : vec_len p.history + (0 + (length p.tasks.items + closings p.verdict)) ≤ vec_capacity p.history = r.events in
+    let l : at < length p.tasks.items = s.inside in
+    omega arith
+
+-- an end and a close
+pub room_for_two : (p : Parts) (at : ℕ) (t : Out) → HasRoom p → StandsAt p.tasks.items at t → p.verdict ≡ None → vec_len p.history + 1 < vec_capacity p.history
+room_for_two p at t r s v =
+    let c : closings p.verdict ≡ 1 = ap closings v in
+    let e : vec_len p.history + closings p.verdict < vec_capacity p.history = some_room p at t r s in
+    omega arith
+
+pub can_return : (shelf : Shelves) (o : Opening) (p : Parts) (at : ℕ) (t : Out) → CanEnd shelf o p → StandsAt p.tasks.items at t → CanReturn p t
+can_return shelf o p at t c s =
+    let j : joins (remove p.tasks.items at) + unit_if_join t.job ≡ joins p.tasks.items = joins_left p.tasks.items at t s in
+    let w : joins p.tasks.items ≤ p.pairs.spare = c.room.waiting in
+    let r : vec_len p.history + closings p.verdict < vec_capacity p.history = some_room p at t c.room s in
+    record {
+      subject = c.subjects t s.found;
+      spare = omega arith;
+      units = c.units t s.found;
+      small = c.sound.small;
+      room = omega arith;
+    }
+
+pub can_accept : (shelf : Shelves) (o : Opening) (p : Parts) (at : ℕ) (t : Out) → CanEnd shelf o p → StandsAt p.tasks.items at t → CanAccept p t
+can_accept shelf o p at t c s =
+    let w : p.counted + p.reserved ≤ o.budget = c.sound.within in
+    let b : o.budget ≤ 10000000 = c.sound.budget in
+    let r : vec_len p.history + closings p.verdict < vec_capacity p.history = some_room p at t c.room s in
+    record {
+      units = c.units t s.found;
+      counted = omega arith;
+      small = c.sound.small;
+      room = omega arith;
+    }
+
+-- WHAT AN END LEAVES
+
+reclaimed_history : (t : Out) (s : State) → (reclaims t s).history ≡ s.history ++ record { worker = t.worker; what = reclaim_event t.job } ∷ []
+reclaimed_history t s = by_job t.job t.ticket t.worker t.front s
+  where
+    by_job : (j : Job) (n w f : ℕ) (s : State) → (let t : Out = record { ticket = n; worker = w; job = j; front = f } in (reclaims t s).history ≡ s.history ++ record { worker = w; what = reclaim_event j } ∷ [])
+    by_job (Goal g l r) n w f s = refl
+    by_job (More g l r) n w f s = refl
+    by_job (Meet i) n w f s = refl
+    by_job (Join p o) n w f s = refl
+
+reclaimed_numbers : (t : Out) (s : State) → (reclaims t s).numbers ≡ change one_reclaim s.numbers t.worker
+reclaimed_numbers t s = by_job t.job t.ticket t.worker t.front s
+  where
+    by_job : (j : Job) (n w f : ℕ) (s : State) → (let t : Out = record { ticket = n; worker = w; job = j; front = f } in (reclaims t s).numbers ≡ change one_reclaim s.numbers w)
+    by_job (Goal g l r) n w f s = refl
+    by_job (More g l r) n w f s = refl
+    by_job (Meet i) n w f s = refl
+    by_job (Join p o) n w f s = refl
+
+pub returned_fit : (shelf : Shelves) (p q : Parts) (at : ℕ) (t : Out) → Fit shelf p → StandsAt p.tasks.items at t → state_of q ≡ reclaims t (state_of p) → HasEnded p at q → q.facts.front ≡ p.facts.front → Fit shelf q
+returned_fit shelf p q at t f s e h front =
+    let draws : draws_in q.history.items ≡ draws_in p.history.items
+    = ap (λ (x : State). draws_in x.history) e ∙ ap draws_in (reclaimed_history t (state_of p)) ∙ draws-none p.history.items (record { worker = t.worker; what = reclaim_event t.job }) (no_draw t.job) in
+    let numbers : length q.numbers.items ≡ length p.numbers.items
+    = ap (λ (x : State). length x.numbers) e ∙ ap length (reclaimed_numbers t (state_of p)) ∙ length-change one_reclaim p.numbers.items t.worker in
+    fit_ended shelf p q at [] f s.inside (subst (IsOf shelf) (sym front) f.front) (ap (λ (x : Sight). x.entries) front ∙ sym (append-nil p.facts.front.entries)) h.next h.tasks draws numbers
+
+-- a task that ended by a commit, and what the commit did besides: it left these entries behind the old ones, and recorded no draw
+pub accepted_fit : (shelf : Shelves) (p q : Parts) (at : ℕ) (t : Out) (what : Happening) (more : List Entry) → Fit shelf p → StandsAt p.tasks.items at t → IsOf shelf q.facts.front → q.facts.front.entries ≡ p.facts.front.entries ++ more → q.next ≡ p.next → q.tasks.items ≡ remove p.tasks.items at
+    → is_draw_what what ≡ false → q.history.items ≡ p.history.items ++ record { worker = t.worker; what = what } ∷ [] → q.numbers.items ≡ change one_commit p.numbers.items t.worker → Fit shelf q
+accepted_fit shelf p q at t what more f s of entries next tasks quiet history numbers =
+    fit_ended shelf p q at more f s.inside of entries next tasks
+    (ap draws_in history ∙ draws-none p.history.items (record { worker = t.worker; what = what }) quiet) (ap length numbers ∙ length-change one_commit p.numbers.items t.worker)
