@@ -12,6 +12,7 @@ pub mod FactRows
 pub mod GoalRows
 pub mod PutBack
 pub mod PairRows
+pub mod PairChanges
 pub mod Deaths
 pub mod BuriedRows
 pub mod RisingNumbers
@@ -22,3 +23,5 @@ pub mod Ends
 pub mod Jobs
 pub mod Steady
 pub mod Standing
+pub mod Giving
+pub mod Taking
