@@ -1,6 +1,6 @@
 -- Tasks that are given: what the parts need for it, and that it is a draw.
 use Rattle.std.proofs.Common.{◌≡◌, ℕ, ◌+◌, ◌<◌, ◌≤◌, ◌^◌, ◌++◌, ◌∷◌, [], List, length, Bool, true, false, Option, Some, None, refl, ap, sym, ◌∙◌, arith, inl, inr, subst}
-use Rattle.std.specs.Prelude.{MatchOption, nat_lt, Vec, vec_len, vec_capacity}
+use Rattle.std.specs.Prelude.{Result, Ok, Err, IfOk, MatchOption, nat_lt, Vec, vec_len, vec_capacity}
 use Rattle.std.proofs.lemmas.Bool.{lt-ltb, ltb-true}
 use Rattle.std.specs.declared.alloc.Global.{Global}
 
@@ -84,3 +84,9 @@ dropped_give shelf o p q n k f r facts tasks next counted reserved numbers verdi
       room_tasks = omega arith;
       room_events = omega arith;
     }
+
+-- jobs that were found where the budget allows one
+pub jobs_if : {E : Type 0} (b : Bool) (found : Option (At Target)) (r : Result (Option (Job × Job)) E) → b ≡ true → IfOk r (λ o. MatchOption o (found ≡ None) (AreJobs More found)) → IfOk r (λ o. MatchOption o (b ≡ true → found ≡ None) (λ jobs. (b ≡ true) × AreJobs More found jobs))
+jobs_if b found (Err e) t h = h
+jobs_if b found (Ok None) t h = λ _. h
+jobs_if b found (Ok (Some jobs)) t h = (t, h)

@@ -25,3 +25,5 @@ pub mod Steady
 pub mod Standing
 pub mod Giving
 pub mod Taking
+pub mod Waiting
+pub mod Reclaiming

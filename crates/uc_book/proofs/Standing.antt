@@ -1,28 +1,36 @@
 -- The task at a place of the tasks out, and what its end needs and leaves.
-use Rattle.std.proofs.Common.{◌≡◌, ℕ, zero, suc, ◌+◌, ◌-◌, ◌<◌, ◌≤◌, ◌^◌, List, [], ◌∷◌, ◌++◌, length, get_or, map, Bool, true, false, Option, Some, None, refl, ap, sym, ◌∙◌, arith, subst}
+use Rattle.std.proofs.Common.{◌≡◌, ℕ, zero, suc, ◌+◌, ◌-◌, ◌<◌, ◌≤◌, ◌^◌, List, [], ◌∷◌, ◌++◌, length, get_or, map, take, Bool, true, false, Option, Some, None, refl, ap, sym, ◌∙◌, arith, subst}
 use Rattle.std.specs.Prelude.{remove, slice_get, vec_len, vec_capacity}
 use Rattle.std.proofs.lemmas.List.{append-nil, length_push}
 use Rattle.boxcar.specs.Table.{Shelves}
+use Rattle.uc_fact.specs.declared.fact.Fact.{Fact}
 use Rattle.uc_shelf.specs.declared.entry.Entry.{Entry}
+use Rattle.uc_shelf.specs.declared.entry.Entry.TheVariants.{Born}
 use Rattle.uc_shelf.specs.Entries.{born}
 use Rattle.uc_shelf.specs.Fronts.{IsOf}
-use Rattle.uc_ledger.specs.declared.ledger.State.TheVariants.{Out as OutTo}
+use Rattle.uc_ledger.specs.declared.ledger.State.TheVariants.{Out as OutTo, Done}
 use Rattle.uc_shelf.specs.Sights.{Sight}
 use Rattle.uc_machine.specs.declared.event.Event.{Event}
 use Rattle.uc_machine.specs.declared.event.Happening.{Happening}
+use Rattle.uc_machine.specs.declared.event.Happening.TheVariants.{Close}
+use Rattle.uc_machine.specs.declared.event.Verdict.{Verdict}
+use Rattle.uc_machine.specs.declared.state.Stage.{Stage}
 use Rattle.uc_machine.specs.declared.task.Job.{Job}
 use Rattle.uc_machine.specs.declared.task.Job.TheVariants.{Goal, More, Meet, Join}
 use Rattle.uc_machine.specs.Lists.{Each, change, map_option}
 use Rattle.uc_machine.specs.State.{Opening, State, Target, Pair, Out, out_at, draws_in, is_draw_what}
-use Rattle.uc_machine.specs.Effects.{unit_of, reclaims, accepts, reclaim_event, one_reclaim, one_commit}
+use Rattle.uc_machine.specs.Effects.{unit_of, reclaims, accepts, turns, publishes, stages, closes, ending_of, reclaim_event, one_reclaim, one_commit}
 use Rattle.uc_book.specs.declared.tasks.TaskRow.{TaskRow}
 use Rattle.uc_book.specs.declared.parts.Parts.{Parts}
+use Rattle.uc_book.specs.declared.token.Done.{Done as DoneTask}
+use Rattle.uc_book.specs.Answers.{IsNotOut}
 use Rattle.uc_book.specs.TaskRows.{out_of, is_join, unit_if_join, HasFront, StandsAt}
 use Rattle.uc_book.specs.Parts.{state_of, closings, Fit, HasRoom, IsSubjectOut}
 use Rattle.uc_book.specs.Ending.{CanEnd, CanAccept, CanReturn, HasEnded}
 use Rattle.uc_machine.proofs.Lists.{length-change}
 use Rattle.uc_book.proofs.Histories.{draws-none, no_draw}
 use Rattle.uc_book.proofs.PutBack.{joins_left}
+use Rattle.uc_book.proofs.Items.{length-remove}
 use Rattle.uc_book.proofs.Fitting.{joins, fit_ended, room_ended}
 
 -- the row at the place is that of the task
@@ -121,3 +129,55 @@ pub accepted_fit : (shelf : Shelves) (p q : Parts) (at : ℕ) (t : Out) (what : 
 accepted_fit shelf p q at t what more f s of entries next tasks quiet history numbers =
     fit_ended shelf p q at more f s.inside of entries next tasks
     (ap draws_in history ∙ draws-none p.history.items (record { worker = t.worker; what = what }) quiet) (ap length numbers ∙ length-change one_commit p.numbers.items t.worker)
+
+-- the pair of a Join is Done
+pub joined_fit : (shelf : Shelves) (p q : Parts) (at : ℕ) (t : Out) (what : Happening) (n : ℕ) → Fit shelf p → StandsAt p.tasks.items at t → state_of q ≡ turns Done n (accepts t what (state_of p)) → is_draw_what what ≡ false → q.next ≡ p.next → q.tasks.items ≡ remove p.tasks.items at → q.facts.front ≡ p.facts.front → Fit shelf q
+joined_fit shelf p q at t what n f s e quiet next tasks front =
+    accepted_fit shelf p q at t what [] f s (subst (IsOf shelf) (sym front) f.front) (ap (λ (x : Sight). x.entries) front ∙ sym (append-nil p.facts.front.entries)) next tasks quiet
+    (ap (λ (x : State). x.history) e) (ap (λ (x : State). x.numbers) e)
+
+-- and a fact is published
+pub kept_fit : (shelf : Shelves) (p q : Parts) (at : ℕ) (t : Out) (what : Happening) (n : ℕ) (a : Fact) → Fit shelf p → StandsAt p.tasks.items at t → state_of q ≡ publishes a (turns Done n (accepts t what (state_of p))) → is_draw_what what ≡ false → q.next ≡ p.next → q.tasks.items ≡ remove p.tasks.items at → IsOf shelf q.facts.front → Fit shelf q
+kept_fit shelf p q at t what n a f s e quiet next tasks of =
+    accepted_fit shelf p q at t what (Born a ∷ []) f s of (ap (λ (x : State). x.entries) e) next tasks quiet (ap (λ (x : State). x.history) e) (ap (λ (x : State). x.numbers) e)
+
+-- the task ended, and nothing else happened
+pub late_fit : (shelf : Shelves) (p q : Parts) (at : ℕ) (t : Out) (what : Happening) → Fit shelf p → StandsAt p.tasks.items at t → state_of q ≡ accepts t what (state_of p) → is_draw_what what ≡ false → q.next ≡ p.next → q.tasks.items ≡ remove p.tasks.items at → q.facts.front ≡ p.facts.front → Fit shelf q
+late_fit shelf p q at t what f s e quiet next tasks front =
+    accepted_fit shelf p q at t what [] f s (subst (IsOf shelf) (sym front) f.front) (ap (λ (x : Sight). x.entries) front ∙ sym (append-nil p.facts.front.entries)) next tasks quiet
+    (ap (λ (x : State). x.history) e) (ap (λ (x : State). x.numbers) e)
+
+-- a goal got its state
+pub rested_fit : (shelf : Shelves) (p q : Parts) (v : State) (at : ℕ) (t : Out) (what : Happening) (c : Stage) (g : ℕ) → Fit shelf p → StandsAt p.tasks.items at t → v.history ≡ p.history.items → v.numbers ≡ p.numbers.items → state_of q ≡ stages c g (accepts t what v) → is_draw_what what ≡ false → q.next ≡ p.next → q.tasks.items ≡ remove p.tasks.items at → q.facts.front ≡ p.facts.front → Fit shelf q
+rested_fit shelf p q v at t what c g f s history numbers e quiet next tasks front =
+    accepted_fit shelf p q at t what [] f s (subst (IsOf shelf) (sym front) f.front) (ap (λ (x : Sight). x.entries) front ∙ sym (append-nil p.facts.front.entries)) next tasks quiet
+    (ap (λ (x : State). x.history) e ∙ ap (λ h. h ++ record { worker = t.worker; what = what } ∷ []) history) (ap (λ (x : State). x.numbers) e ∙ ap (λ ns. change one_commit ns t.worker) numbers)
+
+-- a goal is proved
+pub proved_fit : (shelf : Shelves) (p q : Parts) (v : State) (at : ℕ) (t : Out) (what : Happening) (verdict : Verdict) → Fit shelf p → StandsAt p.tasks.items at t → v.history ≡ p.history.items → v.numbers ≡ p.numbers.items → state_of q ≡ closes t.worker verdict (accepts t what v) → is_draw_what what ≡ false → q.next ≡ p.next → q.tasks.items ≡ remove p.tasks.items at → q.facts.front ≡ p.facts.front → Fit shelf q
+proved_fit shelf p q v at t what verdict f s history numbers e quiet next tasks front =
+    let one : draws_in (v.history ++ record { worker = t.worker; what = what } ∷ []) ≡ draws_in v.history = draws-none v.history (record { worker = t.worker; what = what }) quiet in
+    let two : draws_in ((v.history ++ record { worker = t.worker; what = what } ∷ []) ++ record { worker = t.worker; what = Close (ending_of verdict) } ∷ []) ≡ draws_in (v.history ++ record { worker = t.worker; what = what } ∷ [])
+    = draws-none (v.history ++ record { worker = t.worker; what = what } ∷ []) (record { worker = t.worker; what = Close (ending_of verdict) }) refl in
+    fit_ended shelf p q at [] f s.inside (subst (IsOf shelf) (sym front) f.front) (ap (λ (x : Sight). x.entries) front ∙ sym (append-nil p.facts.front.entries)) next tasks
+    (ap (λ (x : State). draws_in x.history) e ∙ two ∙ one ∙ ap draws_in history) (ap (λ (x : State). length x.numbers) e ∙ length-change one_commit v.numbers t.worker ∙ ap length numbers)
+
+-- there is room after a task ended, and maybe the book was closed
+pub room_after : (p q : Parts) (at : ℕ) (t : Out) → HasRoom p → StandsAt p.tasks.items at t → q.tasks.items ≡ remove p.tasks.items at → vec_len q.history + closings q.verdict ≡ vec_len p.history + (1 + closings p.verdict) → vec_capacity p.history ≤ vec_capacity q.history
+    → p.pairs.spare ≤ q.pairs.spare + unit_if_join t.job → HasRoom q
+room_after p q at t room stands tasks history capacity spare =
+    let l : length (remove p.tasks.items at) + 1 ≡ length p.tasks.items = length-remove p.tasks.items at stands.inside in
+    let k : length q.tasks.items ≡ length (remove p.tasks.items at) = ap length tasks in
+    let n : joins q.tasks.items ≡ joins (remove p.tasks.items at) = ap joins tasks in
+    let j : joins (remove p.tasks.items at) + unit_if_join t.job ≡ joins p.tasks.items = joins_left p.tasks.items at t stands in
+    let w : joins p.tasks.items ≤ p.pairs.spare = room.waiting in
+    let e : vec_len p.history + (0 + (length p.tasks.items + closings p.verdict)) ≤ vec_capacity p.history = room.events in
+    record { events = omega arith; waiting = omega arith }
+
+-- no task of the ticket is out
+pub not_there : (s : State) (w : ℕ) (d : DoneTask) → out_at d.ticket s.out ≡ None → IsNotOut s w d
+not_there s w d e = λ t h. (let f : None ≡ Some t = sym e ∙ h.at in absurd (cc))
+
+-- the task of the ticket isn't that of the result
+pub not_same : (s : State) (w : ℕ) (d : DoneTask) (t : Out) → out_at d.ticket s.out ≡ Some t → ((t.worker ≡ w) → (t.job ≡ d.job) → (take t.front s.entries ≡ d.front.entries) → ⊥) → IsNotOut s w d
+not_same s w d t e no = λ u h. (let f : Some t ≡ Some u = sym e ∙ h.at in let is : t ≡ u = cc in no (ap (λ (x : Out). x.worker) is ∙ h.worker) (ap (λ (x : Out). x.job) is ∙ h.job_is) (ap (λ (x : Out). take x.front s.entries) is ∙ h.front_is))

@@ -10,6 +10,7 @@ use Rattle.uc_machine.specs.State.{Opening, State}
 use Rattle.uc_machine.specs.Effects.{next_ticket}
 use Rattle.uc_book.specs.declared.parts.Parts.{Parts}
 use Rattle.uc_book.specs.declared.tasks.TaskRow.{TaskRow}
+use Rattle.uc_book.specs.RowViews.{PairsView}
 use Rattle.uc_book.specs.Bounds.{AreSmall}
 use Rattle.uc_book.specs.TaskRows.{HasFront}
 use Rattle.uc_book.specs.Parts.{state_of, closings, Fit, HasRoom, RoomFor}
@@ -85,3 +86,18 @@ steady_give shelf o p q n s k f r few tasks events =
       room_tasks = tasks;
       room_events = omega arith;
     }
+
+pub steady_by : (p q : Parts) → q.facts.front ≡ p.facts.front → q.facts.meetings ≡ p.facts.meetings → q.pairs ≡ p.pairs → q.goals ≡ p.goals → q.tasks.items ≡ p.tasks.items → q.next ≡ p.next → q.counted ≡ p.counted → q.reserved ≡ p.reserved → q.verdict ≡ p.verdict → q.numbers ≡ p.numbers
+    → q.history.items ≡ p.history.items → vec_capacity p.history ≤ vec_capacity q.history → IsSteady p q
+steady_by p q front meetings pairs goals tasks next counted reserved verdict numbers history capacity = record {
+  state = same p q front meetings pairs goals tasks next counted reserved verdict numbers history;
+  front = front;
+  tasks = tasks;
+  next = next;
+  capacity = capacity;
+  spare = (let e : q.pairs.spare ≡ p.pairs.spare = ap (λ (v : PairsView). v.spare) pairs in omega arith);
+}
+  where
+    same : (p q : Parts) → q.facts.front ≡ p.facts.front → q.facts.meetings ≡ p.facts.meetings → q.pairs ≡ p.pairs → q.goals ≡ p.goals → q.tasks.items ≡ p.tasks.items → q.next ≡ p.next → q.counted ≡ p.counted → q.reserved ≡ p.reserved → q.verdict ≡ p.verdict → q.numbers ≡ p.numbers
+        → q.history.items ≡ p.history.items → state_of q ≡ state_of p
+    same p q a b e f g h i j k l m = cc

@@ -1,6 +1,6 @@
 -- The commits of goals and pairs, in the machine's words.
 use Rattle.std.proofs.Common.{◌≡◌, ℕ, ◌+◌, ◌<◌, ◌≤◌, List, [], ◌∷◌, ◌++◌, length, Bool, true, false, Option, Some, None, refl, ap, sym, ◌∙◌, subst}
-use Rattle.std.specs.Prelude.{nat_lt, ◌↔◌}
+use Rattle.std.specs.Prelude.{nat_lt, ◌↔◌, is_some, slice_get}
 use Rattle.std.proofs.lemmas.Bool.{ltb-true, ltb-false, false≢true}
 use Rattle.uc_fact.specs.declared.chain.Chain.{Chain}
 use Rattle.uc_fact.specs.declared.fact.Fact.{Fact}
@@ -8,19 +8,27 @@ use Rattle.uc_fact.specs.declared.fact.Stop.{Stop}
 use Rattle.uc_fact.specs.declared.fact.Stop.TheVariants.{Full, Steps, Size}
 use Rattle.uc_fact.specs.declared.joinable.Reason.{Reason}
 use Rattle.uc_fact.specs.Chains.{end_of}
-use Rattle.uc_ledger.specs.declared.ledger.State.TheVariants.{Done}
+use Rattle.uc_ledger.specs.declared.ledger.State.TheVariants.{Done, Out as OutTo}
 use Rattle.uc_shelf.specs.Entries.{born}
 use Rattle.uc_machine.specs.declared.event.GoalEnd.{GoalEnd}
 use Rattle.uc_machine.specs.declared.event.GoalEnd.TheVariants.{Met as EndsMet}
 use Rattle.uc_machine.specs.declared.event.Happening.{Happening}
-use Rattle.uc_machine.specs.declared.event.Happening.TheVariants.{CommitGoal, CommitMore, CommitJoined, CommitKept}
+use Rattle.uc_machine.specs.declared.event.Happening.TheVariants.{CommitGoal, CommitMore, CommitJoined, CommitKept, CommitLate}
+use Rattle.uc_machine.specs.declared.event.Verdict.{Verdict}
 use Rattle.uc_machine.specs.declared.event.Verdict.TheVariants.{Proved}
+use Rattle.uc_machine.specs.declared.task.Finding.{Finding}
 use Rattle.uc_machine.specs.declared.task.Job.{Job}
 use Rattle.uc_machine.specs.declared.task.Job.TheVariants.{Goal, More, Meet, Join}
 use Rattle.uc_machine.specs.declared.task.Finding.TheVariants.{Ends, Joined, Kept}
-use Rattle.uc_machine.specs.State.{Opening, State, Out, is_draw_what}
+use Rattle.uc_machine.specs.Lists.{map_option}
+use Rattle.uc_machine.specs.State.{Opening, State, Pair, Out, is_draw_what}
 use Rattle.uc_machine.specs.Effects.{accepts, closes, takes_ends, stages, turns, publishes}
-use Rattle.uc_machine.specs.Commits.{Commits, GoalEnds, ends_meet, ends_differ, StageAfter, after_steps, full_but_grown, size_but_grown, after_full, after_size, goal_ends, more_ends, pair_joins, fact_is_kept, end_word, steps_of}
+use Rattle.uc_machine.specs.Commits.{Commits, is_late, GoalEnds, ends_meet, ends_differ, StageAfter, after_steps, full_but_grown, size_but_grown, after_full, after_size, goal_ends, more_ends, pair_joins, fact_is_kept, end_word, steps_of}
+use Rattle.uc_book.specs.declared.tasks.TaskRow.{TaskRow}
+use Rattle.uc_book.specs.declared.parts.Parts.{Parts}
+use Rattle.uc_book.specs.TaskRows.{StandsAt}
+use Rattle.uc_book.proofs.PutBack.{one_at}
+use Rattle.uc_book.specs.Parts.{IsSubjectOut}
 use Rattle.uc_book.specs.Committing.{stage_by, commit_word, IsGoalJob, IsPairJob, HasGoal, IsFor}
 
 stage_after : (t : Out) (s : State) (stop : Stop) (b : Bool) → nat_lt t.front (length s.entries) ≡ b → StageAfter t s stop (stage_by stop b)
@@ -87,3 +95,28 @@ no_draw_of_goal (More h a b) g n end = refl
 no_draw_of_goal (Meet i) g n end = refl
 no_draw_of_goal (Join p a) g n end = refl
 
+
+-- the commit of a task that came after the verdict
+pub late : (o : Opening) (t : Out) (n : ℕ) (f : Finding) (s u : State) → is_some s.verdict ≡ true → t.ticket ≡ n → u ≡ accepts t (CommitLate n) s → Commits o t f s u
+late o t n f s u b e is = by_verdict s.verdict refl b
+  where
+    by_verdict : (v : Option Verdict) → s.verdict ≡ v → is_some v ≡ true → Commits o t f s u
+    by_verdict None q b = absurd (false≢true b)
+    by_verdict (Some v) q b = subst (Commits o t f s) (sym (is ∙ ap (λ k. accepts t (CommitLate k) s) (sym e))) (is_late v q)
+
+-- what a job is about, where it is out
+pub pair_out : (p : Parts) (w : ℕ) (j : Job) (n : ℕ) → IsPairJob j n → IsSubjectOut p w j → map_option (λ (x : Pair). x.condition) (slice_get p.pairs.pairs n) ≡ Some (OutTo w)
+pair_out p w (Goal g a b) n is h = absurd is
+pair_out p w (More g a b) n is h = absurd is
+pair_out p w (Meet i) n is h = absurd is
+pair_out p w (Join q a) n is h = subst (λ k. map_option (λ (x : Pair). x.condition) (slice_get p.pairs.pairs k) ≡ Some (OutTo w)) is h
+
+pub goal_out : (p : Parts) (w : ℕ) (j : Job) (n : ℕ) → IsGoalJob j n → IsSubjectOut p w j → n < length p.goals
+goal_out p w (Goal g a b) n is h = subst (λ k. k < length p.goals) is h
+goal_out p w (More g a b) n is h = subst (λ k. k < length p.goals) is h
+goal_out p w (Meet i) n is h = absurd is
+goal_out p w (Join q a) n is h = absurd is
+
+-- one place has one task, and so one job
+pub same_place_job : (ts : List TaskRow) (at : ℕ) (t u : Out) (j : Job) → StandsAt ts at t → StandsAt ts at u → t.job ≡ j → u.job ≡ j
+same_place_job ts at t u j a b e = ap (λ (x : Out). x.job) (one_at ts at u t b a) ∙ e

@@ -1,6 +1,6 @@
 //! Commits: what the result of a task changes.
 
-ghost use Rattle.std.specs.Prelude.{◌≡◌, ⊤, ◌+◌, ◌<◌, ◌≤◌, ◌^◌, ◌++◌, ◌∷◌, [], true, false, nat_lt, length, remove, IfOk, IfErr, OnOk, OnErr, IfSome, MatchOption, Some, None, vec_len, vec_capacity};
+ghost use Rattle.std.specs.Prelude.{◌≡◌, ⊤, ◌+◌, ◌<◌, ◌≤◌, ◌^◌, ◌++◌, ◌∷◌, [], true, false, IsTrue, ◌↔◌, nat_lt, length, remove, IfOk, IfErr, OnOk, OnErr, IfSome, MatchOption, Some, None, vec_len, vec_capacity};
 ghost use Rattle.uc_fact.specs.declared.fact.Fact.{Fact as AnyFact};
 ghost use Rattle.uc_ledger.specs.declared.ledger.State.TheVariants.{Done as IsDone};
 ghost use Rattle.uc_shelf.specs.Fronts.{IsOf};
@@ -8,14 +8,14 @@ ghost use Rattle.uc_shelf.specs.declared.entry.Entry.TheVariants.{Born};
 ghost use Rattle.uc_machine.specs.declared.event.Verdict.TheVariants.{Proved};
 ghost use Rattle.uc_machine.specs.declared.event.GoalEnd.TheVariants.{Met as EndsMet};
 ghost use Rattle.uc_machine.specs.declared.task.Finding.TheVariants.{Kept};
-ghost use Rattle.uc_machine.specs.State.{Opening, Out, is_draw_what};
+ghost use Rattle.uc_machine.specs.State.{Opening, Out};
 ghost use Rattle.uc_machine.specs.Effects.{accepts, closes, stages, turns, publishes};
 ghost use Rattle.uc_machine.specs.Commits.{Commits, IsOutTo, end_word};
 ghost use Rattle.uc_book.specs.Openings.{opening_of};
 ghost use Rattle.uc_book.specs.Answers.{IsCommitted, IsNotOut, IsRefused};
 ghost use Rattle.uc_book.specs.FactRows.{HasOneMore};
 ghost use Rattle.uc_book.specs.TaskRows.{StandsAt};
-ghost use Rattle.uc_book.specs.Parts.{state_of, closings, Fit, HasRoom, SameSubjects, SameCounts};
+ghost use Rattle.uc_book.specs.Parts.{state_of, closings, Fit, HasRoom, IsSubjectOut, SameSubjects, SameCounts};
 ghost use Rattle.uc_book.specs.Ending.{CanEnd, AnyAt, CanAccept, HasEnded};
 ghost use Rattle.uc_book.specs.Committing.{stage_by, commit_word, HasGoal, IsGoalJob, IsPairJob, IsFor, HasEnds, HasNoEnds};
 
@@ -23,7 +23,7 @@ use crate::answer::{CommitFault, Receipt};
 use crate::chains::end_of;
 use crate::opened::Opened;
 use crate::parts::Parts;
-use crate::tasks::{place_of, same_job};
+use crate::tasks::{TaskRow, place_of, same_job};
 use crate::token::Done;
 use std::alloc::{AllocError, Global};
 use std::sync::Wait;
@@ -85,6 +85,17 @@ fn goal_event(job: &Job, goal: u32, steps: u32, end: GoalEnd) -> Happening
     }
 }
 
+/// Whether the task of a row, but for its ticket, is that of a result and is out to this worker.
+fn is_task_of(shelf: &Shelf, row: &TaskRow, worker: u32, done: &Done) -> bool
+    requires row { IsOf shelf.now row.now.front }
+    requires done { IsOf shelf.now done.now.front }
+    ensures { IsTrue result ↔ ((row.now.worker ≡ worker) × (row.now.job ≡ done.now.job) × (row.now.front.entries ≡ done.now.front.entries)) }
+{
+    row.worker == worker
+        && same_job(&row.job, &done.job)
+        && shelf.same(&row.front, &done.front)
+}
+
 impl Parts {
     /// Takes the result of a task in, where it is out to the worker. It grows first and changes last.
     pub(crate) fn commit<R: Wait>(
@@ -129,11 +140,7 @@ impl Parts {
         ensures some { IfSome result (λ at. (t : Out) × StandsAt self.now.tasks.items at t × IsOutTo (state_of self.now) worker done.now.ticket done.now.job done.now.front.entries t) }
     {
         let at = place_of(&self.tasks, done.ticket)?;
-        let row = &self.tasks[at];
-        if row.worker == worker
-            && same_job(&row.job, &done.job)
-            && shelf.same(&row.front, &done.front)
-        {
+        if is_task_of(shelf, &self.tasks[at], worker, done) {
             Some(at)
         } else {
             None
@@ -223,7 +230,7 @@ impl Parts {
     fn end_pair(&mut self, at: usize, pair: u64, what: Happening)
         requires at { AnyAt self.old at }
         requires job { (t : Out) → StandsAt self.old.tasks.items at t → IsPairJob t.job pair }
-        requires what { is_draw_what what ≡ false }
+        requires out { (t : Out) → StandsAt self.old.tasks.items at t → IsSubjectOut self.old t.worker t.job }
         requires can { (t : Out) → StandsAt self.old.tasks.items at t → CanAccept self.old t }
         ensures state { (t : Out) → StandsAt self.old.tasks.items at t → state_of self.new ≡ turns IsDone pair (accepts t what (state_of self.old)) }
         ensures rest { HasEnded self.old at self.new }
@@ -333,6 +340,7 @@ impl Parts {
         requires at { AnyAt self.old at }
         requires can { (t : Out) → StandsAt self.old.tasks.items at t → CanAccept self.old t }
         requires room { vec_len self.old.history + 1 < vec_capacity self.old.history }
+        requires open { self.old.verdict ≡ None }
         requires job { IsGoalJob job.now goal }
         ensures met { (t : Out) → StandsAt self.old.tasks.items at t → met ≡ true → state_of self.new ≡ closes t.worker (Proved goal) (accepts t (commit_word job.now goal steps EndsMet) (state_of self.old)) }
         ensures apart { (t : Out) → StandsAt self.old.tasks.items at t → met ≡ false → state_of self.new ≡ stages (stage_by stop (nat_lt t.front (length self.old.facts.front.entries))) goal (accepts t (commit_word job.now goal steps (end_word stop)) (state_of self.old)) }

@@ -1,6 +1,6 @@
 //! Draws: the first of the rules that holds gives the answer.
 
-ghost use Rattle.std.specs.Prelude.{◌≡◌, ◌≢◌, ℕ, ◌+◌, ◌<◌, ◌≤◌, ◌^◌, [], true, IsTrue, ◌↔◌, length, IfOk, OnErr, MatchOption, None, vec_len, vec_capacity};
+ghost use Rattle.std.specs.Prelude.{◌≡◌, ◌≢◌, ℕ, ◌+◌, ◌<◌, ◌≤◌, ◌^◌, [], true, false, IsTrue, length, IfOk, OnErr, MatchOption, None, vec_len, vec_capacity};
 ghost use Rattle.uc_machine.specs.declared.task.Job.TheVariants.{More};
 ghost use Rattle.uc_machine.specs.Lists.{first};
 ghost use Rattle.uc_machine.specs.State.{Opening, State, Target, is_continued, first_continued, queue};
@@ -8,7 +8,6 @@ ghost use Rattle.uc_machine.specs.Effects.{hands_out, next_ticket};
 ghost use Rattle.uc_machine.specs.Draws.{Reply, Draws, NoneUnmet, IsLate, HasBudget, IsSpent, Waits, NothingWaits};
 ghost use Rattle.uc_book.specs.Openings.{opening_of};
 ghost use Rattle.uc_book.specs.Answers.{reply_of, IfTask};
-ghost use Rattle.uc_book.specs.PairRows.{head_in, IsHead};
 ghost use Rattle.uc_book.specs.Parts.{state_of, Fit, HasRoom, IsAtHead, SameSubjects};
 ghost use Rattle.uc_book.specs.Drawing.{AreJobs, IsSound, CanGive};
 
@@ -19,7 +18,6 @@ use crate::parts::Parts;
 use crate::tasks::TaskRow;
 use crate::token::Task;
 use std::alloc::{AllocError, Global};
-use uc_fact::Origin;
 use uc_machine::{Job, Verdict};
 use uc_shelf::Front;
 
@@ -169,14 +167,25 @@ impl Parts {
         if let Some(jobs) = more {
             return Drawn::Task(self.give(worker, opening, fronts, jobs));
         }
-        let head = self.pairs.head();
         if self.counted + self.reserved < opening.budget() {
-            return self.draw_pair(worker, opening, fronts, head);
+            return self.draw_pair(worker, opening, fronts);
         }
-        if head.is_some() || self.goals.first_continued().is_some() {
+        if self.has_waiting() {
             return self.draw_spent(worker);
         }
         self.draw_nothing()
+    }
+
+    /// Whether a goal is Continued or the queue isn't empty.
+    fn has_waiting(&mut self) -> bool
+        ensures waits { IsTrue result → Waits (state_of self.old) }
+        ensures none { result ≡ false → NothingWaits (state_of self.old) }
+        ensures same { self.new ≡ self.old }
+    {
+        if self.goals.first_continued().is_some() {
+            return true;
+        }
+        self.pairs.head().is_some()
     }
 
     /// The pair at the queue's head, where one waits.
@@ -185,7 +194,6 @@ impl Parts {
         worker: u32,
         opening: Opened,
         fronts: (Front, Front),
-        head: Option<(u64, Origin)>,
     ) -> Drawn
         requires late { IsLate (state_of self.old) }
         requires can { CanGive opening.shelf (opening_of opening) self.old }
@@ -193,14 +201,13 @@ impl Parts {
         requires kept { fronts.1 ≡ self.old.facts.front }
         requires goal { first_continued (state_of self.old) ≡ None }
         requires budget { HasBudget (opening_of opening) (state_of self.old) }
-        requires head { MatchOption head (head_in self.old.pairs ≡ None) (λ h. IsHead self.old.pairs h.0 h.1) }
         ensures drawn { Draws (opening_of opening) worker (state_of self.old) (reply_of worker result) (state_of self.new) }
         ensures task { IfTask result (λ t. (t.opening ≡ opening) × (t.front ≡ self.old.facts.front)) }
         ensures front { self.new.facts.front ≡ self.old.facts.front }
         ensures fit { Fit opening.shelf self.new }
         ensures room { HasRoom self.new }
     {
-        match head {
+        match self.pairs.head() {
             Some((pair, origin)) => {
                 let jobs = (Job::Join { pair, origin }, Job::Join { pair, origin });
                 Drawn::Task(self.give(worker, opening, fronts, jobs))
