@@ -194,3 +194,16 @@ impl Pairs {
         }
     }
 }
+
+#[cfg(test)]
+impl Pairs {
+    /// What a pair comes from, the weight of its two sides, and its state.
+    pub(crate) fn row(&self, number: u64) -> Option<(Origin, u32, State)> {
+        let state = self.states.state(number)?;
+        if number as usize >= self.rows.len() {
+            return None;
+        }
+        let row = self.rows[number as usize];
+        Some((row.origin, row.weight, state))
+    }
+}
