@@ -11,7 +11,7 @@ use Rattle.uc_machine.specs.State.{Pair, is_waiting, queue_from}
 use Rattle.uc_book.specs.declared.pairs.PairRow.{PairRow}
 use Rattle.uc_book.specs.declared.pairs.Pairs.TheInside.{Inside}
 use Rattle.uc_book.specs.RowViews.{PairsView}
-use Rattle.uc_book.specs.PairRows.{pairs_of, pairs_view, ArePairs, head_in}
+use Rattle.uc_book.specs.PairRows.{pairs_of, pairs_view, ArePairs, head_in, IsHead}
 use Rattle.uc_book.proofs.PairRows.{pair_of, place_of, pairs_of-push, pairs_of-set, condition_at, row_at, queue-left, queue-same, queue-again, queue-push, queue-push_quiet, new-past, new-quiet, length-pairs_of, head_pair, head_same, found_pair}
 
 -- the queue's own head is that of the pairs
@@ -55,12 +55,16 @@ pub queue_again : (rows : List PairRow) (cs ds : List Condition) (n k : ℕ) (x 
 queue_again rows cs ds n k x v w turns at quiet weight a b =
     b ∙ ap (λ m. with_entry (record { weight = m; number = n }) v) weight ∙ ap (with_entry (place_of x n)) a ∙ sym (queue-again n (pairs_of rows cs) x at quiet) ∙ ap (queue_from 0) (sym (turned rows cs ds n Waiting turns))
 
+pair_below : (rows : List PairRow) (cs : List Condition) (n : ℕ) (p : Pair) → slice_get (pairs_of rows cs) n ≡ Some p → n < length rows
+pair_below [] cs n p e = absurd (cc)
+pair_below (r ∷ rs) cs n p e = (row_at (r ∷ rs) cs n p r e).0
+
 -- the weight of a pair is that of its row
 pub row_weight : (i : Inside) (n : ℕ) (c : Condition) (row : PairRow) (p : IsPairIn i n c) → row ≡ get_or i.rows.items n row → row.weight ≡ p.pair.weight
 row_weight i n c row p e = ap (λ (r : PairRow). r.weight) e ∙ (row_at i.rows.items i.states.states n p.pair row p.at).2
 
-pub row_inside : (i : Inside) (n : ℕ) (c : Condition) (d : PairRow) → IsPairIn i n c → n < length i.rows.items
-row_inside i n c d p = (row_at i.rows.items i.states.states n p.pair d p.at).0
+pub row_inside : (i : Inside) (n : ℕ) (c : Condition) → IsPairIn i n c → n < length i.rows.items
+row_inside i n c p = pair_below i.rows.items i.states.states n p.pair p.at
 
 -- one pair more
 pub queue_more : (rows : List PairRow) (cs : List Condition) (r : PairRow) (c : Condition) (n : ℕ) (v w : List Place) → length cs ≡ length rows → n ≡ length rows → v ≡ queue_from 0 (pairs_of rows cs)
@@ -85,3 +89,28 @@ number_new rows cs n v many number a =
 -- nor is that of a pair that doesn't wait
 pub out_new : (i : Inside) (n : ℕ) (c : Condition) → is_waiting c ≡ false → ArePairs i → IsPairIn i n c → IsNew n i.queue.waiting
 out_new i n c q a p = subst (IsNew n) (sym a.queue) (new-quiet n (pairs_of i.rows.items i.states.states) p.pair p.at (ap is_waiting p.condition ∙ q))
+
+-- THE HEAD AS THE CODE READS IT
+
+pub head_inside : (i : Inside) (v : PairsView) (n : ℕ) → pairs_view i ≡ v → option_map (λ (e : Place). e.number) (head_in v) ≡ Some n → n < length i.rows.items
+head_inside i v n e h =
+    let p = head_pair v n (head_in v) refl h in
+    pair_below i.rows.items i.states.states n p.pair (subst (λ (w : PairsView). slice_get w.pairs n ≡ Some p.pair) (sym e) p.at)
+
+pub head_is : (i : Inside) (v : PairsView) (n : ℕ) (row : PairRow) → pairs_view i ≡ v → option_map (λ (e : Place). e.number) (head_in v) ≡ Some n → row ≡ get_or i.rows.items n row → IsHead v n row.origin
+head_is i v n row e h r =
+    let p = head_pair v n (head_in v) refl h in
+    let at : slice_get (pairs_of i.rows.items i.states.states) n ≡ Some p.pair = subst (λ (w : PairsView). slice_get w.pairs n ≡ Some p.pair) (sym e) p.at in
+    record {
+      place = p.place;
+      pair = p.pair;
+      is = p.is;
+      number_is = p.number_is;
+      at = p.at;
+      waits = p.waits;
+      origin_is = sym (ap (λ (x : PairRow). x.origin) r ∙ (row_at i.rows.items i.states.states n p.pair row at).1);
+    }
+
+pub none_at : (o : Option Place) → option_map (λ (e : Place). e.number) o ≡ None → o ≡ None
+none_at None e = refl
+none_at (Some p) e = absurd (cc)
