@@ -88,3 +88,7 @@ closed_by s u (Convergent facts) v e c = (let same : Saturated ≡ v = cc in sub
 closed_by s u (Lacks all) v e c = absurd (cc)
 closed_by s u (Large a) v e c = (let same : LargeOverlap a ≡ v = cc in subst (λ x. Closes s (Large a) x u) same (subst (Closes s (Large a) (LargeOverlap a)) (sym (c ∙ ap (λ x. closes 0 x s) (sym same))) has_large))
 closed_by s u (GoalUnsettled g) v e c = (let same : LargeGoal g ≡ v = cc in subst (λ x. Closes s (GoalUnsettled g) x u) same (subst (Closes s (GoalUnsettled g) (LargeGoal g)) (sym (c ∙ ap (λ x. closes 0 x s) (sym same))) has_stuck))
+
+pub none_left : (ts : List Out) → ((0 < length ts) → ⊥) → ts ≡ []
+none_left [] h = refl
+none_left (t ∷ ts) h = absurd (h (omega arith))

@@ -11,10 +11,11 @@ use Rattle.uc_shelf.specs.Sights.{Sight}
 use Rattle.uc_shelf.specs.declared.entry.Entry.{Entry}
 use Rattle.uc_machine.specs.declared.task.Job.{Job}
 use Rattle.uc_machine.specs.declared.task.Job.TheVariants.{Goal, More, Meet, Join}
-use Rattle.uc_machine.specs.Lists.{Each, At}
-use Rattle.uc_machine.specs.State.{Opening, State, Target, first_continued}
-use Rattle.uc_machine.specs.Effects.{next_ticket}
-use Rattle.uc_machine.specs.Draws.{Drew, Draws, HasBudget}
+use Rattle.uc_machine.specs.declared.state.Meeting.{Meeting}
+use Rattle.uc_machine.specs.Lists.{Each, At, map_option}
+use Rattle.uc_machine.specs.State.{Opening, State, Target, first_due, first_unmet, first_continued, queue}
+use Rattle.uc_machine.specs.Effects.{hands_out, next_ticket}
+use Rattle.uc_machine.specs.Draws.{Drew, Draws, NoneDue, NoneUnmet, HasBudget}
 use Rattle.uc_book.specs.declared.answer.Drawn.TheVariants.{Task as DrawnTask}
 use Rattle.uc_book.specs.declared.parts.Parts.{Parts}
 use Rattle.uc_book.specs.declared.tasks.TaskRow.{TaskRow}
@@ -25,11 +26,11 @@ use Rattle.uc_book.specs.RowViews.{FactsView}
 use Rattle.uc_book.specs.Bounds.{AreSmall}
 use Rattle.uc_book.specs.TaskRows.{HasFront}
 use Rattle.uc_book.specs.Answers.{reply_of}
-use Rattle.uc_book.specs.Parts.{state_of, closings, Fit, HasRoom, RoomFor, IsAtHead}
-use Rattle.uc_book.specs.Drawing.{AreJobs, IsSound, CanGive}
+use Rattle.uc_book.specs.Parts.{state_of, closings, Fit, HasRoom, IsAtHead, IsSteady}
+use Rattle.uc_book.specs.Drawing.{AreJobs, IsSound, HasRoomToGive, CanGive}
 use Rattle.uc_book.proofs.Fitting.{joins}
 use Rattle.uc_book.proofs.Steady.{closings_few}
-use Rattle.uc_book.proofs.Rules.{Gives}
+use Rattle.uc_book.proofs.Rules.{Gives, due_drawn, unmet_drawn}
 
 -- a task with this ticket, job and front is the answer of a draw
 pub given : (o : Opening) (w : ℕ) (s p : State) (t : Task) (n : ℕ) (j : Job) (front : Sight) (of : Opened) (u : State) → t ≡ record { ticket = n; job = j; front = front; opening = of } → front.entries ≡ p.entries → p ≡ s → Gives o w p n j u → Draws o w s (reply_of w (DrawnTask t)) u
@@ -58,32 +59,52 @@ more_later o s u b (Some jobs) e c r f h =
     (omega arith, subst (λ (found : Option (At Target)). AreJobs More found jobs) (sym f) h.1)
 
 -- a task may be given after orphans were dropped, as many as waited at most
-pub dropped_give : (shelf : Shelves) (o : Opening) (p q : Parts) (n : ℕ) → IsSound o p → Fit shelf p → HasRoom p → q.facts ≡ p.facts → q.tasks ≡ p.tasks → q.next ≡ p.next → q.counted ≡ p.counted → q.reserved ≡ p.reserved → q.numbers ≡ p.numbers → q.verdict ≡ p.verdict
-    → p.pairs.spare ≤ q.pairs.spare → next_ticket (state_of q) ≡ next_ticket (state_of p) → vec_len q.history ≤ vec_len p.history + n → vec_capacity q.history ≡ vec_capacity p.history
-    → length p.tasks.items + 1 < 2 ^ 32 → vec_len p.tasks < vec_capacity p.tasks → vec_len p.history + (n + length p.tasks.items + 3) ≤ vec_capacity p.history → CanGive shelf o q
-dropped_give shelf o p q n k f r facts tasks next counted reserved numbers verdict spare ticket history capacity few room_tasks events =
+pub dropped_give : (shelf : Shelves) (o : Opening) (p q : Parts) → CanGive shelf o p → HasRoomToGive p → q.facts ≡ p.facts → q.tasks ≡ p.tasks → q.next ≡ p.next → q.counted ≡ p.counted → q.reserved ≡ p.reserved → q.numbers ≡ p.numbers → q.verdict ≡ p.verdict
+    → p.pairs.spare ≤ q.pairs.spare → next_ticket (state_of q) ≡ next_ticket (state_of p) → vec_len q.history ≤ vec_len p.history + length (queue (state_of p)) → vec_capacity q.history ≡ vec_capacity p.history → CanGive shelf o q
+dropped_give shelf o p q can h facts tasks next counted reserved numbers verdict spare ticket history capacity =
     let l : length q.tasks.items ≡ length p.tasks.items = ap (λ (ts : Vec TaskRow Global). length ts.items) tasks in
     let j : joins q.tasks.items ≡ joins p.tasks.items = ap (λ (ts : Vec TaskRow Global). joins ts.items) tasks in
     let v : closings q.verdict ≤ 1 = closings_few q.verdict in
-    let w : p.counted + p.reserved ≤ o.budget = k.within in
-    let m : p.next < 2 ^ 63 = k.next in
-    let i : joins p.tasks.items ≤ p.pairs.spare = r.waiting in
+    let w : p.counted + p.reserved ≤ o.budget = can.sound.within in
+    let m : p.next < 2 ^ 63 = can.sound.next in
+    let i : joins p.tasks.items ≤ p.pairs.spare = can.room.waiting in
     let t : vec_len q.tasks ≡ vec_len p.tasks = ap (λ (ts : Vec TaskRow Global). vec_len ts) tasks in
     let d : vec_capacity q.tasks ≡ vec_capacity p.tasks = ap (λ (ts : Vec TaskRow Global). vec_capacity ts) tasks in
+    let few : length p.tasks.items + 1 < 2 ^ 32 = h.few in
+    let room : vec_len p.tasks < vec_capacity p.tasks = h.tasks in
+    let events : vec_len p.history + (length (queue (state_of p)) + length p.tasks.items + 3) ≤ vec_capacity p.history = h.events in
     record {
-      sound = record { small = subst (λ (ns : Vec Numbers Global). AreSmall ns.items) (sym numbers) k.small; within = omega arith; budget = k.budget; next = omega arith };
+      sound = record { small = subst (λ (ns : Vec Numbers Global). AreSmall ns.items) (sym numbers) can.sound.small; within = omega arith; budget = can.sound.budget; next = omega arith };
       fit = record {
-        front = subst (λ (fs : FactsView). IsOf shelf fs.front) (sym facts) f.front;
-        next = next ∙ f.next ∙ sym ticket;
-        fronts = subst (λ (fs : FactsView). Each (HasFront shelf fs.front.entries) q.tasks.items) (sym facts) (subst (λ (ts : Vec TaskRow Global). Each (HasFront shelf p.facts.front.entries) ts.items) (sym tasks) f.fronts);
-        few = omega (arith, f.few);
-        workers = ap (λ (ns : Vec Numbers Global). length ns.items) numbers ∙ f.workers;
+        front = subst (λ (fs : FactsView). IsOf shelf fs.front) (sym facts) can.fit.front;
+        next = next ∙ can.fit.next ∙ sym ticket;
+        fronts = subst (λ (fs : FactsView). Each (HasFront shelf fs.front.entries) q.tasks.items) (sym facts) (subst (λ (ts : Vec TaskRow Global). Each (HasFront shelf p.facts.front.entries) ts.items) (sym tasks) can.fit.fronts);
+        few = omega (arith, can.fit.few);
+        workers = ap (λ (ns : Vec Numbers Global). length ns.items) numbers ∙ can.fit.workers;
       };
       room = record { events = omega arith; waiting = omega arith };
       few = omega arith;
       room_tasks = omega arith;
       room_events = omega arith;
     }
+
+none_found : {A : Type 0} (o : Option (At A)) → None ≡ map_option (λ (f : At A). f.number) o → o ≡ None
+none_found None e = refl
+none_found (Some f) e = absurd (cc)
+
+-- no goal is Due and no fact is Unmet, as the searches find it
+pub found_none : (s : State) → s.verdict ≡ None → first_due s ≡ None → None ≡ map_option (λ (f : At Meeting). f.number) (first_unmet s) → NoneUnmet s
+found_none s open_ due unmet = record { none_due = record { open_ = open_; none_due = due }; none_unmet = none_found (first_unmet s) unmet }
+
+module _ (shelf : Shelves) (o : Opening) (w : ℕ) (p q r : Parts) (t : Task) (of : Opened) (s : IsSteady p q) (f : Fit shelf p) where
+  given_by : (j : Job) → t ≡ record { ticket = q.next; job = j; front = q.facts.front; opening = of } → Gives o w (state_of p) q.next j (state_of r) → Draws o w (state_of p) (reply_of w (DrawnTask t)) (state_of r)
+  given_by j e g = given o w (state_of p) (state_of p) t q.next j q.facts.front of (state_of r) e (ap (λ (x : Sight). x.entries) s.front) refl g
+
+  pub due_given : (jobs : Job × Job) → p.verdict ≡ None → AreJobs Goal (first_due (state_of q)) jobs → t ≡ record { ticket = q.next; job = jobs.0; front = q.facts.front; opening = of } → state_of r ≡ hands_out w jobs.0 (state_of q) → Draws o w (state_of p) (reply_of w (DrawnTask t)) (state_of r)
+  due_given jobs open_ a e h = given_by jobs.0 e (due_drawn o w (state_of p) q.next jobs (state_of r) open_ (subst (λ (x : State). AreJobs Goal (first_due x) jobs) s.state a) (s.next ∙ f.next) (h ∙ ap (λ (x : State). hands_out w jobs.0 x) s.state))
+
+  pub unmet_given : (i : ℕ) → NoneDue (state_of q) → Some i ≡ map_option (λ (x : At Meeting). x.number) (first_unmet (state_of q)) → t ≡ record { ticket = q.next; job = Meet i; front = q.facts.front; opening = of } → state_of r ≡ hands_out w (Meet i) (state_of q) → Draws o w (state_of p) (reply_of w (DrawnTask t)) (state_of r)
+  unmet_given i due a e h = given_by (Meet i) e (unmet_drawn o w (state_of p) q.next i (state_of r) (subst NoneDue s.state due) (subst (λ (x : State). Some i ≡ map_option (λ (y : At Meeting). y.number) (first_unmet x)) s.state a) (s.next ∙ f.next) (h ∙ ap (λ (x : State). hands_out w (Meet i) x) s.state))
 
 -- jobs that were found where the budget allows one
 pub jobs_if : {E : Type 0} (b : Bool) (found : Option (At Target)) (r : Result (Option (Job × Job)) E) → b ≡ true → IfOk r (λ o. MatchOption o (found ≡ None) (AreJobs More found)) → IfOk r (λ o. MatchOption o (b ≡ true → found ≡ None) (λ jobs. (b ≡ true) × AreJobs More found jobs))

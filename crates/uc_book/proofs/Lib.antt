@@ -27,3 +27,4 @@ pub mod Giving
 pub mod Taking
 pub mod Waiting
 pub mod Reclaiming
+pub mod Publishing

@@ -1,6 +1,7 @@
 -- The task at a place of the tasks out, and what its end needs and leaves.
 use Rattle.std.proofs.Common.{◌≡◌, ℕ, zero, suc, ◌+◌, ◌-◌, ◌<◌, ◌≤◌, ◌^◌, List, [], ◌∷◌, ◌++◌, length, get_or, map, take, Bool, true, false, Option, Some, None, refl, ap, sym, ◌∙◌, arith, subst}
-use Rattle.std.specs.Prelude.{remove, slice_get, vec_len, vec_capacity}
+use Rattle.std.specs.Prelude.{remove, slice_get, Vec, vec_len, vec_capacity}
+use Rattle.std.specs.declared.alloc.Global.{Global}
 use Rattle.std.proofs.lemmas.List.{append-nil, length_push}
 use Rattle.boxcar.specs.Table.{Shelves}
 use Rattle.uc_fact.specs.declared.fact.Fact.{Fact}
@@ -24,12 +25,14 @@ use Rattle.uc_book.specs.declared.tasks.TaskRow.{TaskRow}
 use Rattle.uc_book.specs.declared.parts.Parts.{Parts}
 use Rattle.uc_book.specs.declared.token.Done.{Done as DoneTask}
 use Rattle.uc_book.specs.Answers.{IsNotOut}
+use Rattle.uc_book.specs.RowViews.{PairsView}
 use Rattle.uc_book.specs.TaskRows.{out_of, is_join, unit_if_join, HasFront, StandsAt}
-use Rattle.uc_book.specs.Parts.{state_of, closings, Fit, HasRoom, IsSubjectOut}
+use Rattle.uc_book.specs.Parts.{state_of, closings, Fit, HasRoom, IsSubjectOut, IsSteady, SameCounts}
 use Rattle.uc_book.specs.Ending.{CanEnd, CanAccept, CanReturn, HasEnded}
 use Rattle.uc_machine.proofs.Lists.{length-change}
 use Rattle.uc_book.proofs.Histories.{draws-none, no_draw}
 use Rattle.uc_book.proofs.PutBack.{joins_left}
+use Rattle.uc_book.proofs.Steady.{steady_fit, steady_room, steady_sound}
 use Rattle.uc_book.proofs.Items.{length-remove}
 use Rattle.uc_book.proofs.Fitting.{joins, fit_ended, room_ended}
 
@@ -181,3 +184,53 @@ not_there s w d e = λ t h. (let f : None ≡ Some t = sym e ∙ h.at in absurd 
 -- the task of the ticket isn't that of the result
 pub not_same : (s : State) (w : ℕ) (d : DoneTask) (t : Out) → out_at d.ticket s.out ≡ Some t → ((t.worker ≡ w) → (t.job ≡ d.job) → (take t.front s.entries ≡ d.front.entries) → ⊥) → IsNotOut s w d
 not_same s w d t e no = λ u h. (let f : Some t ≡ Some u = sym e ∙ h.at in let is : t ≡ u = cc in no (ap (λ (x : Out). x.worker) is ∙ h.worker) (ap (λ (x : Out). x.job) is ∙ h.job_is) (ap (λ (x : Out). take x.front s.entries) is ∙ h.front_is))
+
+-- ends stay possible as long as the state does
+pub steady_end : (shelf : Shelves) (o : Opening) (p q : Parts) → IsSteady p q → CanEnd shelf o p → CanEnd shelf o q
+steady_end shelf o p q s c = record {
+  sound = steady_sound o p q s c.sound;
+  fit = steady_fit shelf p q s c.fit;
+  room = steady_room p q s c.room;
+  subjects = λ t is. still_out p q t.worker t.job s.front (ap (λ (x : State). x.pairs) s.state) (ap (λ (x : State). x.goals) s.state) (c.subjects t (subst (λ ts. out_at t.ticket (map out_of ts) ≡ Some t) s.tasks is));
+  units = λ t is. subst (λ n. unit_of t.job ≤ n) (sym (ap (λ (x : State). x.reserved) s.state)) (c.units t (subst (λ ts. out_at t.ticket (map out_of ts) ≡ Some t) s.tasks is));
+}
+
+pub steady_stands : (p q : Parts) (at : ℕ) (t : Out) → IsSteady p q → StandsAt p.tasks.items at t → StandsAt q.tasks.items at t
+steady_stands p q at t s h = subst (λ ts. StandsAt ts at t) (sym s.tasks) h
+
+pub stands_before : (p q : Parts) (at : ℕ) (t : Out) → IsSteady p q → StandsAt q.tasks.items at t → StandsAt p.tasks.items at t
+stands_before p q at t s h = subst (λ ts. StandsAt ts at t) s.tasks h
+
+-- there is room when a fact was published behind the end of a task
+pub room_kept : (p q r : Parts) (at : ℕ) (t : Out) → HasRoom p → StandsAt p.tasks.items at t → HasEnded p at q → q.pairs.spare ≡ p.pairs.spare → SameCounts q r → HasRoom r
+room_kept p q r at t room stands ended spare same =
+    let tasks : r.tasks.items ≡ remove p.tasks.items at = ap (λ (ts : Vec TaskRow Global). ts.items) same.tasks ∙ ended.tasks in
+    let l : vec_len r.history ≡ vec_len q.history = ap (λ (es : Vec Event Global). vec_len es) same.history in
+    let k : vec_capacity r.history ≡ vec_capacity q.history = ap (λ (es : Vec Event Global). vec_capacity es) same.history in
+    let v : closings r.verdict ≡ closings p.verdict = ap closings (same.verdict ∙ ended.verdict) in
+    let e : vec_len q.history ≡ vec_len p.history + 1 = ended.history in
+    let d : vec_capacity q.history ≡ vec_capacity p.history = ended.capacity in
+    let w : r.pairs.spare ≡ q.pairs.spare = ap (λ (x : PairsView). x.spare) same.pairs in
+    room_after p r at t room stands tasks (omega arith) (omega arith) (omega arith)
+
+-- the book was closed
+pub closed_fit : (shelf : Shelves) (p q : Parts) (w : ℕ) (v : Verdict) → Fit shelf p → state_of q ≡ closes w v (state_of p) → q.facts.front ≡ p.facts.front → q.next ≡ p.next → q.tasks.items ≡ p.tasks.items → Fit shelf q
+closed_fit shelf p q w v f e front next tasks =
+    let l : length q.tasks.items ≡ length p.tasks.items = ap length tasks in
+    record {
+      front = subst (IsOf shelf) (sym front) f.front;
+      next = next ∙ f.next ∙ sym (ap (λ (x : State). length (draws_in x.history)) e ∙ ap length (draws-none p.history.items (record { worker = w; what = Close (ending_of v) }) refl));
+      fronts = subst (λ (x : Sight). Each (HasFront shelf x.entries) q.tasks.items) (sym front) (subst (Each (HasFront shelf p.facts.front.entries)) (sym tasks) f.fronts);
+      few = omega (arith, f.few);
+      workers = ap (λ (x : State). length x.numbers) e ∙ f.workers;
+    }
+
+pub closed_room : (p q : Parts) (w : ℕ) (v : Verdict) → HasRoom p → p.verdict ≡ None → state_of q ≡ closes w v (state_of p) → q.tasks.items ≡ p.tasks.items → vec_len q.history ≡ vec_len p.history + 1 → vec_capacity q.history ≡ vec_capacity p.history → q.pairs.spare ≡ p.pairs.spare → HasRoom q
+closed_room p q w v r open_ e tasks history capacity spare =
+    let l : length q.tasks.items ≡ length p.tasks.items = ap length tasks in
+    let j : joins q.tasks.items ≡ joins p.tasks.items = ap joins tasks in
+    let a : closings q.verdict ≡ 0 = ap (λ (x : State). closings x.verdict) e in
+    let b : closings p.verdict ≡ 1 = ap closings open_ in
+    let i : joins p.tasks.items ≤ p.pairs.spare = r.waiting in
+    let k : vec_len p.history + (0 + (length p.tasks.items + closings p.verdict)) ≤ vec_capacity p.history = r.events in
+    record { events = omega arith; waiting = omega arith }

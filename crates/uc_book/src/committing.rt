@@ -15,7 +15,7 @@ ghost use Rattle.uc_book.specs.Openings.{opening_of};
 ghost use Rattle.uc_book.specs.Answers.{IsCommitted, IsNotOut, IsRefused};
 ghost use Rattle.uc_book.specs.FactRows.{HasOneMore};
 ghost use Rattle.uc_book.specs.TaskRows.{StandsAt};
-ghost use Rattle.uc_book.specs.Parts.{state_of, closings, Fit, HasRoom, IsSubjectOut, SameSubjects, SameCounts};
+ghost use Rattle.uc_book.specs.Parts.{state_of, closings, Fit, HasRoom, IsSubjectOut, IsSteady, SameSubjects, SameCounts};
 ghost use Rattle.uc_book.specs.Ending.{CanEnd, AnyAt, CanAccept, HasEnded};
 ghost use Rattle.uc_book.specs.Committing.{stage_by, commit_word, HasGoal, IsGoalJob, IsPairJob, IsFor, HasEnds, HasNoEnds};
 
@@ -242,7 +242,7 @@ impl Parts {
         self.pairs.finish(pair, worker);
     }
 
-    /// A fact is kept: it is published at the end of a copy of the front.
+    /// A fact is kept: it is published at the end of a copy of the front. It grows first and changes last.
     fn keep<R: Wait>(
         &mut self,
         rt: &R,
@@ -261,17 +261,37 @@ impl Parts {
         ensures fit { Fit shelf.now self.new }
         ensures room { HasRoom self.new }
     {
-        self.facts.reserve(1)?;
-        let mut front = self.facts.front().copy(alloc)?;
-        if front.len() >= MAX_ENTRIES {
-            return Err(AllocError);
-        }
         let weight = fact.left.nodes() + fact.right.nodes();
-        shelf.publish(rt, alloc, &mut front, Entry::Born(fact.copy(alloc)?))?;
+        let copy = fact.copy(alloc)?;
+        let front = self.with_birth(rt, alloc, shelf, copy)?;
         let number = self.facts.count() as u32;
         self.end_pair(at, pair, Happening::CommitKept { pair, fact: number });
         self.publish(front, weight);
         Ok(())
+    }
+
+    /// A copy of the front with the birth of a fact behind it, for which there is room among the facts.
+    pub(crate) fn with_birth<R: Wait>(
+        &mut self,
+        rt: &R,
+        alloc: Global,
+        shelf: &Shelf,
+        fact: Fact,
+    ) -> Result<Front, AllocError>
+        requires { IsOf shelf.now self.old.facts.front }
+        ensures steady { IsSteady self.old self.new }
+        ensures of { IfOk result (λ f. IsOf shelf.now f) }
+        ensures entries { IfOk result (λ f. f.entries ≡ self.old.facts.front.entries ++ Born fact ∷ []) }
+        ensures few { IfOk result (λ f. length f.entries ≤ 2 ^ 31) }
+        ensures room { OnOk result (1 ≤ self.new.facts.room) }
+    {
+        if self.facts.front().len() >= MAX_ENTRIES {
+            return Err(AllocError);
+        }
+        self.facts.reserve(1)?;
+        let mut front = self.facts.front().copy(alloc)?;
+        shelf.publish(rt, alloc, &mut front, Entry::Born(fact))?;
+        Ok(front)
     }
 
     /// Takes over a front with one fact more, which is Unmet; goals that rest become Due.

@@ -7,11 +7,11 @@ use Rattle.uc_book.proofs.Rules.{more_drawn}
 use Rattle.uc_book.proofs.Giving.{given, more_at_head, same_jobs}
 use Rattle.uc_book.proofs.parts.Parts.draw_late.Goals as goal
 
-pub give-requires-in-Some-clause-jobs : goal.give-requires-in-Some-clause-jobs
-give-requires-in-Some-clause-jobs c = (let h = rw c.in-Some.is at c.requires.more in same_jobs More (first_continued (state_of c.args.self.now)) c.in-Some.jobs h.1)
+pub give-requires-clause-jobs : goal.give-requires-clause-jobs
+give-requires-clause-jobs c = (let h = rw c.in-Some.is at c.requires.more in same_jobs More (first_continued (state_of c.args.self.now)) c.in-Some.jobs h.1)
 
-pub give-requires-in-Some-clause-head : goal.give-requires-in-Some-clause-head
-give-requires-in-Some-clause-head c = (let h = rw c.in-Some.is at c.requires.more in more_at_head c.args.self.now (first_continued (state_of c.args.self.now)) c.in-Some.jobs h.1)
+pub give-requires-clause-head : goal.give-requires-clause-head
+give-requires-clause-head c = (let h = rw c.in-Some.is at c.requires.more in more_at_head c.args.self.now (first_continued (state_of c.args.self.now)) c.in-Some.jobs h.1)
 
 pub returns-in-Some-clause-drawn : goal.returns-in-Some-clause-drawn
 returns-in-Some-clause-drawn c =
@@ -20,3 +20,6 @@ returns-in-Some-clause-drawn c =
     let h = rw c.in-Some.is at c.requires.more in
     given o c.args.worker (state_of p) (state_of p) c.give.result p.next c.in-Some.jobs.0 p.facts.front c.args.opening (state_of c.give.new.self) c.give.ensures.task refl refl
     (more_drawn o c.args.worker (state_of p) p.next c.in-Some.jobs (state_of c.give.new.self) c.requires.late h.0 h.1 c.requires.can.fit.next c.give.ensures.state)
+
+pub draw_last-requires-clause-goal : goal.draw_last-requires-clause-goal
+draw_last-requires-clause-goal c = rw c.in-None.is at c.requires.more

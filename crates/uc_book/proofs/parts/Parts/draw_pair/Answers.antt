@@ -9,8 +9,8 @@ use Rattle.uc_book.proofs.Rules.{pair_drawn}
 use Rattle.uc_book.proofs.Giving.{given}
 use Rattle.uc_book.proofs.parts.Parts.draw_pair.Goals as goal
 
-pub give-requires-in-Some-clause-head : goal.give-requires-in-Some-clause-head
-give-requires-in-Some-clause-head c = let h : IsHead c.args.self.now.pairs c.in-Some.pair c.in-Some.origin = c.in-Some.ensures in ap (option_map (λ (e : Place). e.number)) h.is ∙ ap (λ n. Some n) h.number_is
+pub give-requires-clause-head : goal.give-requires-clause-head
+give-requires-clause-head c = let h : IsHead c.args.self.now.pairs c.in-Some.pair c.in-Some.origin = c.in-Some.ensures in ap (option_map (λ (e : Place). e.number)) h.is ∙ ap (λ n. Some n) h.number_is
 
 pub returns-in-Some-clause-drawn : goal.returns-in-Some-clause-drawn
 returns-in-Some-clause-drawn c =
