@@ -28,3 +28,4 @@ pub mod Taking
 pub mod Waiting
 pub mod Reclaiming
 pub mod Publishing
+pub mod Beginning
