@@ -17,6 +17,9 @@ pub mod BuriedRows
 pub mod RisingNumbers
 pub mod NewPairs
 pub mod Visits
+pub mod Prefixes
+pub mod VisitEnds
+pub mod Taking
 pub mod Rules
 pub mod Ends
 pub mod Jobs

@@ -69,7 +69,7 @@ fn with_deaths<R: Wait>(
 {
     let mut longer = front.copy(alloc)?;
     for k in 0..falls.len() {
-        if longer.len() > MAX_ENTRIES {
+        if longer.len() >= MAX_ENTRIES {
             return Err(AllocError);
         }
         let death = Entry::Dies {
