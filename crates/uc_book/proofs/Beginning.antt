@@ -1,7 +1,7 @@
 -- The parts of a book in which nothing happened yet.
 use Rattle.std.proofs.Common.{◌≡◌, ℕ, ◌+◌, ◌<◌, ◌≤◌, ◌^◌, ◌++◌, ◌∷◌, [], List, length, get_or, map, take, refl, ap, sym, ◌∙◌, arith, subst, None, Some}
 use Rattle.std.specs.Prelude.{replicate, vec_len, vec_capacity, All}
-use Rattle.std.proofs.lemmas.List.{take_more, length-take}
+use Rattle.std.proofs.lemmas.List.{take_more, length-take-le}
 use Rattle.std.proofs.lemmas.List.Elements.{All-nil}
 use Rattle.boxcar.specs.Table.{Shelves, id_at}
 use Rattle.uc_term.specs.Tree.{nodes}
@@ -68,5 +68,5 @@ axioms_more es e n k a b =
 -- the pairs of the axioms up to one, and one more
 pub axioms_at : (es : List Equation) (k : ℕ) (e : Equation) (n : ℕ) (ps qs : List Pair) → k < length es → e ≡ get_or es k e → n ≡ nodes e.left + nodes e.right → ps ≡ axiom_pairs 0 (take k es) → qs ≡ ps ++ record { origin = Axiom k; weight = n; condition = Waiting } ∷ [] → qs ≡ axiom_pairs 0 (take (k + 1) es)
 axioms_at es k e n ps qs l at w a b =
-    let z : k ≡ length (take k es) = (let t : length (take k es) ≡ k = length-take k es (omega arith) in sym t) in
+    let z : k ≡ length (take k es) = (let t : length (take k es) ≡ k = length-take-le k es (omega arith) in sym t) in
     b ∙ ap (λ xs. xs ++ record { origin = Axiom k; weight = n; condition = Waiting } ∷ []) a ∙ sym (axioms_more (take k es) e n k z w) ∙ ap (λ x. axiom_pairs 0 (take k es ++ x ∷ [])) at ∙ ap (axiom_pairs 0) (sym (take_more es k e l))

@@ -18,13 +18,16 @@ pub mod BuriedRows
 pub mod RisingNumbers
 pub mod NewPairs
 pub mod Visits
+pub mod Prefixes
+pub mod VisitEnds
+pub mod Taking
 pub mod Rules
 pub mod Ends
 pub mod Jobs
 pub mod Steady
 pub mod Standing
 pub mod Giving
-pub mod Taking
+pub mod Finishing
 pub mod Waiting
 pub mod Reclaiming
 pub mod Publishing

@@ -12,7 +12,7 @@ use Rattle.uc_book.proofs.Booked.{at_ticket}
 use Rattle.uc_book.proofs.PutBack.{one_at}
 use Rattle.uc_book.proofs.Standing.{can_accept, late_fit}
 use Rattle.uc_book.proofs.Fitting.{room_ended}
-use Rattle.uc_book.proofs.Taking.{late, same_place_job}
+use Rattle.uc_book.proofs.Finishing.{late, same_place_job}
 use Rattle.uc_book.proofs.parts.Parts.commit.Goals as goal
 
 pub place_of_task-requires : goal.place_of_task-requires

@@ -8,7 +8,7 @@ use Rattle.uc_book.specs.RowViews.{PairsView}
 use Rattle.uc_book.specs.TaskRows.{out_of}
 use Rattle.uc_book.specs.Parts.{state_of}
 use Rattle.uc_book.proofs.Standing.{row_out}
-use Rattle.uc_book.proofs.Taking.{pair_out}
+use Rattle.uc_book.proofs.Finishing.{pair_out}
 use Rattle.uc_book.proofs.parts.Parts.end_pair.Goals as goal
 
 pub finish-requires : goal.finish-requires

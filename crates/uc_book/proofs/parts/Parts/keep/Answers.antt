@@ -17,7 +17,7 @@ use Rattle.uc_book.specs.TaskRows.{StandsAt}
 use Rattle.uc_book.specs.Parts.{state_of, IsSubjectOut}
 use Rattle.uc_book.proofs.Steady.{steady_fit, steady_room}
 use Rattle.uc_book.proofs.Standing.{can_accept, kept_fit, room_kept, steady_end, steady_stands, stands_before}
-use Rattle.uc_book.proofs.Taking.{pair_kept}
+use Rattle.uc_book.proofs.Finishing.{pair_kept}
 use Rattle.uc_book.proofs.parts.Parts.keep.Goals as goal
 
 pub returns-in_err-front-clause-err : goal.returns-in_err-front-clause-err

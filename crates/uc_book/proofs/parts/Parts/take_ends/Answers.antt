@@ -14,7 +14,7 @@ use Rattle.uc_book.specs.Openings.{opening_of}
 use Rattle.uc_book.specs.Committing.{IsFor, HasEnds, IsGoalJob, commit_word, stage_by}
 use Rattle.uc_book.specs.Parts.{state_of, closings, Fit}
 use Rattle.uc_book.proofs.Standing.{can_accept, room_for_two, room_after, proved_fit, rested_fit}
-use Rattle.uc_book.proofs.Taking.{ends_taken, has_goal, few_steps, goal_out, no_draw_of_goal}
+use Rattle.uc_book.proofs.Finishing.{ends_taken, has_goal, few_steps, goal_out, no_draw_of_goal}
 use Rattle.uc_book.proofs.parts.Parts.take_ends.Goals as goal
 
 pub goal_of-goal-requires : goal.goal_of-goal-requires
