@@ -64,18 +64,22 @@ fn sums(alloc: Global, sizes: &[(u32, u32)]) -> Result<Vec<u32>, AllocError> {
     Ok(list)
 }
 
+fn often_small(chance: &mut Generator) -> u32 {
+    if chance.below(4) == 0 {
+        chance.below(8)
+    } else {
+        chance.below(60).saturating_add(6)
+    }
+}
+
 /// A run of so many calls.
 pub fn run<R: Wait>(rt: &R, alloc: Global, seed: u32, calls: u32) -> Result<(), Trouble> {
     let mut chance = Generator::from(seed);
     let (axiom_count, goal_count) = (chance.below(7), chance.below(4));
     let axioms = chance.sizes(alloc, axiom_count)?;
     let goals = chance.sizes(alloc, goal_count)?;
-    let budget = chance.below(60);
-    let limit = if chance.below(8) == 0 {
-        chance.below(8)
-    } else {
-        chance.below(60).saturating_add(6)
-    };
+    let budget = often_small(&mut chance);
+    let limit = often_small(&mut chance);
     let problem = problem_of(alloc, &axioms, &goals)?;
     let shelf = Shelf::new(alloc)?;
     let weights = sums(alloc, &axioms)?;
@@ -121,13 +125,7 @@ impl<'a> Trial<'a> {
             0..=13 => self.draw(),
             14..=25 => self.commit(rt),
             26..=28 => self.reclaim(),
-            29 => {
-                if self.chance.below(6) == 0 {
-                    self.recall()
-                } else {
-                    self.draw()
-                }
-            }
+            29 => self.pause(rt),
             30 => self.audit(rt),
             _ => self.close(),
         }
@@ -305,6 +303,20 @@ impl<'a> Trial<'a> {
         Ok(())
     }
 
+    // seldom all tasks are put back, and then what needs that none is out is called
+    fn pause<R: Wait>(&mut self, rt: &R) -> Result<(), Trouble> {
+        if self.chance.below(3) > 0 {
+            return self.draw();
+        }
+        self.recall()?;
+        for _ in 0..self.chance.below(4) {
+            self.agree()?;
+            self.audit(rt)?;
+        }
+        self.agree()?;
+        self.close()
+    }
+
     // where no task is out
     fn audit<R: Wait>(&mut self, rt: &R) -> Result<(), Trouble> {
         if !self.parts.tasks.is_empty() {
@@ -340,7 +352,7 @@ impl<'a> Trial<'a> {
         if !self.parts.tasks.is_empty() || self.parts.verdict.is_some() {
             return self.draw();
         }
-        if self.chance.below(3) > 0 {
+        if self.chance.below(8) > 0 {
             return self.draw();
         }
         let verdict = self.chance.verdict();
