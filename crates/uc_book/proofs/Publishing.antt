@@ -46,7 +46,9 @@ audited_fit shelf p q f n fit e of next tasks =
 
 -- one event more, and one unit counted
 pub keeps_state : (s : State) (r : Parts) (f : Fact) (n : ℕ) (es : Vec Event Global) → state_of r ≡ publishes f s → es.items ≡ r.history.items ++ record { worker = 0; what = AuditKept n } ∷ [] → (let q : Parts = record r { counted = r.counted + 1; history = es } in state_of q ≡ keeps f (AuditKept n) s)
-keeps_state s r f n es a b = cc
+keeps_state s r f n es a b =
+    ap (λ h. (let v : State = record (state_of r) { counted = r.counted + 1; history = h } in v)) b
+    ∙ ap (λ (x : State). (let v : State = record x { counted = x.counted + 1; history = x.history ++ record { worker = 0; what = AuditKept n } ∷ [] } in v)) a
 
 -- the answer of an audit where the budget is spent
 pub spent_audit : (o : Opening) (f : Fact) (s u : State) (v : Verdict) → s.verdict ≡ None → s.counted ≡ o.budget → v ≡ BudgetOut s.counted → u ≡ closes 0 (BudgetOut s.counted) s → Audits o f s (ClosedBy v) u

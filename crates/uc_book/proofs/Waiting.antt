@@ -1,6 +1,6 @@
 -- What waits, and the draws that give no task.
 use Rattle.std.proofs.Common.{◌≡◌, ℕ, ◌+◌, ◌<◌, ◌≤◌, ◌==◌, List, [], ◌∷◌, length, map, Bool, true, false, Option, Some, None, refl, ap, sym, ◌∙◌, arith, subst}
-use Rattle.std.specs.Prelude.{MatchOption, is_some, ◌≢◌}
+use Rattle.std.specs.Prelude.{MatchOption, is_some, not, ◌↔◌, ◌≢◌}
 use Rattle.std.proofs.lemmas.Bool.{false≢true, eqb-true, eqb-false}
 use Rattle.std.proofs.lemmas.List.{length-map}
 use Rattle.uc_fact.specs.declared.fact.Origin.{Origin}
@@ -61,3 +61,8 @@ module _ (o : Opening) (w : ℕ) (p : Parts) (late : IsLate (state_of p)) where
 
   pub nothing_drained : NothingWaits (state_of p) → length p.tasks.items ≡ 0 → Draws o w (state_of p) Drained (state_of p)
   nothing_drained waits none = all_is_done late waits (none_out p.tasks.items none)
+
+-- some task is out, as the test of the list says it
+pub has_some : (ts : List TaskRow) (b : Bool) → b ≡ (length ts == 0) → (not b ≡ true) ↔ (0 < length (map out_of ts))
+has_some [] b e = (λ h. absurd (false≢true (ap not (sym e) ∙ h)), λ l. absurd (omega (arith, l)))
+has_some (t ∷ ts) b e = (λ h. omega arith, λ l. ap not e)

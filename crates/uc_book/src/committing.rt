@@ -8,6 +8,7 @@ ghost use Rattle.uc_shelf.specs.declared.entry.Entry.TheVariants.{Born};
 ghost use Rattle.uc_machine.specs.declared.event.Verdict.TheVariants.{Proved};
 ghost use Rattle.uc_machine.specs.declared.event.GoalEnd.TheVariants.{Met as EndsMet};
 ghost use Rattle.uc_machine.specs.declared.task.Finding.TheVariants.{Kept};
+ghost use Rattle.uc_machine.specs.declared.task.Job.TheVariants.{Meet};
 ghost use Rattle.uc_machine.specs.State.{Opening, Out};
 ghost use Rattle.uc_machine.specs.Effects.{accepts, closes, stages, turns, publishes};
 ghost use Rattle.uc_machine.specs.Commits.{Commits, IsOutTo, end_word};
@@ -17,7 +18,7 @@ ghost use Rattle.uc_book.specs.FactRows.{HasOneMore};
 ghost use Rattle.uc_book.specs.TaskRows.{StandsAt};
 ghost use Rattle.uc_book.specs.Parts.{state_of, closings, Fit, HasRoom, IsSubjectOut, IsSteady, SameSubjects, SameCounts};
 ghost use Rattle.uc_book.specs.Ending.{CanEnd, AnyAt, CanAccept, HasEnded};
-ghost use Rattle.uc_book.specs.Committing.{stage_by, commit_word, HasGoal, IsGoalJob, IsPairJob, IsFor, HasEnds, HasNoEnds};
+ghost use Rattle.uc_book.specs.Committing.{stage_by, commit_word, HasGoal, IsGoalJob, IsPairJob, IsFor, IsForPair, HasEnds, HasNoEnds};
 
 use crate::answer::{CommitFault, Receipt};
 use crate::chains::end_of;
@@ -201,28 +202,78 @@ impl Parts {
         ensures fit { Fit opening.now.shelf self.new }
         ensures room { HasRoom self.new }
     {
-        match (job, found) {
-            (Job::Join { pair, .. }, Finding::Joined(_)) => {
-                self.end_pair(at, *pair, Happening::CommitJoined { pair: *pair });
+        match job {
+            Job::Join { pair, .. } => self.take_pair(rt, alloc, shelf, at, *pair, found),
+            Job::Meet(fact) => self.take_meeting(rt, alloc, shelf, opening, at, *fact, found),
+            Job::Goal { .. } | Job::More { .. } => unreachable!(),
+        }
+    }
+
+    /// Takes in what was found for a pair, where no verdict stands.
+    fn take_pair<R: Wait>(
+        &mut self,
+        rt: &R,
+        alloc: Global,
+        shelf: &Shelf,
+        at: usize,
+        pair: u64,
+        found: &Finding,
+    ) -> Result<(), AllocError>
+        requires can { (o : Opening) × CanEnd shelf.now o self.old }
+        requires open { self.old.verdict ≡ None }
+        requires found { IsForPair found.now }
+        requires at { AnyAt self.old at }
+        requires job { (t : Out) → StandsAt self.old.tasks.items at t → IsPairJob t.job pair }
+        ensures ok { OnOk result ((o : Opening) (t : Out) → StandsAt self.old.tasks.items at t → Commits o t found.now (state_of self.old) (state_of self.new)) }
+        ensures err { OnErr result ((state_of self.new ≡ state_of self.old) × (self.new.facts.front ≡ self.old.facts.front)) }
+        ensures fit { Fit shelf.now self.new }
+        ensures room { HasRoom self.new }
+    {
+        match found {
+            Finding::Joined(_) => {
+                self.end_pair(at, pair, Happening::CommitJoined { pair });
                 Ok(())
             }
-            (Job::Join { pair, .. }, Finding::Kept(fact)) => {
-                self.keep(rt, alloc, shelf, at, *pair, fact)
-            }
-            (Job::Meet(fact), Finding::Stale(killer)) => {
-                self.bury(rt, alloc, shelf, opening, at, *fact, *killer)
-            }
-            (Job::Meet(fact), Finding::Met { kills, overlaps }) => self.meet(
+            Finding::Kept(fact) => self.keep(rt, alloc, shelf, at, pair, fact),
+            Finding::Ends { .. } | Finding::Stale(_) | Finding::Met { .. } => unreachable!(),
+        }
+    }
+
+    /// Takes in what was found for a fact that was to meet the others, where no verdict stands.
+    fn take_meeting<R: Wait>(
+        &mut self,
+        rt: &R,
+        alloc: Global,
+        shelf: &Shelf,
+        opening: &Opened,
+        at: usize,
+        fact: u32,
+        found: &Finding,
+    ) -> Result<(), AllocError>
+        requires shelf { shelf.now ≡ opening.now.shelf }
+        requires can { CanEnd opening.now.shelf (opening_of opening.now) self.old }
+        requires open { self.old.verdict ≡ None }
+        requires found { IsFor (Meet fact) found.now }
+        requires at { AnyAt self.old at }
+        requires job { (t : Out) → StandsAt self.old.tasks.items at t → t.job ≡ Meet fact }
+        ensures ok { OnOk result ((t : Out) → StandsAt self.old.tasks.items at t → Commits (opening_of opening.now) t found.now (state_of self.old) (state_of self.new)) }
+        ensures err { OnErr result ((state_of self.new ≡ state_of self.old) × (self.new.facts.front ≡ self.old.facts.front)) }
+        ensures fit { Fit opening.now.shelf self.new }
+        ensures room { HasRoom self.new }
+    {
+        match found {
+            Finding::Stale(killer) => self.bury(rt, alloc, shelf, opening, at, fact, *killer),
+            Finding::Met { kills, overlaps } => self.meet(
                 rt,
                 alloc,
                 shelf,
                 opening,
                 at,
-                *fact,
+                fact,
                 kills.as_slice(),
                 overlaps.as_slice(),
             ),
-            _ => unreachable!(),
+            Finding::Ends { .. } | Finding::Joined(_) | Finding::Kept(_) => unreachable!(),
         }
     }
 
