@@ -95,7 +95,6 @@ no_draw_of_goal (More h a b) g n end = refl
 no_draw_of_goal (Meet i) g n end = refl
 no_draw_of_goal (Join p a) g n end = refl
 
-
 -- the commit of a task that came after the verdict
 pub late : (o : Opening) (t : Out) (n : ℕ) (f : Finding) (s u : State) → is_some s.verdict ≡ true → t.ticket ≡ n → u ≡ accepts t (CommitLate n) s → Commits o t f s u
 late o t n f s u b e is = by_verdict s.verdict refl b

@@ -3,7 +3,6 @@ use Rattle.std.proofs.Common.{◌≡◌, ℕ, ◌+◌, ◌<◌, ◌≤◌, ◌^�
 use Rattle.std.specs.Prelude.{Result, Ok, Err, IfOk, MatchOption, nat_lt, Vec, vec_len, vec_capacity}
 use Rattle.std.proofs.lemmas.Bool.{lt-ltb, ltb-true}
 use Rattle.std.specs.declared.alloc.Global.{Global}
-
 use Rattle.boxcar.specs.Table.{Shelves}
 use Rattle.uc_term.specs.Tree.{Tree}
 use Rattle.uc_shelf.specs.Fronts.{IsOf}

@@ -92,9 +92,7 @@ fn is_task_of(shelf: &Shelf, row: &TaskRow, worker: u32, done: &Done) -> bool
     requires done { IsOf shelf.now done.now.front }
     ensures { IsTrue result ↔ ((row.now.worker ≡ worker) × (row.now.job ≡ done.now.job) × (row.now.front.entries ≡ done.now.front.entries)) }
 {
-    row.worker == worker
-        && same_job(&row.job, &done.job)
-        && shelf.same(&row.front, &done.front)
+    row.worker == worker && same_job(&row.job, &done.job) && shelf.same(&row.front, &done.front)
 }
 
 impl Parts {

@@ -282,12 +282,7 @@ impl Parts {
     }
 
     /// The pair at the queue's head, where one waits.
-    fn draw_pair(
-        &mut self,
-        worker: u32,
-        opening: Opened,
-        fronts: (Front, Front),
-    ) -> Drawn
+    fn draw_pair(&mut self, worker: u32, opening: Opened, fronts: (Front, Front)) -> Drawn
         requires late { IsLate (state_of self.old) }
         requires can { CanGive opening.shelf (opening_of opening) self.old }
         requires front { fronts.0 ≡ self.old.facts.front }

@@ -21,7 +21,7 @@ invariant_of-self c =
     record {
       as_many = ap length states ∙ length_push i.states.states c.args.state ∙ ap (λ k. k + 1) c.self.invariant.as_many ∙ sym (ap length rows ∙ length_push i.rows.items row);
       queue = queue_more i.rows.items i.states.states row c.args.state c.len.result i.queue.waiting c.wait_if.new.queue.waiting c.self.invariant.as_many n c.self.invariant.queue c.wait_if.ensures.waiting
-      ∙ ap (λ rs. queue_from 0 (pairs_of rs (i.states.states ++ c.args.state ∷ []))) (sym rows) ∙ ap (λ cs. queue_from 0 (pairs_of c.push_reserved.new.self.items cs)) (sym states);
+          ∙ ap (λ rs. queue_from 0 (pairs_of rs (i.states.states ++ c.args.state ∷ []))) (sym rows) ∙ ap (λ cs. queue_from 0 (pairs_of c.push_reserved.new.self.items cs)) (sym states);
     }
 
 pub returns-clause-pairs : goal.returns-clause-pairs

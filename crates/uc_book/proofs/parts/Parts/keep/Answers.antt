@@ -45,7 +45,7 @@ pub publish-requires-clause-grew : goal.publish-requires-clause-grew
 publish-requires-clause-grew g c = record {
   fact = c.args.fact.now;
   is = c.in_ok-front.ensures.entries ∙ ap (λ (a : Fact). c.args.self.now.facts.front.entries ++ Born a ∷ []) c.in_ok-copy.ensures
-  ∙ ap (λ (x : Sight). x.entries ++ Born c.args.fact.now ∷ []) (sym (ap (λ (f : FactsView). f.front) c.end_pair.ensures.front ∙ c.with_birth.ensures.steady.front));
+      ∙ ap (λ (x : Sight). x.entries ++ Born c.args.fact.now ∷ []) (sym (ap (λ (f : FactsView). f.front) c.end_pair.ensures.front ∙ c.with_birth.ensures.steady.front));
   weight_is = search (rules, c.nodes.ensures, c.nodes-2.ensures);
 }
 

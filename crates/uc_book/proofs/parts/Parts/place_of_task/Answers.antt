@@ -30,13 +30,16 @@ returns-then-is_task_of-clause-some c =
     let row = c.index.result.now in
     let same : out_of row ≡ t = row_out p.tasks.items c.in_ok-at.at t row found.2 c.index.ensures in
     let is = c.is_task_of.ensures.0 c.if-is_task_of.true in
-    let front = each_row (HasFront c.args.shelf.now p.facts.front.entries) p.tasks.items c.in_ok-at.at row found.2.inside c.index.ensures c.requires.fit.fronts in
-    (t, found.2, record {
-      at = ap (λ n. out_at n (map out_of p.tasks.items)) (sym found.1) ∙ found.2.found;
-      worker = ap (λ (u : Out). u.worker) (sym same) ∙ is.0;
-      job_is = ap (λ (u : Out). u.job) (sym same) ∙ is.1;
-      front_is = ap (λ (u : Out). take u.front p.facts.front.entries) (sym same) ∙ sym front.is ∙ is.2;
-    })
+    let front = each_row (HasFront c.args.shelf.now p.facts.front.entries) p.tasks.items c.in_ok-at.at row found.2.inside c.index.ensures c.requires.fit.fronts in (
+      t,
+      found.2,
+      record {
+        at = ap (λ n. out_at n (map out_of p.tasks.items)) (sym found.1) ∙ found.2.found;
+        worker = ap (λ (u : Out). u.worker) (sym same) ∙ is.0;
+        job_is = ap (λ (u : Out). u.job) (sym same) ∙ is.1;
+        front_is = ap (λ (u : Out). take u.front p.facts.front.entries) (sym same) ∙ sym front.is ∙ is.2;
+      },
+    )
 
 pub returns-else-is_task_of-clause-none : goal.returns-else-is_task_of-clause-none
 returns-else-is_task_of-clause-none c =
