@@ -1,4 +1,4 @@
-ghost use Rattle.std.specs.Prelude.{IsTrue};
+ghost use Rattle.std.specs.Prelude.{◌<◌, ◌^◌, length, IsTrue, IfOk};
 ghost use Rattle.uc_term.specs.Table.{Has};
 ghost use Rattle.uc_order.specs.Members.{Each};
 ghost use Rattle.uc_kbo.specs.Faults.{HasConstant};
@@ -92,9 +92,12 @@ fn equations(alloc: Global, towers: &[(Sym, u32)]) -> Result<Seq<Equation>, Fail
     Ok(list)
 }
 
-// The problem of these axioms and goals.
-fn problem(alloc: Global, axioms: &[(Sym, u32)], goals: &[(Sym, u32)]) -> Result<Encoded, Fail> {
-    Ok(Encoded {
+// The problem of these axioms and goals, of which there are few.
+fn problem(alloc: Global, axioms: &[(Sym, u32)], goals: &[(Sym, u32)]) -> Result<Encoded, Fail>
+    ensures axioms { IfOk result (λ p. length p.axioms < 2 ^ 31) }
+    ensures goals { IfOk result (λ p. length p.goals < 2 ^ 31) }
+{
+    let problem = Encoded {
         axioms: equations(alloc, axioms)?,
         sources: Seq::new(alloc),
         goals: equations(alloc, goals)?,
@@ -105,7 +108,11 @@ fn problem(alloc: Global, axioms: &[(Sym, u32)], goals: &[(Sym, u32)]) -> Result
             least: A,
             least_is_fresh: false,
         },
-    })
+    };
+    if problem.axioms.len() >= 100 || problem.goals.len() >= 100 {
+        return Err(Fail::from("too many"));
+    }
+    Ok(problem)
 }
 
 // A chain without a step.
@@ -326,6 +333,19 @@ fn runs_beside_the_machine(rt: HostRuntime) -> Result<(), Fail> {
     let alloc = rt.alloc();
     for seed in 1..=40 {
         if let Err(trouble) = run(&rt, alloc, seed, 200) {
+            return Err(Fail::new(format_args!("seed {seed}: {trouble:?}")));
+        }
+    }
+    Ok(())
+}
+
+// Shorter runs, to be made with each allocation failing in turn: a call that finds no memory changes nothing, and is made
+// again.
+#[test]
+fn a_refused_call_changes_nothing(rt: HostRuntime) -> Result<(), Fail> {
+    let alloc = rt.alloc();
+    for seed in 51..=53 {
+        if let Err(trouble) = run(&rt, alloc, seed, 60) {
             return Err(Fail::new(format_args!("seed {seed}: {trouble:?}")));
         }
     }
