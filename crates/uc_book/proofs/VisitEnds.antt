@@ -23,6 +23,7 @@ use Rattle.uc_machine.proofs.Lists.{length-change}
 use Rattle.uc_book.specs.declared.parts.Parts.{Parts}
 use Rattle.uc_book.specs.declared.tasks.TaskRow.{TaskRow}
 use Rattle.uc_book.specs.TaskRows.{is_join, unit_if_join, StandsAt}
+use Rattle.uc_book.specs.RowViews.{PairsView}
 use Rattle.uc_book.specs.Parts.{state_of, closings, Fit, HasRoom, IsSubjectOut}
 use Rattle.uc_book.specs.Ending.{CanEnd, HasEnded}
 use Rattle.uc_book.specs.Committing.{AreRising, AreBelow}
@@ -32,6 +33,8 @@ use Rattle.uc_book.proofs.Items.{length-remove}
 use Rattle.uc_book.proofs.Fitting.{joins, fit_ended}
 use Rattle.uc_book.proofs.PutBack.{joins_left}
 use Rattle.uc_book.proofs.Standing.{accepted_fit}
+use Rattle.uc_book.proofs.Steady.{IsSteady}
+use Rattle.uc_book.proofs.Taking.{reserved_state}
 use Rattle.uc_book.proofs.RisingNumbers.{filter_rises, filter_below, below_more}
 use Rattle.uc_book.proofs.NewPairs.{waiting_more, deaths_more}
 use Rattle.uc_book.proofs.Visits.{stale, dead_met, met}
@@ -47,6 +50,10 @@ falls_rise es ks r = filter_rises (λ k. not (is_dead es k)) 0 ks r
 
 pub falls_below : (es : List Entry) (m n : ℕ) (ks : List ℕ) → m ≤ n → AreBelow m ks → AreBelow n (alive_of es ks)
 falls_below es m n ks l b = filter_below (λ k. not (is_dead es k)) n ks (below_more m n ks l b)
+
+-- there is room for more pairs
+pub reserved_steady : (p : Parts) (pairs : PairsView) → pairs.pairs ≡ p.pairs.pairs → pairs.draws ≡ p.pairs.draws → p.pairs.spare ≤ pairs.spare → (let q : Parts = record p { pairs = pairs } in IsSteady p q)
+reserved_steady p pairs a b s = record { state = reserved_state p pairs a b; front = refl; tasks = refl; next = refl; capacity = omega arith; spare = s }
 
 -- THE MEETING
 

@@ -11,9 +11,9 @@ use Rattle.uc_book.specs.Parts.{state_of}
 use Rattle.uc_book.specs.Ending.{HasEnded}
 use Rattle.uc_book.specs.Deaths.{deaths_by, all_dead, visited}
 use Rattle.uc_book.proofs.Standing.{can_accept, room_for_two}
-use Rattle.uc_book.proofs.Steady.{IsSteady, steady_fit, steady_room}
+use Rattle.uc_book.proofs.Steady.{steady_fit, steady_room}
 use Rattle.uc_book.proofs.Taking.{reserved_state}
-use Rattle.uc_book.proofs.VisitEnds.{keeps_visit, passes_limit, kept_fit, kept_room, passed_fit, passed_room}
+use Rattle.uc_book.proofs.VisitEnds.{reserved_steady, keeps_visit, passes_limit, kept_fit, kept_room, passed_fit, passed_room}
 use Rattle.uc_book.proofs.parts.Parts.visit.Goals as goal
 
 pub returns-in_err-waiting-clause-fit : goal.returns-in_err-waiting-clause-fit
@@ -56,15 +56,6 @@ returns-then-waiting-new-clause-room c =
     let e = c.pass_limit.ensures in
     passed_room p c.pass_limit.new.self c.args.at at.0 (PairsOut _ _) c.requires.can.1.room at.1 c.requires.open e.tasks (ap (λ (x : State). x.verdict) (e.state at.0 at.1)) e.spare e.history e.capacity
 
-pub with_deaths-requires : goal.with_deaths-requires
-with_deaths-requires c = subst (IsOf c.args.shelf.now) (sym c.front-front.ensures) c.requires.can.1.fit.front
-
-pub returns-in_err-front-clause-fit : goal.returns-in_err-front-clause-fit
-returns-in_err-front-clause-fit c = c.requires.can.1.fit
-
-pub returns-in_err-front-clause-room : goal.returns-in_err-front-clause-room
-returns-in_err-front-clause-room c = c.requires.can.1.room
-
 pub returns-in_err-count_of-clause-fit : goal.returns-in_err-count_of-clause-fit
 returns-in_err-count_of-clause-fit c = c.requires.can.1.fit
 
@@ -78,15 +69,31 @@ pub returns-in_err-reserve-clause-fit : goal.returns-in_err-reserve-clause-fit
 returns-in_err-reserve-clause-fit c =
     let p = c.args.self.now in
     let q : Parts = record p { pairs = c.reserve.new.self } in
-    let steady : IsSteady p q = record { state = reserved_state p c.reserve.new.self c.reserve.ensures.pairs c.reserve.ensures.draws; front = refl; tasks = refl; next = refl; capacity = omega arith; spare = c.reserve.ensures.kept } in
-    steady_fit c.args.shelf.now p q steady c.requires.can.1.fit
+    steady_fit c.args.shelf.now p q (reserved_steady p c.reserve.new.self c.reserve.ensures.pairs c.reserve.ensures.draws c.reserve.ensures.kept) c.requires.can.1.fit
 
 pub returns-in_err-reserve-clause-room : goal.returns-in_err-reserve-clause-room
 returns-in_err-reserve-clause-room c =
     let p = c.args.self.now in
     let q : Parts = record p { pairs = c.reserve.new.self } in
-    let steady : IsSteady p q = record { state = reserved_state p c.reserve.new.self c.reserve.ensures.pairs c.reserve.ensures.draws; front = refl; tasks = refl; next = refl; capacity = omega arith; spare = c.reserve.ensures.kept } in
-    steady_room p q steady c.requires.can.1.room
+    steady_room p q (reserved_steady p c.reserve.new.self c.reserve.ensures.pairs c.reserve.ensures.draws c.reserve.ensures.kept) c.requires.can.1.room
+
+pub with_deaths-requires : goal.with_deaths-requires
+with_deaths-requires c = subst (IsOf c.args.shelf.now) (sym c.front-front.ensures) c.requires.can.1.fit.front
+
+pub returns-in_err-front-clause-err : goal.returns-in_err-front-clause-err
+returns-in_err-front-clause-err c = (reserved_state c.args.self.now c.reserve.new.self c.reserve.ensures.pairs c.reserve.ensures.draws, refl)
+
+pub returns-in_err-front-clause-fit : goal.returns-in_err-front-clause-fit
+returns-in_err-front-clause-fit c =
+    let p = c.args.self.now in
+    let q : Parts = record p { pairs = c.reserve.new.self } in
+    steady_fit c.args.shelf.now p q (reserved_steady p c.reserve.new.self c.reserve.ensures.pairs c.reserve.ensures.draws c.reserve.ensures.kept) c.requires.can.1.fit
+
+pub returns-in_err-front-clause-room : goal.returns-in_err-front-clause-room
+returns-in_err-front-clause-room c =
+    let p = c.args.self.now in
+    let q : Parts = record p { pairs = c.reserve.new.self } in
+    steady_room p q (reserved_steady p c.reserve.new.self c.reserve.ensures.pairs c.reserve.ensures.draws c.reserve.ensures.kept) c.requires.can.1.room
 
 pub take_visit-requires-clause-at : goal.take_visit-requires-clause-at
 take_visit-requires-clause-at c = c.requires.at
