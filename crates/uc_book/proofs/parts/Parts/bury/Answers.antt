@@ -12,29 +12,29 @@ use Rattle.uc_book.proofs.VisitEnds.{meeting_born, falls_rise, falls_below, Ends
 use Rattle.uc_book.proofs.parts.Parts.bury.Goals as goal
 
 pub returns-in_err-falls-clause-fit : goal.returns-in_err-falls-clause-fit
-returns-in_err-falls-clause-fit c = c.requires.can.fit
+returns-in_err-falls-clause-fit g c = c.requires.can.fit
 
 pub returns-in_err-falls-clause-room : goal.returns-in_err-falls-clause-room
-returns-in_err-falls-clause-room c = c.requires.can.room
+returns-in_err-falls-clause-room g c = c.requires.can.room
 
 pub visit-requires-clause-can : goal.visit-requires-clause-can
-visit-requires-clause-can c = let o = opening_of c.args.opening.now in (o, subst (λ (s : Shelves). CanEnd s o c.args.self.now) (sym c.requires.shelf) c.requires.can)
+visit-requires-clause-can g c = let o = opening_of c.args.opening.now in (o, subst (λ (s : Shelves). CanEnd s o c.args.self.now) (sym c.requires.shelf) c.requires.can)
 
 pub visit-requires-clause-open : goal.visit-requires-clause-open
-visit-requires-clause-open c = c.requires.open
+visit-requires-clause-open g c = c.requires.open
 
 pub visit-requires-clause-at : goal.visit-requires-clause-at
-visit-requires-clause-at c = c.requires.at
+visit-requires-clause-at g c = c.requires.at
 
 pub visit-requires-clause-rising : goal.visit-requires-clause-rising
-visit-requires-clause-rising c =
+visit-requires-clause-rising g c =
     let es = c.args.self.now.facts.front.entries in
     let e : c.as_slice.result.now ≡ alive_of es (c.args.fact ∷ []) = c.as_slice.ensures.value ∙ c.in_ok-falls.ensures in
     let rise : AreRising 0 (c.args.fact ∷ []) = (omega arith, tt) in
     subst (AreRising 0) (sym e) (falls_rise es (c.args.fact ∷ []) rise)
 
 pub visit-requires-clause-born : goal.visit-requires-clause-born
-visit-requires-clause-born c =
+visit-requires-clause-born g c =
     let es = c.args.self.now.facts.front.entries in
     let n = length (born es) in
     let at = c.requires.at in
@@ -43,7 +43,7 @@ visit-requires-clause-born c =
     subst (AreBelow n) (sym e) (falls_below es n n (c.args.fact ∷ []) (omega arith) below)
 
 pub returns-clause-ok : goal.returns-clause-ok
-returns-clause-ok c =
+returns-clause-ok g c =
     let s = state_of c.args.self.now in
     let u = state_of c.visit.new.self in
     let o = opening_of c.args.opening.now in
@@ -54,10 +54,10 @@ returns-clause-ok c =
     (stale_at o c.limit.result tasks c.args.at c.args.fact c.args.killer js s u (sym c.limit.ensures) c.requires.open c.requires.job e) c.visit.ensures.ok
 
 pub returns-clause-err : goal.returns-clause-err
-returns-clause-err c = c.visit.ensures.err
+returns-clause-err g c = c.visit.ensures.err
 
 pub returns-clause-fit : goal.returns-clause-fit
-returns-clause-fit c = subst (λ (s : Shelves). Fit s c.visit.new.self) c.requires.shelf c.visit.ensures.fit
+returns-clause-fit g c = subst (λ (s : Shelves). Fit s c.visit.new.self) c.requires.shelf c.visit.ensures.fit
 
 pub returns-clause-room : goal.returns-clause-room
-returns-clause-room c = c.visit.ensures.room
+returns-clause-room g c = c.visit.ensures.room
