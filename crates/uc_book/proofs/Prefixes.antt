@@ -1,7 +1,8 @@
 -- What a loop has made of a list, one item further.
-use Rattle.std.proofs.Common.{◌≡◌, ℕ, ◌+◌, ◌<◌, List, [], ◌∷◌, ◌++◌, length, get_or, take, map, true, false, refl, ap, ◌∙◌}
-use Rattle.std.specs.Prelude.{filter, not}
+use Rattle.std.proofs.Common.{◌≡◌, ℕ, ◌+◌, ◌<◌, List, [], ◌∷◌, ◌++◌, length, get_or, take, map, Bool, true, false, cond, refl, ap, ◌∙◌}
+use Rattle.std.specs.Prelude.{filter, not, count_by}
 use Rattle.std.proofs.lemmas.List.{take_more, map_push, append-nil}
+use Rattle.std.proofs.lemmas.List.Sums.{sum_by_push}
 use Rattle.std.proofs.lemmas.List.Elements.{filter-append}
 use Rattle.uc_shelf.specs.declared.entry.Entry.{Entry}
 use Rattle.uc_shelf.specs.Entries.{is_dead}
@@ -22,3 +23,6 @@ pub alive_same : (es : List Entry) (ks : List ℕ) (i : ℕ) → i < length ks �
 alive_same es ks i l e =
     let none : alive_of es (get_or ks i 0 ∷ []) ≡ [] = rw e refl in
     one_more es ks i l ∙ ap (λ z. alive_of es (take i ks) ++ z) none ∙ append-nil (alive_of es (take i ks))
+
+pub count_more : {A : Type 0} (p : A → Bool) (xs : List A) (i : ℕ) (d : A) → i < length xs → count_by p (take (i + 1) xs) ≡ count_by p (take i xs) + cond (p (get_or xs i d)) 1 0
+count_more p xs i d l = ap (count_by p) (take_more xs i d l) ∙ sum_by_push (λ x. cond (p x) 1 0) (take i xs) (get_or xs i d)

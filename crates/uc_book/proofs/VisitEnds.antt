@@ -14,13 +14,16 @@ use Rattle.uc_machine.specs.declared.event.Happening.TheVariants.{CommitMeet, Cl
 use Rattle.uc_machine.specs.declared.event.Verdict.{Verdict}
 use Rattle.uc_machine.specs.declared.event.Verdict.TheVariants.{PairsOut}
 use Rattle.uc_machine.specs.declared.task.Job.TheVariants.{Meet}
+use Rattle.uc_machine.specs.declared.task.Finding.{Finding}
+use Rattle.uc_machine.specs.declared.task.Finding.TheVariants.{Stale, Met}
 use Rattle.uc_machine.specs.State.{Opening, State, Out, waiting, draws_in}
 use Rattle.uc_machine.specs.Effects.{accepts, is_met, closes, ending_of, one_commit}
-use Rattle.uc_machine.specs.Commits.{Meets, within_limit, past_limit, newly_waiting}
+use Rattle.uc_machine.specs.Commits.{Commits, Meets, within_limit, past_limit, newly_waiting}
 use Rattle.uc_machine.proofs.Lists.{length-change}
 use Rattle.uc_book.specs.declared.parts.Parts.{Parts}
 use Rattle.uc_book.specs.declared.tasks.TaskRow.{TaskRow}
 use Rattle.uc_book.specs.TaskRows.{is_join, unit_if_join, StandsAt}
+use Rattle.uc_book.specs.RowViews.{PairsView}
 use Rattle.uc_book.specs.Parts.{state_of, closings, Fit, HasRoom, IsSubjectOut}
 use Rattle.uc_book.specs.Ending.{CanEnd, HasEnded}
 use Rattle.uc_book.specs.Committing.{AreRising, AreBelow}
@@ -30,8 +33,11 @@ use Rattle.uc_book.proofs.Items.{length-remove}
 use Rattle.uc_book.proofs.Fitting.{joins, fit_ended}
 use Rattle.uc_book.proofs.PutBack.{joins_left}
 use Rattle.uc_book.proofs.Standing.{accepted_fit}
+use Rattle.uc_book.proofs.Steady.{IsSteady}
+use Rattle.uc_book.proofs.Taking.{reserved_state}
 use Rattle.uc_book.proofs.RisingNumbers.{filter_rises, filter_below, below_more}
 use Rattle.uc_book.proofs.NewPairs.{waiting_more, deaths_more}
+use Rattle.uc_book.proofs.Visits.{stale, dead_met, met}
 
 -- WHAT A VISIT NEEDS
 
@@ -45,13 +51,17 @@ falls_rise es ks r = filter_rises (λ k. not (is_dead es k)) 0 ks r
 pub falls_below : (es : List Entry) (m n : ℕ) (ks : List ℕ) → m ≤ n → AreBelow m ks → AreBelow n (alive_of es ks)
 falls_below es m n ks l b = filter_below (λ k. not (is_dead es k)) n ks (below_more m n ks l b)
 
+-- there is room for more pairs
+pub reserved_steady : (p : Parts) (pairs : PairsView) → pairs.pairs ≡ p.pairs.pairs → pairs.draws ≡ p.pairs.draws → p.pairs.spare ≤ pairs.spare → (let q : Parts = record p { pairs = pairs } in IsSteady p q)
+reserved_steady p pairs a b s = record { state = reserved_state p pairs a b; front = refl; tasks = refl; next = refl; capacity = omega arith; spare = s }
+
 -- THE MEETING
 
-pub keeps_visit : (o : Opening) (t : Out) (i killer : ℕ) (js : List ℕ) (fs : List Formed) (s u : State) (n : ℕ) → n ≡ newly_waiting fs (all_dead killer js s) → waiting s + (length js + n) ≤ o.limit
+pub keeps_visit : (o : Opening) (t : Out) (i killer : ℕ) (js : List ℕ) (fs : List Formed) (s u : State) (n waits : ℕ) → n ≡ newly_waiting fs (all_dead killer js s) → waits ≡ waiting s → waits + (length js + n) ≤ o.limit
     → u ≡ visited killer js fs (is_met i (accepts t (CommitMeet i n (length js)) s)) → Meets o t i (newly_waiting fs (all_dead killer js s)) (visited killer js fs) s u
-keeps_visit o t i killer js fs s u n e l is =
+keeps_visit o t i killer js fs s u n waits e f l is =
     let w : waiting (visited killer js fs s) ≡ waiting s + (length js + newly_waiting fs (all_dead killer js s)) = waiting_more killer js fs s in
-    let few : waiting (visited killer js fs s) ≤ o.limit = omega (arith, w, e, l) in
+    let few : waiting (visited killer js fs s) ≤ o.limit = omega (arith, w, e, f, l) in
     subst (Meets o t i (newly_waiting fs (all_dead killer js s)) (visited killer js fs) s)
     (sym (is ∙ ap (λ m. visited killer js fs (is_met i (accepts t (CommitMeet i m (length js)) s))) e))
     (within_limit (length js) few (deaths_more killer js fs s))
@@ -103,3 +113,27 @@ passed_room p q at t v room s open_ tasks verdict spare history capacity =
     let w : joins p.tasks.items ≤ p.pairs.spare = room.waiting in
     let e : vec_len p.history + (0 + (length p.tasks.items + closings p.verdict)) ≤ vec_capacity p.history = room.events in
     record { events = omega arith; waiting = omega arith }
+
+-- THE COMMIT
+
+-- what the end of a visit at a place says
+abbrev pub EndsAs : ℕ → ℕ → ℕ → List ℕ → List Formed → List TaskRow → ℕ → State → State → Type 0
+EndsAs limit i killer js fs tasks at s u = (o : Opening) (t : Out) → o.limit ≡ limit → StandsAt tasks at t → Meets o t i (newly_waiting fs (all_dead killer js s)) (visited killer js fs) s u
+
+-- the result of the task at a place is committed
+abbrev pub CommitsAt : Opening → List TaskRow → ℕ → Finding → State → State → Type 0
+CommitsAt o tasks at f s u = (t : Out) → StandsAt tasks at t → Commits o t f s u
+
+abbrev pub MeetsAt : List TaskRow → ℕ → ℕ → Type 0
+MeetsAt tasks at i = (t : Out) → StandsAt tasks at t → t.job ≡ Meet i
+
+pub stale_at : (o : Opening) (limit : ℕ) (tasks : List TaskRow) (at i killer : ℕ) (js : List ℕ) (s u : State) → o.limit ≡ limit → s.verdict ≡ None → MeetsAt tasks at i → js ≡ alive_of s.entries (i ∷ []) → EndsAs limit i killer js [] tasks at s u → CommitsAt o tasks at (Stale killer) s u
+stale_at o limit tasks at i killer js s u l open_ job e h t a =
+    stale o t i killer s u open_ (job t a) (subst (λ (ks : List ℕ). Meets o t i (newly_waiting [] (all_dead killer ks s)) (visited killer ks []) s u) e (h o t l a))
+
+pub dead_at : (o : Opening) (limit : ℕ) (tasks : List TaskRow) (at i : ℕ) (ks : List ℕ) (fs : List Formed) (s u : State) → o.limit ≡ limit → s.verdict ≡ None → MeetsAt tasks at i → is_dead s.entries i ≡ true → EndsAs limit i i [] [] tasks at s u → CommitsAt o tasks at (Met ks fs) s u
+dead_at o limit tasks at i ks fs s u l open_ job dead h t a = dead_met o t i ks fs s u open_ (job t a) dead (h o t l a)
+
+pub met_at : (o : Opening) (limit : ℕ) (tasks : List TaskRow) (at i : ℕ) (ks js : List ℕ) (fs : List Formed) (s u : State) → o.limit ≡ limit → s.verdict ≡ None → MeetsAt tasks at i → is_dead s.entries i ≡ false → AreRising 0 ks → js ≡ alive_of s.entries ks → EndsAs limit i i js fs tasks at s u → CommitsAt o tasks at (Met ks fs) s u
+met_at o limit tasks at i ks js fs s u l open_ job alive rising e h t a =
+    met o t i ks fs s u open_ (job t a) alive rising (subst (λ (hs : List ℕ). Meets o t i (newly_waiting fs (all_dead i hs s)) (visited i hs fs) s u) e (h o t l a))
