@@ -58,7 +58,7 @@ started o s pairs l e a = subst (Starts o) (sym (a ∙ ap (opened o) e)) (axioms
 axioms_push : (k : ℕ) (es : List Equation) (e : Equation) → axiom_pairs k (es ++ e ∷ []) ≡ axiom_pairs k es ++ record { origin = Axiom (k + length es); weight = nodes e.left + nodes e.right; condition = Waiting } ∷ []
 axioms_push k [] e = (let z : k ≡ k + 0 = omega arith in ap (λ n. (let p : Pair = record { origin = Axiom n; weight = nodes e.left + nodes e.right; condition = Waiting } in p) ∷ []) z)
 axioms_push k (x ∷ es) e = (let z : (k + 1) + length es ≡ k + length (x ∷ es) = omega arith in ap (λ ps. (let p : Pair = record { origin = Axiom k; weight = nodes x.left + nodes x.right; condition = Waiting } in p) ∷ ps)
-(axioms_push (k + 1) es e ∙ ap (λ n. axiom_pairs (k + 1) es ++ record { origin = Axiom n; weight = nodes e.left + nodes e.right; condition = Waiting } ∷ []) z))
+    (axioms_push (k + 1) es e ∙ ap (λ n. axiom_pairs (k + 1) es ++ record { origin = Axiom n; weight = nodes e.left + nodes e.right; condition = Waiting } ∷ []) z))
 
 pub axioms_more : (es : List Equation) (e : Equation) (n k : ℕ) → k ≡ length es → n ≡ nodes e.left + nodes e.right → axiom_pairs 0 (es ++ e ∷ []) ≡ axiom_pairs 0 es ++ record { origin = Axiom k; weight = n; condition = Waiting } ∷ []
 axioms_more es e n k a b =

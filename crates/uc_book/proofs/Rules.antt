@@ -23,7 +23,7 @@ gives : (o : Opening) (w : ℕ) (s : State) (n : ℕ) (j k : Job) (u : State) �
 gives o w s n j k u a b e d = subst (λ (t : State). Gives o w s n j t) (sym e) (subst (λ m. Gives o w s m j (hands_out w j s)) (sym a) (subst (λ i. Gives o w s (next_ticket s) i (hands_out w i s)) (sym b) d))
 
 pub due_drawn : (o : Opening) (w : ℕ) (s : State) (n : ℕ) (jobs : Job × Job) (u : State) → s.verdict ≡ None → AreJobs Goal (first_due s) jobs → n ≡ next_ticket s → u ≡ hands_out w jobs.0 s → Gives o w s n jobs.0 u
-due_drawn o w s n jobs u open a b e = gives o w s n jobs.0 (with_ends Goal a.goal) u b a.one e (goal_is_due a.goal open a.is)
+due_drawn o w s n jobs u open_ a b e = gives o w s n jobs.0 (with_ends Goal a.goal) u b a.one e (goal_is_due a.goal open_ a.is)
 
 pub unmet_drawn : (o : Opening) (w : ℕ) (s : State) (n i : ℕ) (u : State) → NoneDue s → Some i ≡ map_option (λ (f : At Meeting). f.number) (first_unmet s) → n ≡ next_ticket s → u ≡ hands_out w (Meet i) s → Gives o w s n (Meet i) u
 unmet_drawn o w s n i u due found b e =
