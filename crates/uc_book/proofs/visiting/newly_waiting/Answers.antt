@@ -18,13 +18,13 @@ loop-k-preserved c =
     let more = λ (killer : ℕ). newly_more (c.args.facts.now.front.entries ++ deaths_by killer c.args.falls.now) fs k _ c.is_waiting.result c.loop-k.count l (c.is_waiting.ensures ∙ ap is_waiting (c.state_by.ensures killer)) (i.value killer) in
     elim c.if-is_waiting.branch [
       | then-is_waiting w ↦ record {
-          value = λ killer. omega (arith, w.count-is, ap (λ b. c.loop-k.count + cond {A = ℕ} b 1 0) (sym w.if-is_waiting.true) ∙ more killer);
-          few = omega (arith, i.few, w.count-is);
-        }
+        value = λ killer. omega (arith, w.count-is, ap (λ b. c.loop-k.count + cond {A = ℕ} b 1 0) (sym w.if-is_waiting.true) ∙ more killer);
+        few = omega (arith, i.few, w.count-is);
+      }
       | else-is_waiting w ↦ record {
-          value = λ killer. omega (arith, w.count-is, ap (λ b. c.loop-k.count + cond {A = ℕ} b 1 0) (sym w.if-is_waiting.false) ∙ more killer);
-          few = omega (arith, i.few, w.count-is);
-        }
+        value = λ killer. omega (arith, w.count-is, ap (λ b. c.loop-k.count + cond {A = ℕ} b 1 0) (sym w.if-is_waiting.false) ∙ more killer);
+        few = omega (arith, i.few, w.count-is);
+      }
     ]
 
 pub returns-clause-value : goal.returns-clause-value
