@@ -69,7 +69,7 @@ fn with_deaths<R: Wait>(
 {
     let mut longer = front.copy(alloc)?;
     for k in 0..falls.len() {
-        if longer.len() > MAX_ENTRIES {
+        if longer.len() >= MAX_ENTRIES {
             return Err(AllocError);
         }
         let death = Entry::Dies {
@@ -304,10 +304,10 @@ impl Parts {
             self.pass_limit(at, visit.fact, waiting, new as u64);
             return Ok(());
         }
-        let front = self.facts.front();
-        let front = with_deaths(rt, alloc, shelf, front, visit.killer, visit.falls)?;
         let more = visit.falls.len() + visit.overlaps.len() + self.tasks.len();
         self.pairs.reserve(alloc, count_of(more)?)?;
+        let front = self.facts.front();
+        let front = with_deaths(rt, alloc, shelf, front, visit.killer, visit.falls)?;
         self.take_visit(alloc, at, visit, front, pairs as u64);
         Ok(())
     }
