@@ -3,3 +3,4 @@ pub mod Ends
 pub mod Living
 pub mod Reducing
 pub mod Meeting
+pub mod Trying

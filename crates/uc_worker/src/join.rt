@@ -1,31 +1,19 @@
 //! Tasks about pairs.
 
-ghost use Rattle.std.specs.Prelude.{◌≡◌, ◌≤◌, IfOk, MatchOption, ℕ, length};
-ghost use Rattle.uc_term.specs.declared.equation.Equation.{Equation as AnyEquation};
-ghost use Rattle.uc_fact.specs.declared.joinable.Joinable.{Joinable as AnyJoinable};
-ghost use Rattle.uc_fact.specs.declared.joinable.Joinable.TheVariants.{Joined};
-ghost use Rattle.uc_ground.specs.Joining.{IsJoined};
+ghost use Rattle.std.specs.Prelude.{IfOk, ℕ};
 ghost use Rattle.uc_shelf.specs.Fronts.{IsOf};
 ghost use Rattle.uc_machine.specs.Origins.{IsKnownOrigin};
-ghost use Rattle.uc_machine.specs.Results.{IsResult, GivesFact};
+ghost use Rattle.uc_machine.specs.Results.{IsResult};
 ghost use Rattle.uc_machine.specs.declared.task.Job.TheVariants.{Join};
 
-use crate::chains::{followed_by, reversed};
-use crate::fact::{End, Source, fact_of};
-use crate::pair::pair_from;
+use crate::trial::{Tried, try_pair};
 use std::alloc::{AllocError, Global};
-use uc_fact::{Chain, Equation, Fact, Joinable, Origin, Reason};
-use uc_ground::ground_join;
+use uc_fact::{Equation, Origin};
 use uc_machine::Finding;
 use uc_order::Order;
-use uc_rewrite::{Normal, normalise};
 use uc_shelf::{Front, Shelf};
 
-/// The most steps from each side of a pair.
-const MOST_STEPS: u32 = 4096;
-
-/// The two sides of a pair are normalised, with 4,096 steps each, and the ends tested for ground joinability. Where they
-/// aren't joined, they give a fact.
+/// A pair is tried. What isn't joined is kept.
 pub fn join<O: Order>(
     alloc: Global,
     origin: &Origin,
@@ -38,56 +26,8 @@ pub fn join<O: Order>(
     requires can { IsKnownOrigin (O.meaning order.now) axioms.now front.now.entries origin.now }
     ensures { IfOk result (λ finding. (p : ℕ) → IsResult (O.meaning order.now) axioms.now front.now.entries (Join p origin.now) finding) }
 {
-    let pair = pair_from(alloc, origin, shelf, front, axioms, order)?;
-    let view = shelf.view(front);
-    let left = normalise(alloc, &pair.equation.left, &view, order, MOST_STEPS)?;
-    let right = normalise(alloc, &pair.equation.right, &view, order, MOST_STEPS)?;
-    let answer = ground_join(alloc, &left.term, &right.term, &view, order)?;
-    if let Some(why) = reason_of(&answer) {
-        return Ok(Finding::Joined(why));
+    match try_pair(alloc, origin, shelf, front, axioms, order)? {
+        Tried::Joined(why) => Ok(Finding::Joined(why)),
+        Tried::Open { fact, .. } => Ok(Finding::Kept(fact)),
     }
-    let source = Source {
-        origin: *origin,
-        front: front.len(),
-    };
-    Ok(Finding::Kept(kept(alloc, source, left, pair.chain, right, order)?))
-}
-
-/// Why two terms are joined. None exactly where the answer doesn't say that they are.
-fn reason_of(answer: &Joinable) -> Option<Reason>
-    ensures { MatchOption result (IsJoined answer.now → ⊥) (λ why. answer.now ≡ Joined why) }
-{
-    match answer {
-        Joinable::Joined(why) => Some(*why),
-        Joinable::Apart { .. } => None,
-        Joinable::TooManyVariables(_) => None,
-    }
-}
-
-/// The fact that the two ends of a pair give. Its chain goes back from the left end to the pair's left side, by the pair's
-/// chain to its right side, and on to the right end.
-fn kept<O: Order>(
-    alloc: Global,
-    source: Source,
-    left: Normal,
-    chain: Chain,
-    right: Normal,
-    order: &O,
-) -> Result<Fact, AllocError>
-    requires left_short { length left.chain.steps ≤ MOST_STEPS }
-    requires short { length chain.steps ≤ 2 }
-    requires right_short { length right.chain.steps ≤ MOST_STEPS }
-    ensures { IfOk result (λ fact. (equation : AnyEquation) (answer : AnyJoinable) → GivesFact (O.meaning order.now) source.origin source.front (record { equation = equation; chain = chain; left = left; right = right; answer = answer }) fact) }
-{
-    let back = reversed(alloc, left.chain)?;
-    let way = followed_by(back, followed_by(chain, right.chain)?)?;
-    let left = End {
-        term: left.term,
-        stop: left.stop,
-    };
-    let right = End {
-        term: right.term,
-        stop: right.stop,
-    };
-    fact_of(alloc, source, &left, &right, way, order)
 }

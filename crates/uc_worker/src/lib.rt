@@ -14,8 +14,11 @@ mod meet;
 mod numbering;
 mod pair;
 mod reducing;
+mod trial;
 
 pub use finding::finding_of;
+pub use live::{LiveFact, live_facts};
+pub use trial::{Tried, try_pair};
 
 #[cfg(test)]
 mod tests;

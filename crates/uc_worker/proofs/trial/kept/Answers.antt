@@ -8,7 +8,7 @@ use Rattle.uc_machine.specs.Results.{Trial, GivesFact}
 use Rattle.uc_worker.specs.declared.fact.End.{End}
 use Rattle.uc_worker.specs.Ends.{HasEnds}
 use Rattle.uc_worker.proofs.Made.{way_length}
-use Rattle.uc_worker.proofs.join.kept.Goals as goal
+use Rattle.uc_worker.proofs.trial.kept.Goals as goal
 
 pub fact_of-requires : goal.fact_of-requires
 fact_of-requires g c =

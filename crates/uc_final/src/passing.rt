@@ -1,0 +1,46 @@
+//! The final pass.
+
+ghost use Rattle.std.specs.Prelude.{◌≡◌, ◌<◌, ◌^◌, length, IfOk};
+ghost use Rattle.uc_shelf.specs.Fronts.{IsOf};
+ghost use Rattle.uc_machine.specs.State.{State};
+ghost use Rattle.uc_machine.specs.Finals.{IsFinal};
+ghost use Rattle.uc_final.specs.Stages.{stages_of};
+
+use crate::answering::answer;
+use crate::overlapping::all_overlaps;
+use crate::selecting::origins;
+use crate::testing::missing_among;
+use std::alloc::{AllocError, Global};
+use uc_fact::Equation;
+use uc_machine::{Outcome, Stage};
+use uc_order::Order;
+use uc_shelf::{Front, Shelf};
+use uc_worker::live_facts;
+
+/// Whether the facts that live in a front converge, for the axioms and by an order, where the goals are in these states: what
+/// the final pass answers for each state of the book with this front and these goals.
+///
+/// Every axiom is tested in order, and then every overlap of two facts that live, also of a fact with itself, by outer fact,
+/// inner fact and the order of their overlaps, but those that are too large: both sides are normalised by the facts that live,
+/// with 4,096 steps each, and tested for ground joinability. The answer is the first of these that holds: `Missing`, where
+/// some of them aren't joined, with all that aren't, in this order; `Large`, where some overlap is too large, with the first;
+/// `GoalUnsettled`, where some goal is `Stuck`, with the first; `Convergent`, with the facts that live, in order.
+pub fn final_pass<O: Order>(
+    alloc: Global,
+    shelf: &Shelf,
+    front: &Front,
+    axioms: &[Equation],
+    stages: &[Stage],
+    order: &O,
+) -> Result<Outcome, AllocError>
+    requires of { IsOf shelf.now front.now }
+    requires few_axioms { length axioms.now < 2 ^ 31 }
+    requires few_goals { length stages.now < 2 ^ 31 }
+    ensures { IfOk result (λ outcome. (s : State) → s.entries ≡ front.now.entries → stages_of s.goals ≡ stages.now → IsFinal (O.meaning order.now) axioms.now s outcome) }
+{
+    let facts = live_facts(alloc, shelf, front)?;
+    let overlaps = all_overlaps(alloc, facts.as_slice(), order)?;
+    let origins = origins(alloc, axioms, overlaps.as_slice())?;
+    let missing = missing_among(alloc, origins.as_slice(), shelf, front, axioms, order)?;
+    answer(alloc, missing, overlaps.as_slice(), stages, facts)
+}

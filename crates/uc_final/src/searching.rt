@@ -1,0 +1,41 @@
+//! The first overlap that is too large, and the first goal that is stuck.
+
+ghost use Rattle.std.specs.Prelude.{◌≡◌, ◌<◌, ◌^◌, length};
+ghost use Rattle.uc_machine.specs.Finals.{first_large, is_stuck};
+ghost use Rattle.uc_final.specs.Stages.{first_stuck_stage};
+
+use uc_fact::Overlap;
+use uc_machine::Stage;
+use uc_pair::{Formed, Size};
+
+/// The first overlap that is too large.
+pub fn first_large(overlaps: &[Formed]) -> Option<Overlap>
+    ensures { result ≡ first_large overlaps.now }
+{
+    for formed in overlaps {
+        if formed.size == Size::Large {
+            return Some(formed.overlap);
+        }
+    }
+    None
+}
+
+/// The number of the first state that is `Stuck`.
+pub fn first_stuck(stages: &[Stage]) -> Option<u32>
+    requires { length stages.now < 2 ^ 31 }
+    ensures { result ≡ first_stuck_stage stages.now }
+{
+    for k in 0..stages.len() {
+        if is_stuck(stages[k]) {
+            return Some(k as u32);
+        }
+    }
+    None
+}
+
+#[inline]
+fn is_stuck(stage: Stage) -> bool
+    ensures { result ≡ is_stuck stage }
+{
+    matches!(stage, Stage::Stuck)
+}
