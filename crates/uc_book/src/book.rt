@@ -1,6 +1,6 @@
 //! The book.
 
-ghost use Rattle.std.specs.Prelude.{◌≡◌, ℕ, ◌+◌, ◌-◌, ◌^◌, ◌<◌, ◌≤◌, ◌++◌, ◌∷◌, [], length, min, Some, slice_get, IfOk, IfErr, OnOk, OnErr, IsTrue, ◌↔◌, option_copied};
+ghost use Rattle.std.specs.Prelude.{◌≡◌, ℕ, ◌+◌, ◌-◌, ◌^◌, ◌<◌, ◌≤◌, ◌++◌, ◌∷◌, [], length, min, Some, map, slice_get, IfOk, IfErr, OnOk, OnErr, IsTrue, ◌↔◌, option_copied};
 ghost use Rattle.uc_shelf.specs.Fronts.{IsOf};
 ghost use Rattle.uc_machine.specs.Lists.{map_option};
 ghost use Rattle.uc_fact.specs.Chains.{end_of};
@@ -20,7 +20,7 @@ use std::alloc::{AllocError, Global};
 use std::marker::Model;
 use std::sync::Wait;
 use uc_fact::Chain;
-use uc_machine::{Event, Missing, Outcome, Verdict};
+use uc_machine::{Event, Missing, Outcome, Stage, Verdict};
 use uc_order::Order;
 use uc_problem::Encoded;
 use uc_shelf::{Front, Shelf};
@@ -240,6 +240,13 @@ impl<'a, O: Order> Book<'a, O> {
         ensures of { IsOf self.now.opening.shelf result.now }
     {
         self.parts.facts.front()
+    }
+
+    /// What is to be done for each goal, by number.
+    pub fn stages(&self, alloc: Global) -> Result<Vec<Stage>, AllocError>
+        ensures { IfOk result (λ v. v.items ≡ map (λ (g : Target). g.stage) self.now.state.goals) }
+    {
+        self.parts.goals.stages(alloc)
     }
 
     /// The two present ends of a goal.

@@ -150,6 +150,17 @@ impl Goals {
         })
     }
 
+    /// What is to be done for each goal, by number.
+    pub(crate) fn stages(&self, alloc: Global) -> Result<Vec<Stage>, AllocError>
+        ensures { IfOk result (λ v. v.items ≡ map (λ (g : Target). g.stage) self.now) }
+    {
+        let mut stages = Vec::new(alloc);
+        for row in &self.rows {
+            stages.push(row.stage)?;
+        }
+        Ok(stages)
+    }
+
     /// The least goal that is Due.
     pub(crate) fn first_due(&mut self) -> Option<u32>
         ensures found { result ≡ map_option (λ (f : At Target). f.number) (first (λ (g : Target). is_due g.stage) self.old) }

@@ -25,6 +25,7 @@ mod workers;
 pub use answer::{Audited, CommitFault, Drawn, Receipt};
 pub use book::{Book, MAX_BUDGET, MAX_LIMIT};
 pub use opened::Opened;
+pub use tasks::copy_job;
 pub use token::{Done, Pass, Task, WORKERS};
 
 #[cfg(test)]

@@ -32,7 +32,7 @@ pub(crate) fn place_of(tasks: &[TaskRow], ticket: u64) -> Option<usize>
 }
 
 /// An equal job.
-pub(crate) fn copy_job(alloc: Global, job: &Job) -> Result<Job, AllocError>
+pub fn copy_job(alloc: Global, job: &Job) -> Result<Job, AllocError>
     ensures { IfOk result (λ copy. copy ≡ job.now) }
 {
     match job {

@@ -88,7 +88,7 @@ fn problem_answer<L: Library>(
 }
 
 // The answer for a goal that is too large to be encoded.
-fn large_answer(alloc: Global, goal: &Sourced) -> Result<Answer, AllocError>
+pub(crate) fn large_answer(alloc: Global, goal: &Sourced) -> Result<Answer, AllocError>
     ensures { IfOk result (λ answer. (answer.status ≡ 3) × (joined answer.lines ≡ large_line goal.now)) }
 {
     let clause = &goal.clause;

@@ -17,6 +17,7 @@ use crate::checking::check_answer;
 use crate::ordering::order_answer;
 use crate::output::{Answer, USAGE, of_line, tell, tell_memory_out};
 use crate::pairing::pairs_answer;
+use crate::proving::prove_answer;
 use crate::rewriting::rewrite_answer;
 use crate::showing::show_answer;
 use std::alloc::{AllocError, Global};
@@ -41,7 +42,7 @@ const USAGE_LINE: &[u8] = b"usage: uc COMMAND [--option VALUE].. [WORD]..\n";
 /// order is refused; else 3. 4 stands for words that have no reading, 5 for a failure of the library and 6 for one of the sink,
 /// each only where its count of faults rose in this call, and 7 for want of memory.
 pub fn run<R: Threads + Wait + Sync, L: Library, S: Sink, G: Gate + Sync>(
-    _rt: &R,
+    rt: &R,
     alloc: Global,
     words: &[String],
     library: &mut L,
@@ -59,14 +60,15 @@ pub fn run<R: Threads + Wait + Sync, L: Library, S: Sink, G: Gate + Sync>(
     ensures later { L.faults library.old ≤ L.faults library.new }
     ensures sink_later { S.faults sink.old ≤ S.faults sink.new }
 {
-    match answer_of(alloc, words, library) {
+    match answer_of(rt, alloc, words, library) {
         Ok(answer) => tell(sink, &answer),
         Err(_) => tell_memory_out(sink),
     }
 }
 
 // The answer to the words.
-fn answer_of<L: Library>(
+fn answer_of<R: Wait, L: Library>(
+    rt: &R,
     alloc: Global,
     words: &[String],
     library: &mut L,
@@ -77,7 +79,7 @@ fn answer_of<L: Library>(
     ensures later { L.faults library.old ≤ L.faults library.new }
 {
     match read_words(alloc, words) {
-        Ok(command) => command_answer(alloc, &command, library),
+        Ok(command) => command_answer(rt, alloc, &command, library),
         Err(WordsFault::Usage) => usage_answer(alloc),
         Err(WordsFault::NoMemory) => Err(AllocError),
     }
@@ -90,7 +92,8 @@ fn usage_answer(alloc: Global) -> Result<Answer, AllocError>
 }
 
 // The answer to a command.
-fn command_answer<L: Library>(
+fn command_answer<R: Wait, L: Library>(
+    rt: &R,
     alloc: Global,
     command: &Command,
     library: &mut L,
@@ -121,6 +124,10 @@ fn command_answer<L: Library>(
         },
         Verb::Pairs => match command.positionals.as_slice() {
             [name] => pairs_answer(alloc, command.root.as_ref(), name, &command.order, library),
+            _ => unreachable!(),
+        },
+        Verb::Prove if command.workers == 1 => match command.positionals.as_slice() {
+            [name] => prove_answer(rt, alloc, command, name, library),
             _ => unreachable!(),
         },
         _ => usage_answer(alloc),

@@ -1,0 +1,168 @@
+use crate::run;
+use crate::tests::{strings, text};
+use std::alloc::{AllocError, Global};
+use std::sync::Wait;
+use std::test::Fail;
+use std::thread::Threads;
+use uc_edge::{MemoryLibrary, MemorySink, NoGate};
+
+// The words; the name of a problem and its text; the calls that fail; and what is answered.
+#[derive(Clone, Copy)]
+struct Row {
+    words: &'static [&'static str],
+    name: &'static str,
+    problem: &'static str,
+    failing_fetches: &'static [u32],
+    failing_writes: &'static [u32],
+    status: u8,
+    text: &'static str,
+}
+
+const ROW: Row = Row {
+    words: &["prove", "r5.p"],
+    name: "r5.p",
+    problem: R5,
+    failing_fetches: &[],
+    failing_writes: &[],
+    status: 0,
+    text: P5,
+};
+
+const R4: &str = "cnf(g, negated_conjecture, a != a).";
+
+const P4: &str = "% SZS status Unsatisfiable for r4.p
+% SZS output start CNFRefutation for r4.p
+cnf(p1, negated_conjecture, a != a, file('r4.p', g)).
+cnf(p2, plain, a = a, inference(chain, [a], [])).
+cnf(p3, plain, $false, inference(refute, [], [p1, p2])).
+% SZS output end CNFRefutation for r4.p
+";
+
+const R5: &str = "cnf(ax1, axiom, f(a) = b).
+cnf(ax2, axiom, f(b) = a).
+cnf(goal, negated_conjecture, f(f(a)) != a).
+";
+
+const P5: &str = "% SZS status Unsatisfiable for r5.p
+% SZS output start CNFRefutation for r5.p
+cnf(p1, axiom, f(a) = b, file('r5.p', ax1)).
+cnf(p2, axiom, f(b) = a, file('r5.p', ax2)).
+cnf(p3, negated_conjecture, f(f(a)) != a, file('r5.p', goal)).
+cnf(p4, plain, f(a) = b, inference(chain, [f(a), step(p1, lr, [], b)], [p1])).
+cnf(p5, plain, f(b) = a, inference(chain, [f(b), step(p2, lr, [], a)], [p2])).
+cnf(p6, plain, f(f(a)) = a, inference(chain, [f(f(a)), step(p4, lr, [1], f(b)), step(p5, lr, [], a)], [p4, p5])).
+cnf(p7, plain, $false, inference(refute, [], [p3, p6])).
+% SZS output end CNFRefutation for r5.p
+";
+
+const T5: &str = "% SZS status Unsatisfiable for r5.p
+% SZS output start CNFRefutation for r5.p
+cnf(p1, axiom, f(a) = b, file('r5.p', ax1)).
+cnf(p2, axiom, f(b) = a, file('r5.p', ax2)).
+cnf(p3, negated_conjecture, f(f(a)) != a, file('r5.p', goal)).
+cnf(p4, plain, f(a) = b, inference(chain, [f(a), step(p1, lr, [], b)], [p1])).
+cnf(p5, plain, f(b) = a, inference(chain, [f(b), step(p2, lr, [], a)], [p2])).
+cnf(p6, plain, f(f(a)) = a, inference(chain, [f(f(a)), step(p4, lr, [1], f(b)), step(p5, lr, [], a)], [p4, p5])).
+cnf(p7, plain, $false, inference(refute, [], [p3, p6])).
+% SZS output end CNFRefutation for r5.p
+% 1 w0 draw goal 0 front 0
+% 2 w0 commit goal 0 steps 0 full
+% 3 w0 draw join 0 front 0
+% 4 w0 commit join 0 kept 0
+% 5 w0 draw goal 0 front 1
+% 6 w0 commit goal 0 steps 1 full
+% 7 w0 draw meet 0 front 1
+% 8 w0 commit meet 0 pairs 0 kills 0
+% 9 w0 draw join 1 front 1
+% 10 w0 commit join 1 kept 1
+% 11 w0 draw goal 0 front 2
+% 12 w0 commit goal 0 steps 1 met
+% 13 w0 close proved
+% share w0 6
+";
+
+const R8: &str = "cnf(p, axiom, f(X) = X).";
+
+const P8: &str = "% SZS status Satisfiable for r8.p
+% SZS output start Saturation for r8.p
+% system 1
+% order kbo 1
+% symbol least 0 1
+% symbol f 1 1
+cnf(s1, plain, f(X1) = X1).
+% end
+% SZS output end Saturation for r8.p
+";
+
+const PE: &str = "% SZS status Satisfiable for e.p
+% SZS output start Saturation for e.p
+% system 1
+% order kbo 1
+% symbol least 0 1
+% end
+% SZS output end Saturation for e.p
+";
+
+// Problems that are proved, saturated, or given up.
+const SEARCHES: [(&[&str], &str, u8, &str); 7] = [
+    (&["prove", "r4.p"], R4, 0, P4),
+    (&["prove", "r5.p"], R5, 0, P5),
+    (&["prove", "r8.p"], R8, 1, P8),
+    (&["prove", "e.p"], "", 1, PE),
+    (
+        &["prove", "--budget", "0", "r5.p"],
+        R5,
+        2,
+        "% SZS status ResourceOut for r5.p\n% budget 0 of 0\n",
+    ),
+    (
+        &["prove", "--pairs", "1", "r5.p"],
+        R5,
+        2,
+        "% SZS status ResourceOut for r5.p\n% pairs 0 plus 2 of 1\n",
+    ),
+    (
+        &["prove", "--budget", "2", "--trace", "r5.p"],
+        R5,
+        0,
+        T5,
+    ),
+];
+
+// Whether the row is answered so.
+fn is_answered<R: Threads + Wait + Sync>(
+    rt: &R,
+    alloc: Global,
+    row: &Row,
+) -> Result<bool, AllocError> {
+    let files = vec![in alloc;
+        (text(alloc, row.name)?, text(alloc, row.problem)?),
+        (
+            text(alloc, "inc.ax")?,
+            text(alloc, "cnf(k1, axiom, a = b).\ncnf(k2, axiom, b = c).\n")?
+        ),
+    ]?;
+    let fetches = Vec::from_slice(alloc, row.failing_fetches)?;
+    let mut library = MemoryLibrary::new(alloc, files, fetches)?;
+    let writes = Vec::from_slice(alloc, row.failing_writes)?;
+    let mut sink = MemorySink::with_room(alloc, 100_000, writes)?;
+    let words = strings(alloc, row.words)?;
+    let status = run(rt, alloc, &words, &mut library, &mut sink, &NoGate);
+    Ok(status == row.status && sink.bytes() == row.text.as_bytes())
+}
+
+#[test]
+fn searches_are_answered(rt: HostRuntime) -> Result<(), Fail> {
+    for (words, problem, status, text) in SEARCHES {
+        let row = Row {
+            words,
+            name: words[words.len() - 1],
+            problem,
+            status,
+            text,
+            ..ROW
+        };
+        assert!(rt; is_answered(&rt, rt.alloc(), &row)?, "{text}");
+    }
+    Ok(())
+}
