@@ -1,5 +1,5 @@
 -- What `prove` answers for a problem, by one worker.
-use Rattle.std.specs.Prelude.{ℕ, ◌≡◌, List, [], ◌++◌, codes, decimal, cond, slice_get, Option, Some, Ok, Err}
+use Rattle.std.specs.Prelude.{ℕ, ◌≡◌, Bool, true, false, List, [], ◌++◌, codes, decimal, cond, slice_get, Option, Some, Ok, Err}
 use Rattle.uc_term.specs.Table.{Table}
 use Rattle.uc_term.specs.Equations.{side_of}
 use Rattle.uc_term.specs.Positions.{IsPlaceOf}
@@ -47,10 +47,14 @@ line_for words name = words ++ codes " for " ++ name ++ codes "\n"
 abbrev pub status_line : List ℕ → List ℕ → List ℕ
 status_line word name = line_for (codes "% SZS status " ++ word) name
 
--- the word for a problem that isn't loaded: a text that is no list of clauses is a syntax error, all else is an input error
+-- the text of a file is no list of clauses
+abbrev pub is_syntax : LoadFault → Bool
+is_syntax (load.Clause file (clause.Syntax place)) = true
+is_syntax other = false
+
+-- the word for a problem that isn't loaded
 abbrev pub unloaded_word : LoadFault → List ℕ
-unloaded_word (load.Clause file (clause.Syntax place)) = codes "SyntaxError"
-unloaded_word other = codes "InputError"
+unloaded_word why = cond (is_syntax why) (codes "SyntaxError") (codes "InputError")
 
 -- THE LIMITS
 
@@ -84,6 +88,11 @@ trace_if command s = cond command.trace (trace_text s.history) []
 abbrev pub opening_for : Command → Encoded → Opening
 opening_for command encoded = record { axioms = encoded.axioms; goals = encoded.goals; budget = command.budget; limit = command.pairs }
 
+abbrev pub verdict_status : Verdict → ℕ
+verdict_status (Proved goal) = 0
+verdict_status Saturated = 1
+verdict_status other = 2
+
 -- Symbols are those of this table, and the problem file has this name.
 module _ (table : Table) (command : Command) (name : List ℕ) where
   -- THE VERDICTS
@@ -102,11 +111,11 @@ module _ (table : Table) (command : Command) (name : List ℕ) where
     abbrev pub saturation_text : List ℕ
     saturation_text = line_for (codes "% SZS output start Saturation") name ++ system_text table spec (equations_of (live s.entries)) ++ line_for (codes "% SZS output end Saturation") name
 
-    -- the status and the text for the verdict of a book in this state
-    pub data VerdictAnswers : Verdict → ℕ → List ℕ → Type 0 where
-      is_proved : {goal : ℕ} {text : List ℕ} → IsProofText goal text → VerdictAnswers (Proved goal) 0 (status_line (codes "Unsatisfiable") name ++ text)
-      is_saturated : VerdictAnswers Saturated 1 (status_line (codes "Satisfiable") name ++ saturation_text)
-      is_out : {v : Verdict} {line : List ℕ} → IsLimitLine command s v line → VerdictAnswers v 2 (status_line (codes "ResourceOut") name ++ line)
+    -- the text for the verdict of a book in this state
+    pub data VerdictAnswers : Verdict → List ℕ → Type 0 where
+      is_proved : {goal : ℕ} {text : List ℕ} → IsProofText goal text → VerdictAnswers (Proved goal) (status_line (codes "Unsatisfiable") name ++ text)
+      is_saturated : VerdictAnswers Saturated (status_line (codes "Satisfiable") name ++ saturation_text)
+      is_out : {v : Verdict} {line : List ℕ} → IsLimitLine command s v line → VerdictAnswers v (status_line (codes "ResourceOut") name ++ line)
 
   -- THE PROBLEM
 
@@ -115,7 +124,7 @@ module _ (table : Table) (command : Command) (name : List ℕ) where
   pub data IsProveAnswer (problem : Problem) : ℕ → List ℕ → Type 0 where
     has_large_goal : {number : ℕ} {goal : Sourced} → Encodes table problem (Err (GoalTooLarge number)) → slice_get problem.clauses number ≡ Some goal → IsProveAnswer problem 3 (status_line (codes "InputError") name ++ large_line goal)
     is_unordered : {encoded : Encoded} {why : ChoiceFault} → Encodes table problem (Ok encoded) → IsChoiceFault table problem.signature command.order why → (why ≡ NoMemory → ⊥) → IsProveAnswer problem 4 (choice_line why)
-    is_searched : {encoded : Encoded} {spec : OrderSpec} {v : Verdict} {s : State} {status : ℕ} {text : List ℕ} → Encodes table problem (Ok encoded) → IsChosen table problem.signature command.order encoded.fresh spec → IsSearched (meaning_of table spec) (opening_for command encoded) 0 v s → VerdictAnswers problem encoded spec s v status text → IsProveAnswer problem status (text ++ trace_if command s)
+    is_searched : {encoded : Encoded} {spec : OrderSpec} {v : Verdict} {s : State} {text : List ℕ} → Encodes table problem (Ok encoded) → IsChosen table problem.signature command.order encoded.fresh spec → IsSearched (meaning_of table spec) (opening_for command encoded) 0 v s → VerdictAnswers problem encoded spec s v text → IsProveAnswer problem (verdict_status v) (text ++ trace_if command s)
 
   -- The library's files are these, where it tells them, and its count of faults was and is this.
   module _ (holds : Option Files) (before now : ℕ) where

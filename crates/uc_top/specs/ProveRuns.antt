@@ -40,7 +40,7 @@ use Rattle.uc_words.specs.Reads.{Reads}
 use Rattle.uc_ordering.specs.Choice.{IsChosen}
 use Rattle.uc_ordering.specs.Meaning.{meaning_of}
 use Rattle.uc_top.specs.Lines.{memory_line}
-use Rattle.uc_top.specs.ProveAnswers.{opening_for, status_line, line_for, VerdictAnswers, trace_if, IsLimitLine}
+use Rattle.uc_top.specs.ProveAnswers.{opening_for, verdict_status, status_line, line_for, VerdictAnswers, trace_if, IsLimitLine}
 
 -- A PRINTED PROOF, READ BACK
 
@@ -120,13 +120,9 @@ pub record IsStopped (table : Table) (command : Command) (name : List ℕ) (prob
 
 -- THE PROMISE
 
--- For the problem of this name that the files have and the order that the words name for it: with status 0 the answer has a proof
--- of it, with status 1 a system that settles it, and with status 2 the limit that ended the search, with its cause.
-pub record KeepsPromise (files : Files) (command : Command) (name : List ℕ) (status : ℕ) (answer : List ℕ) : Type 0 where
-  pub table : Table
-  pub distinct : IsDistinct table
-  pub problem : Problem
-  pub holds : Holds table files command.root name problem
+-- For a problem and the order that the command names for it: with status 0 the answer has a proof of the problem, with status 1 a
+-- system that settles it, and with status 2 the limit that ended the search, with its cause.
+pub record Keeps (table : Table) (command : Command) (name : List ℕ) (problem : Problem) (status : ℕ) (answer : List ℕ) : Type 0 where
   pub fresh : Option Fresh
   pub marked : Marks table problem (Ok fresh)
   pub spec : OrderSpec
@@ -134,6 +130,18 @@ pub record KeepsPromise (files : Files) (command : Command) (name : List ℕ) (s
   pub refuted : status ≡ 0 → IsRefuted table name problem answer
   pub settled : status ≡ 1 → IsSettled table name problem spec answer
   pub stopped : status ≡ 2 → IsStopped table command name problem spec answer
+
+-- so it is for the problem of this name that the files have, with its symbols in this table
+pub record IsKept (table : Table) (files : Files) (command : Command) (name : List ℕ) (status : ℕ) (answer : List ℕ) : Type 0 where
+  pub problem : Problem
+  pub holds : Holds table files command.root name problem
+  pub keeps : Keeps table command name problem status answer
+
+-- and with its symbols in some table whose entries are all different
+pub record KeepsPromise (files : Files) (command : Command) (name : List ℕ) (status : ℕ) (answer : List ℕ) : Type 0 where
+  pub table : Table
+  pub distinct : IsDistinct table
+  pub is_kept : IsKept table files command name status answer
 
 -- So it is of a run whose words are those of `prove`, with one worker, and that ends with status 0, 1 or 2: the sink was given
 -- such an answer.
@@ -157,7 +165,8 @@ pub record IsHeldAnswer (files : Files) (command : Command) (name : List ℕ) (s
   pub state : State
   pub searched : IsSearched (meaning_of table spec) (opening_for command encoded) 0 verdict state
   pub text : List ℕ
-  pub answers : VerdictAnswers table command name problem encoded spec state verdict status text
+  pub answers : VerdictAnswers table command name problem encoded spec state verdict text
+  pub status_is : status ≡ verdict_status verdict
   pub answer_is : answer ≡ text ++ trace_if command state
 
 -- How `prove` ends: with this answer, or for want of memory, which is free.

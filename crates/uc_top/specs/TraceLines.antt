@@ -64,10 +64,10 @@ abbrev pub event_lines : ℕ → List Event → List ℕ
 event_lines number [] = []
 event_lines number (e ∷ es) = event_line number e ++ event_lines (number + 1) es
 
--- how many commits a worker made
-abbrev pub share_line : List Event → ℕ → List ℕ
-share_line history worker = codes "% share w" ++ decimal worker ++ spaced (decimal (commits_by worker history)) ++ codes "\n"
+-- the line of how many commits a worker made
+abbrev pub share_text : ℕ → ℕ → List ℕ
+share_text worker commits = codes "% share w" ++ decimal worker ++ spaced (decimal commits) ++ codes "\n"
 
 -- the events, from 1 on, and the share of worker 0, who is alone
 abbrev pub trace_text : List Event → List ℕ
-trace_text history = event_lines 1 history ++ share_line history 0
+trace_text history = event_lines 1 history ++ share_text 0 (commits_by 0 history)

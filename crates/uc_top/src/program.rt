@@ -12,6 +12,7 @@ ghost use Rattle.uc_top.specs.Runs.{MayAnswer, IsRun, IsCertified, Completes, Co
 ghost use Rattle.uc_top.specs.OrderRuns.{CompletesOrder};
 ghost use Rattle.uc_top.specs.RewriteRuns.{CompletesRewrite};
 ghost use Rattle.uc_top.specs.PairsRuns.{CompletesPairs};
+ghost use Rattle.uc_top.specs.ProveRuns.{KeepsWord, CompletesProve};
 
 use crate::checking::check_answer;
 use crate::ordering::order_answer;
@@ -39,7 +40,10 @@ const USAGE_LINE: &[u8] = b"usage: uc COMMAND [--option VALUE].. [WORD]..\n";
 /// the word is a term over the problem's signature that the axioms normalise by that order, and 2 where the limit or the largest
 /// size ends it, with the term and each step told; 4 where the order is refused; else 3. For `pairs` it is 0 where the problem
 /// is there and the words name an order for it, and each critical pair of its axioms is told on a line of its own; 4 where the
-/// order is refused; else 3. 4 stands for words that have no reading, 5 for a failure of the library and 6 for one of the sink,
+/// order is refused; else 3. For `prove`, with one worker, it is 0 where the text has a proof of the problem, each line of it right
+/// and the last one a refutation of a goal; 1 where it has a system by which each ground term has exactly one normal form, two terms
+/// share it exactly if their equation follows from the axioms, and no goal follows; 2 where the text names the budget or the size
+/// that ended the search; 4 where the order is refused; else 3. 4 stands for words that have no reading, 5 for a failure of the library and 6 for one of the sink,
 /// each only where its count of faults rose in this call, and 7 for want of memory.
 pub fn run<R: Threads + Wait + Sync, L: Library, S: Sink, G: Gate + Sync>(
     rt: &R,
@@ -56,6 +60,8 @@ pub fn run<R: Threads + Wait + Sync, L: Library, S: Sink, G: Gate + Sync>(
     ensures complete_order { (files : Files) → L.holds library.old ≡ Some files → (Rose (L.faults library.old) (L.faults library.new) → ⊥) → (Rose (S.faults sink.old) (S.faults sink.new) → ⊥) → CompletesOrder files (map string_bytes words.now) (S.written sink.old) (S.written sink.new) result }
     ensures complete_rewrite { (files : Files) → L.holds library.old ≡ Some files → (Rose (L.faults library.old) (L.faults library.new) → ⊥) → (Rose (S.faults sink.old) (S.faults sink.new) → ⊥) → CompletesRewrite files (map string_bytes words.now) (S.written sink.old) (S.written sink.new) result }
     ensures complete_pairs { (files : Files) → L.holds library.old ≡ Some files → (Rose (L.faults library.old) (L.faults library.new) → ⊥) → (Rose (S.faults sink.old) (S.faults sink.new) → ⊥) → CompletesPairs files (map string_bytes words.now) (S.written sink.old) (S.written sink.new) result }
+    ensures promise { (files : Files) → L.holds library.old ≡ Some files → KeepsWord files (map string_bytes words.now) (S.written sink.old) (S.written sink.new) result }
+    ensures complete_prove { (files : Files) → L.holds library.old ≡ Some files → (Rose (L.faults library.old) (L.faults library.new) → ⊥) → (Rose (S.faults sink.old) (S.faults sink.new) → ⊥) → CompletesProve files (map string_bytes words.now) (S.written sink.old) (S.written sink.new) result }
     ensures same { L.holds library.new ≡ L.holds library.old }
     ensures later { L.faults library.old ≤ L.faults library.new }
     ensures sink_later { S.faults sink.old ≤ S.faults sink.new }

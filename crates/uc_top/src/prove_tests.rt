@@ -103,12 +103,58 @@ const PE: &str = "% SZS status Satisfiable for e.p
 % SZS output end Saturation for e.p
 ";
 
+const GROUP: &str = "cnf(left_identity, axiom, m(e,X) = X).
+cnf(left_inverse, axiom, m(i(X),X) = e).
+cnf(associativity, axiom, m(m(X,Y),Z) = m(X,m(Y,Z))).
+cnf(goal, negated_conjecture, m(a,b) != m(b,a)).
+";
+
+const SOLVED: &str = "cnf(ax, axiom, f(b) = a).\ncnf(g, negated_conjecture, f(X) != a).\n";
+
+const UNSOLVED: &str = "cnf(ax, axiom, f(b) = c).\ncnf(g, negated_conjecture, f(X) != a).\n";
+
+const P_SOLVED: &str = "% SZS status Unsatisfiable for ra.p
+% SZS output start CNFRefutation for ra.p
+cnf(p1, axiom, f(b) = a, file('ra.p', ax)).
+cnf(p2, negated_conjecture, f(X1) != a, file('ra.p', g)).
+cnf(p3, plain, eq(X1,X1) = true, inference(encode, [reflexive], [])).
+cnf(p4, plain, eq(f(X1),a) = false, inference(encode, [goal], [p2])).
+cnf(p5, plain, f(b) = a, inference(chain, [f(b), step(p1, lr, [], a)], [p1])).
+cnf(p6, plain, eq(X1,X1) = true, inference(chain, [eq(X1,X1), step(p3, lr, [], true)], [p3])).
+cnf(p7, plain, eq(f(X1),a) = false, inference(chain, [eq(f(X1),a), step(p4, lr, [], false)], [p4])).
+cnf(p8, plain, false = true, inference(chain, [false, step(p7, rl, [], eq(f(b),a)), step(p5, lr, [1], eq(a,a)), step(p6, lr, [], true)], [p7, p5, p6])).
+cnf(p9, plain, true = false, inference(chain, [true, step(p8, rl, [], false)], [p8])).
+cnf(p10, plain, $false, inference(refute, [], [p9])).
+% SZS output end CNFRefutation for ra.p
+";
+
+const P_UNSOLVED: &str = "% SZS status Satisfiable for rb.p
+% SZS output start Saturation for rb.p
+% system 1
+% order kbo 1
+% symbol b 0 1
+% symbol c 0 1
+% symbol a 0 1
+% symbol f 1 1
+% symbol true 0 1
+% symbol false 0 1
+% symbol eq 2 1
+cnf(s1, plain, f(b) = c).
+cnf(s2, plain, eq(X1,X1) = true).
+cnf(s3, plain, eq(f(X1),a) = false).
+cnf(s4, plain, eq(c,a) = false).
+% end
+% SZS output end Saturation for rb.p
+";
+
 // Problems that are proved, saturated, or given up.
-const SEARCHES: [(&[&str], &str, u8, &str); 7] = [
+const SEARCHES: [(&[&str], &str, u8, &str); 11] = [
     (&["prove", "r4.p"], R4, 0, P4),
     (&["prove", "r5.p"], R5, 0, P5),
     (&["prove", "r8.p"], R8, 1, P8),
     (&["prove", "e.p"], "", 1, PE),
+    (&["prove", "ra.p"], SOLVED, 0, P_SOLVED),
+    (&["prove", "rb.p"], UNSOLVED, 1, P_UNSOLVED),
     (
         &["prove", "--budget", "0", "r5.p"],
         R5,
@@ -116,16 +162,71 @@ const SEARCHES: [(&[&str], &str, u8, &str); 7] = [
         "% SZS status ResourceOut for r5.p\n% budget 0 of 0\n",
     ),
     (
+        &["prove", "--budget", "1", "r5.p"],
+        R5,
+        2,
+        "% SZS status ResourceOut for r5.p\n% budget 1 of 1\n",
+    ),
+    (
         &["prove", "--pairs", "1", "r5.p"],
         R5,
         2,
         "% SZS status ResourceOut for r5.p\n% pairs 0 plus 2 of 1\n",
     ),
+    (&["prove", "--budget", "2", "--trace", "r5.p"], R5, 0, T5),
     (
-        &["prove", "--budget", "2", "--trace", "r5.p"],
+        &["prove", "--workers", "2", "r5.p"],
         R5,
-        0,
-        T5,
+        4,
+        "usage: uc COMMAND [--option VALUE].. [WORD]..\n",
+    ),
+];
+
+// A problem that is refused, and what is answered.
+const REFUSALS: [(&str, &str); 6] = [
+    (
+        "cnf(c1, axiom, p(a) | q(b)).",
+        "% SZS status InputError for r13.p\n% r13.p:1:21 NotUnit\n",
+    ),
+    (
+        "cnf(c1, axiom, p(a)).",
+        "% SZS status InputError for r13.p\n% r13.p:1:16 NotEquality\n",
+    ),
+    (
+        "cnf(c1, axiom, f(a) = f(a,b)).",
+        "% SZS status InputError for r13.p\n% r13.p:1:23 ArityClash f 1 2\n",
+    ),
+    (
+        "cnf(c1, conjecture, a = b).",
+        "% SZS status InputError for r13.p\n% r13.p:1:9 BadRole conjecture\n",
+    ),
+    (
+        "cnf(c1, axiom, a = 7).",
+        "% SZS status InputError for r13.p\n% r13.p:1:20 Unsupported 7\n",
+    ),
+    (
+        "cnf(c1, axiom, a = b)",
+        "% SZS status SyntaxError for r13.p\n% r13.p:1:22 Syntax\n",
+    ),
+];
+
+// The name of a problem and its text; the calls of the library and of the sink that fail, and what is answered.
+const FAULTS: [(&str, &str, &[u32], &[u32], u8, &str); 2] = [
+    (
+        "r4.p",
+        R4,
+        &[],
+        &[3],
+        6,
+        "% SZS status Unsatisfiable for r4.p\n% SZS output start CNFRefutation for r4.p\n",
+    ),
+    (
+        "r17.p",
+        "include('inc.ax').",
+        &[2],
+        &[],
+        5,
+        "% SZS status InputError for r17.p\n% inc.ax ReadFault\n",
     ),
 ];
 
@@ -161,6 +262,34 @@ fn searches_are_answered(rt: HostRuntime) -> Result<(), Fail> {
             status,
             text,
             ..ROW
+        };
+        assert!(rt; is_answered(&rt, rt.alloc(), &row)?, "{text}");
+    }
+    Ok(())
+}
+
+#[test]
+fn refusals_have_a_status(rt: HostRuntime) -> Result<(), Fail> {
+    for (problem, text) in REFUSALS {
+        let row = Row {
+            words: &["prove", "r13.p"],
+            name: "r13.p",
+            problem,
+            status: 3,
+            text,
+            ..ROW
+        };
+        assert!(rt; is_answered(&rt, rt.alloc(), &row)?, "{text}");
+    }
+    for (name, problem, failing_fetches, failing_writes, status, text) in FAULTS {
+        let row = Row {
+            words: &["prove", name],
+            name,
+            problem,
+            failing_fetches,
+            failing_writes,
+            status,
+            text,
         };
         assert!(rt; is_answered(&rt, rt.alloc(), &row)?, "{text}");
     }

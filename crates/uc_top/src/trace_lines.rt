@@ -1,5 +1,11 @@
 //! The lines of a book's history.
 
+ghost use Rattle.std.specs.Prelude.{◌≡◌, ◌++◌, decimal, IfOk, OnOk};
+ghost use Rattle.uc_machine.specs.Events.{commits_by};
+ghost use Rattle.uc_machine.specs.declared.event.Happening.TheVariants.{CommitMeet};
+ghost use Rattle.uc_top.specs.Lines.{joined};
+ghost use Rattle.uc_top.specs.TraceLines.{named, draw_text, goal_text, event_text, event_line, share_text, trace_text, end_word, ending_word};
+
 use crate::chaining::write_number;
 use itoa::Buffer;
 use std::alloc::{AllocError, Global};
@@ -8,7 +14,9 @@ use uc_machine::{Ending, Event, GoalEnd, Happening};
 use uc_term::{Seq, Text};
 
 /// A number in decimal digits.
-pub(crate) fn write_count(out: &mut Text, number: u64) -> Result<(), AllocError> {
+pub(crate) fn write_count(out: &mut Text, number: u64) -> Result<(), AllocError>
+    ensures { OnOk result (out.new ≡ out.old ++ decimal number) }
+{
     let mut buffer = Buffer::new();
     out.extend(buffer.format(number).as_bytes())
 }
@@ -18,7 +26,11 @@ pub(crate) fn trace_lines(
     alloc: Global,
     history: &[Event],
     pass: &Pass,
-) -> Result<Seq<Text>, AllocError> {
+) -> Result<Seq<Text>, AllocError>
+    requires { pass.now.worker ≡ 0 }
+    requires count { pass.now.commits ≡ commits_by 0 history.now }
+    ensures { IfOk result (λ lines. joined lines ≡ trace_text history.now) }
+{
     let mut lines = Seq::new(alloc);
     for (number, event) in history.iter().enumerate() {
         lines.push(event_line(alloc, number as u64 + 1, *event)?)?;
@@ -28,7 +40,9 @@ pub(crate) fn trace_lines(
 }
 
 /// The line of an event of this number.
-fn event_line(alloc: Global, number: u64, event: Event) -> Result<Text, AllocError> {
+fn event_line(alloc: Global, number: u64, event: Event) -> Result<Text, AllocError>
+    ensures { IfOk result (λ text. text ≡ event_line number event) }
+{
     let mut line = Text::from_bytes(alloc, b"% ")?;
     write_count(&mut line, number)?;
     line.extend(b" w")?;
@@ -40,7 +54,9 @@ fn event_line(alloc: Global, number: u64, event: Event) -> Result<Text, AllocErr
 }
 
 /// How many commits a worker made.
-fn share_line(alloc: Global, worker: u32, commits: u64) -> Result<Text, AllocError> {
+fn share_line(alloc: Global, worker: u32, commits: u64) -> Result<Text, AllocError>
+    ensures { IfOk result (λ text. text ≡ share_text worker commits) }
+{
     let mut line = Text::from_bytes(alloc, b"% share w")?;
     write_number(&mut line, worker)?;
     line.extend(b" ")?;
@@ -50,14 +66,18 @@ fn share_line(alloc: Global, worker: u32, commits: u64) -> Result<Text, AllocErr
 }
 
 /// Words with a number behind them.
-fn write_named(out: &mut Text, words: &[u8], number: u64) -> Result<(), AllocError> {
+fn write_named(out: &mut Text, words: &[u8], number: u64) -> Result<(), AllocError>
+    ensures { OnOk result (out.new ≡ out.old ++ named words.now number) }
+{
     out.extend(words)?;
     out.extend(b" ")?;
     write_count(out, number)
 }
 
 /// What happened.
-fn write_happening(out: &mut Text, what: Happening) -> Result<(), AllocError> {
+fn write_happening(out: &mut Text, what: Happening) -> Result<(), AllocError>
+    ensures { OnOk result (out.new ≡ out.old ++ event_text what) }
+{
     match what {
         Happening::DrawGoal { goal, front } => write_draw(out, b"draw goal", goal as u64, front),
         Happening::DrawMore { goal, front } => write_draw(out, b"draw more", goal as u64, front),
@@ -93,7 +113,9 @@ fn write_happening(out: &mut Text, what: Happening) -> Result<(), AllocError> {
 }
 
 /// A task that was drawn, over so many entries.
-fn write_draw(out: &mut Text, words: &[u8], number: u64, front: u32) -> Result<(), AllocError> {
+fn write_draw(out: &mut Text, words: &[u8], number: u64, front: u32) -> Result<(), AllocError>
+    ensures { OnOk result (out.new ≡ out.old ++ draw_text words.now number front) }
+{
     write_named(out, words, number)?;
     write_named(out, b" front", front as u64)
 }
@@ -105,7 +127,9 @@ fn write_goal(
     goal: u32,
     steps: u32,
     end: GoalEnd,
-) -> Result<(), AllocError> {
+) -> Result<(), AllocError>
+    ensures { OnOk result (out.new ≡ out.old ++ goal_text words.now goal steps end) }
+{
     write_named(out, words, goal as u64)?;
     write_named(out, b" steps", steps as u64)?;
     out.extend(b" ")?;
@@ -113,14 +137,18 @@ fn write_goal(
 }
 
 /// The commit of a meeting.
-fn write_meet(out: &mut Text, fact: u32, pairs: u64, kills: u32) -> Result<(), AllocError> {
+fn write_meet(out: &mut Text, fact: u32, pairs: u64, kills: u32) -> Result<(), AllocError>
+    ensures { OnOk result (out.new ≡ out.old ++ event_text (CommitMeet fact pairs kills)) }
+{
     write_named(out, b"commit meet", fact as u64)?;
     write_named(out, b" pairs", pairs)?;
     write_named(out, b" kills", kills as u64)
 }
 
 /// The word for how the normalising of a goal ended.
-fn end_word(end: GoalEnd) -> &'static [u8] {
+fn end_word(end: GoalEnd) -> &'static [u8]
+    ensures { result.now ≡ end_word end }
+{
     match end {
         GoalEnd::Met => b"met",
         GoalEnd::Full => b"full",
@@ -130,7 +158,9 @@ fn end_word(end: GoalEnd) -> &'static [u8] {
 }
 
 /// The word for the kind of a verdict.
-fn ending_word(ending: Ending) -> &'static [u8] {
+fn ending_word(ending: Ending) -> &'static [u8]
+    ensures { result.now ≡ ending_word ending }
+{
     match ending {
         Ending::Proved => b"proved",
         Ending::Saturated => b"saturated",

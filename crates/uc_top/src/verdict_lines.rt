@@ -1,5 +1,12 @@
 //! What `prove` answers for the verdict of its book.
 
+ghost use Rattle.std.specs.Prelude.{◌≡◌, ◌<◌, ℕ, List, IfOk};
+ghost use Rattle.uc_term.specs.Tree.{nodes};
+ghost use Rattle.uc_term.specs.Equations.{side_of};
+ghost use Rattle.uc_term.specs.Positions.{IsPlaceOf};
+ghost use Rattle.uc_top.specs.Lines.{joined};
+ghost use Rattle.uc_top.specs.ProveAnswers.{budget_line, pairs_line, overlap_line, goal_line, verdict_status};
+
 use crate::chaining::{write_number, write_path};
 use crate::output::{Answer, DONE, NO, STOPPED};
 use crate::pair_lines::{side_letter, side_of};
@@ -51,7 +58,9 @@ pub(crate) fn verdict_answer<O: Order>(
 }
 
 /// The status for a verdict.
-fn verdict_status(verdict: Verdict) -> u8 {
+fn verdict_status(verdict: Verdict) -> u8
+    ensures { result ≡ verdict_status verdict }
+{
     match verdict {
         Verdict::Proved(_) => DONE,
         Verdict::Saturated => NO,
@@ -117,7 +126,9 @@ fn saturated_lines<O: Order>(
 }
 
 /// The lines of a text, each with its line feed.
-fn lines_of(alloc: Global, text: &[u8]) -> Result<Seq<Text>, AllocError> {
+fn lines_of(alloc: Global, text: &[u8]) -> Result<Seq<Text>, AllocError>
+    ensures { IfOk result (λ lines. joined lines ≡ text.now) }
+{
     let mut lines = Seq::new(alloc);
     for line in text.split_inclusive(|b| *b == b'\n') {
         lines.push(Text::from_bytes(alloc, line)?)?;
@@ -165,7 +176,9 @@ fn cause_line<O: Order>(
 }
 
 /// The line of a budget that is spent.
-fn budget_line(alloc: Global, counted: u32, budget: u32) -> Result<Text, AllocError> {
+fn budget_line(alloc: Global, counted: u32, budget: u32) -> Result<Text, AllocError>
+    ensures { IfOk result (λ text. text ≡ budget_line counted budget) }
+{
     let mut line = Text::from_bytes(alloc, b"% budget ")?;
     write_number(&mut line, counted)?;
     line.extend(b" of ")?;
@@ -175,7 +188,9 @@ fn budget_line(alloc: Global, counted: u32, budget: u32) -> Result<Text, AllocEr
 }
 
 /// The line of the limit on pairs that wait.
-fn pairs_line(alloc: Global, waiting: u32, new: u64, limit: u32) -> Result<Text, AllocError> {
+fn pairs_line(alloc: Global, waiting: u32, new: u64, limit: u32) -> Result<Text, AllocError>
+    ensures { IfOk result (λ text. text ≡ pairs_line waiting new limit) }
+{
     let mut line = Text::from_bytes(alloc, b"% pairs ")?;
     write_number(&mut line, waiting)?;
     line.extend(b" plus ")?;
@@ -187,7 +202,10 @@ fn pairs_line(alloc: Global, waiting: u32, new: u64, limit: u32) -> Result<Text,
 }
 
 /// The line of an overlap whose pair is too large, by its outer fact.
-fn overlap_line(alloc: Global, overlap: &Overlap, outer: &Equation) -> Result<Text, AllocError> {
+fn overlap_line(alloc: Global, overlap: &Overlap, outer: &Equation) -> Result<Text, AllocError>
+    requires { overlap.now.position.0 < nodes (side_of overlap.now.outer_side outer.now) }
+    ensures { IfOk result (λ text. (path : List ℕ) × IsPlaceOf (side_of overlap.now.outer_side outer.now) path overlap.now.position.0 × (text ≡ overlap_line overlap.now path)) }
+{
     let path = side_of(outer, overlap.outer_side).path(alloc, overlap.position)?;
     let mut line = Text::from_bytes(alloc, b"% size overlap ")?;
     write_number(&mut line, overlap.outer)?;
@@ -204,7 +222,9 @@ fn overlap_line(alloc: Global, overlap: &Overlap, outer: &Equation) -> Result<Te
 }
 
 /// The line of a goal whose next step is too large.
-fn goal_line(alloc: Global, goal: u32) -> Result<Text, AllocError> {
+fn goal_line(alloc: Global, goal: u32) -> Result<Text, AllocError>
+    ensures { IfOk result (λ text. text ≡ goal_line goal) }
+{
     let mut line = Text::from_bytes(alloc, b"% size goal ")?;
     write_number(&mut line, goal)?;
     line.extend(b"\n")?;
