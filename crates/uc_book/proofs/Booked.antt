@@ -10,14 +10,20 @@ use Rattle.uc_machine.specs.declared.task.Job.{Job}
 use Rattle.uc_book.specs.declared.token.Done.{Done}
 use Rattle.uc_machine.specs.State.{Opening, State, Out, out_at}
 use Rattle.uc_machine.specs.Draws.{Draws}
-use Rattle.uc_machine.specs.Effects.{reclaims}
+use Rattle.uc_machine.specs.Effects.{reclaims, closes}
 use Rattle.uc_machine.specs.Results.{IsResult}
-use Rattle.uc_machine.specs.Runs.{Reaches, starts, draws_on, commits_on, reclaims_on, recalls_on, audits_on, closes_on, Starts}
+use Rattle.uc_machine.specs.Runs.{Reaches, starts, draws_on, commits_on, reclaims_on, recalls_on, audits_on, closes_on, Starts, Audits, MayAudit, Closes, converges, has_large, has_stuck}
+use Rattle.uc_machine.specs.declared.task.Missing.{Missing}
+use Rattle.uc_machine.specs.declared.task.Outcome.{Outcome}
+use Rattle.uc_machine.specs.declared.task.Outcome.TheVariants.{Convergent, Missing as Lacks, Large, GoalUnsettled}
+use Rattle.uc_machine.specs.declared.event.Verdict.{Verdict}
+use Rattle.uc_machine.specs.declared.event.Verdict.TheVariants.{Saturated, LargeOverlap, LargeGoal}
+use Rattle.uc_book.specs.declared.answer.Audited.{Audited}
 use Rattle.uc_book.specs.Openings.{Opened, BookView, opening_of}
 use Rattle.uc_shelf.specs.Fronts.{IsOf}
 use Rattle.uc_shelf.specs.Sights.{Sight}
 use Rattle.uc_book.specs.declared.answer.Drawn.TheVariants.{Task as DrawnTask, Idle as DrawnIdle, Drained as DrawnDrained, Closed as DrawnClosed}
-use Rattle.uc_book.specs.Answers.{reply_of, IfTask, IsTaskOf, IsReclaimed, IsCommitted, IsRight}
+use Rattle.uc_book.specs.Answers.{reply_of, IfTask, IsTaskOf, IsReclaimed, IsCommitted, IsRight, audit_reply_of, verdict_by}
 use Rattle.uc_machine.specs.Origins.{OriginsAreKnown, CanCompute}
 use Rattle.uc_book.proofs.GoalCount.{as_many_goals}
 use Rattle.uc_machine.proofs.Runs.{kept_reaches}
@@ -63,3 +69,26 @@ task_known m b w u (Ok (DrawnTask t)) reaches known of same a h =
 task_known m b w u (Ok (DrawnIdle n)) reaches known of same a h = tt
 task_known m b w u (Ok DrawnDrained) reaches known of same a h = tt
 task_known m b w u (Ok (DrawnClosed v)) reaches known of same a h = tt
+
+pub reclaimed_book : {E : Type 0} (m : Meaning) (o : Opened) (w n : ℕ) (p q : Parts) (r : Result (Unit {0}) E) → IsBook m o p → IfOk r (λ _. IsReclaimed (state_of p) w n (state_of q)) → OnErr r (q ≡ p) → Fit o.shelf q → HasRoom q → IsBook m o q
+reclaimed_book m o w n p q (Ok x) b a e f r = record { fit = f; room = r; reaches = reclaimed_reaches m (opening_of o) w n (state_of p) (state_of q) b.reaches a; budget = b.budget }
+reclaimed_book m o w n p q (Err x) b a e f r = same_book m o p q b (ap state_of e) f r
+
+pub committed_book : {E : Type 0} (m : Meaning) (o : Opened) (w : ℕ) (d : Done) (p q : Parts) (r : Result Receipt E) → IsBook m o p → IsRight m d → d.opening ≡ o → IfOk r (λ receipt. IsCommitted (opening_of o) (state_of p) w d receipt (state_of q)) → OnErr r ((state_of q ≡ state_of p) × (q.facts.front ≡ p.facts.front)) → Fit o.shelf q → HasRoom q → IsBook m o q
+committed_book m o w d p q (Ok x) b right of a e f r = record { fit = f; room = r; reaches = committed_reaches m o w d x (state_of p) (state_of q) b.reaches right of a; budget = b.budget }
+committed_book m o w d p q (Err x) b right of a e f r = same_book m o p q b e.0 f r
+
+pub audited_book : {E : Type 0} (m : Meaning) (o : Opened) (missing : Missing) (p q : Parts) (r : Result Audited E) → IsBook m o p → MayAudit m (opening_of o) (state_of p) missing → IfOk r (λ a. Audits (opening_of o) missing.fact (state_of p) (audit_reply_of a) (state_of q)) → OnErr r ((state_of q ≡ state_of p) × (q.facts.front ≡ p.facts.front)) → Fit o.shelf q → HasRoom q → IsBook m o q
+audited_book m o missing p q (Ok x) b may a e f r = record { fit = f; room = r; reaches = audits_on missing may b.reaches a; budget = b.budget }
+audited_book m o missing p q (Err x) b may a e f r = same_book m o p q b e.0 f r
+
+-- the verdict of a close is that of its outcome
+pub closed_by : (s u : State) (outcome : Outcome) (v : Verdict) → verdict_by outcome ≡ Some v → u ≡ closes 0 v s → Closes s outcome v u
+closed_by s u (Convergent facts) v e c = (let same : Saturated ≡ v = cc in subst (λ x. Closes s (Convergent facts) x u) same (subst (Closes s (Convergent facts) Saturated) (sym (c ∙ ap (λ x. closes 0 x s) (sym same))) converges))
+closed_by s u (Lacks all) v e c = absurd (cc)
+closed_by s u (Large a) v e c = (let same : LargeOverlap a ≡ v = cc in subst (λ x. Closes s (Large a) x u) same (subst (Closes s (Large a) (LargeOverlap a)) (sym (c ∙ ap (λ x. closes 0 x s) (sym same))) has_large))
+closed_by s u (GoalUnsettled g) v e c = (let same : LargeGoal g ≡ v = cc in subst (λ x. Closes s (GoalUnsettled g) x u) same (subst (Closes s (GoalUnsettled g) (LargeGoal g)) (sym (c ∙ ap (λ x. closes 0 x s) (sym same))) has_stuck))
+
+pub none_left : (ts : List Out) → ((0 < length ts) → ⊥) → ts ≡ []
+none_left [] h = refl
+none_left (t ∷ ts) h = absurd (h (omega arith))

@@ -99,7 +99,11 @@ none_more (r ∷ rows) zero (suc k) d l h = h
 none_more (r ∷ rows) (suc j) zero d l h = h
 none_more (r ∷ rows) (suc j) (suc k) d l h = none_more rows j k d (omega (arith, l)) h
 
+none_unmet_one : (j n : ℕ) (rows : List FactRow) → NoneUnmetBelow n rows → NoneUnmetBelow n (change dead_row rows j)
+none_unmet_one j n rows h k d l m =
+    let m2 : k < length rows = subst (λ z. k < z) (length-change dead_row rows j) m in
+    none_more rows j k d m2 (h k d l m2)
+
 pub none_unmet : (js : List ℕ) (n : ℕ) (rows : List FactRow) → NoneUnmetBelow n rows → NoneUnmetBelow n (rows_by js rows)
 none_unmet [] n rows h = h
-none_unmet (j ∷ js) n rows h = none_unmet js n (change dead_row rows j)
-(λ k d l m. (let m2 : k < length rows = subst (λ z. k < z) (length-change dead_row rows j) m in none_more rows j k d m2 (h k d l m2)))
+none_unmet (j ∷ js) n rows h = none_unmet js n (change dead_row rows j) (none_unmet_one j n rows h)

@@ -53,19 +53,23 @@ all_die killer (j ∷ js) s =
     ∙ ap (λ z. with_facts s (s.entries ++ deaths_by killer (j ∷ js)) (met_by (j ∷ js) s.meetings) z (woken_by js (map wakes s.goals))) p
     ∙ ap (λ z. with_facts s (s.entries ++ deaths_by killer (j ∷ js)) (met_by (j ∷ js) s.meetings) (s.pairs ++ map (revived s.entries) (j ∷ js)) z) g
 
+or_or : (a b c : Bool) → a || (b || c) ≡ (a || b) || c
+or_or true b c = refl
+or_or false b c = refl
+
+-- a fact is dead where it is so by the entries before or by those behind
+pub dead_either : (es ds : List Entry) (n : ℕ) → is_dead (es ++ ds) n ≡ is_dead es n || is_dead ds n
+dead_either [] ds n = refl
+dead_either (Born f ∷ es) ds n = dead_either es ds n
+dead_either (Dies f k ∷ es) ds n = ap (λ z. (f == n) || z) (dead_either es ds n) ∙ or_or (f == n) (is_dead es n) (is_dead ds n)
+
 -- a fact's death is that of no other one
 pub dead-dies : (es : List Entry) (killer j n : ℕ) → is_dead (es ++ Dies j killer ∷ []) n ≡ is_dead es n || (j == n)
-dead-dies [] killer j n = or-false (j == n)
+dead-dies es killer j n = dead_either es (Dies j killer ∷ []) n ∙ ap (λ z. is_dead es n || z) (or-false (j == n))
   where
     or-false : (b : Bool) → b || false ≡ b
     or-false true = refl
     or-false false = refl
-dead-dies (Born f ∷ es) killer j n = dead-dies es killer j n
-dead-dies (Dies f k ∷ es) killer j n = ap (λ z. (f == n) || z) (dead-dies es killer j n) ∙ or_or (f == n) (is_dead es n) (j == n)
-  where
-    or_or : (a b c : Bool) → a || (b || c) ≡ (a || b) || c
-    or_or true b c = refl
-    or_or false b c = refl
 
 alive_on : (es : List Entry) (killer j : ℕ) (ks : List ℕ) → NotIn j ks → alive_of (es ++ Dies j killer ∷ []) ks ≡ alive_of es ks
 alive_on es killer j [] n = refl

@@ -25,7 +25,7 @@ queue_count n (p ∷ ps) =
     let h : length (queue_from (suc n) ps) ≡ count_by waits ps = queue_count (suc n) ps in
     elim (cases_Bool (waits p)) as (λ _. length (queue_from n (p ∷ ps)) ≡ count_by waits (p ∷ ps)) [
       | inl e ↦ rw (c, e) (omega (arith, h))
-      | inr e ↦ rw (c, e) h
+      | inr e ↦ rw (c, e) (omega (arith, h))
     ]
 
 count-map : (f : Formed → Pair) (fs : List Formed) → count_by waits (map f fs) ≡ count_by (λ g. waits (f g)) fs

@@ -48,7 +48,7 @@ pub row_at : (rs : List PairRow) (cs : List Condition) (n : ℕ) (p : Pair) (d :
 row_at [] cs n p d e = absurd (cc)
 row_at (r ∷ rs) [] n p d e = absurd (cc)
 row_at (r ∷ rs) (c ∷ cs) zero p d e = let h : pair_of r c ≡ p = cc in (omega arith, ap (λ (z : Pair). z.origin) h, ap (λ (z : Pair). z.weight) h)
-row_at (r ∷ rs) (c ∷ cs) (suc n) p d e = let h = row_at rs cs n p d e in (omega (arith, h.0), h.1.0, h.1.1)
+row_at (r ∷ rs) (c ∷ cs) (suc n) p d e = let h = row_at rs cs n p d e in (omega (arith, h.0), h.1, h.2)
 
 -- THE QUEUE
 
@@ -183,6 +183,7 @@ state_with p = record { entries = []; meetings = []; pairs = p.pairs; draws = p.
 
 -- what the next draw takes is a pair that waits
 pub head_place : (p : PairsView) (q : Place) → head_in p ≡ Some q → IsPlace 0 p.pairs q
+unfolding state_with
 head_place p q e = peek_is (state_with p) q e
 
 is_waits : (c : Condition) → is_waiting c ≡ true → c ≡ Waiting

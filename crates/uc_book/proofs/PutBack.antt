@@ -65,3 +65,8 @@ recall_first t ts s e =
 
 pub recall_none : (s : State) → s.out ≡ [] → recalls s ≡ s
 recall_none s e = ap (λ o. each reclaims o s) e
+
+-- the first of the tasks out is put back
+pub recall_stands : (ts : List TaskRow) (t : Out) (s u : State) → StandsAt ts 0 t → s.out ≡ map out_of ts → u ≡ reclaims t s → recalls u ≡ recalls s
+recall_stands [] t s u a e h = (let l : 0 < 0 = a.inside in absurd (omega arith))
+recall_stands (r ∷ ts) t s u a e h = ap recalls h ∙ recall_first t (map out_of ts) s (e ∙ ap (λ x. x ∷ map out_of ts) (a.is r))

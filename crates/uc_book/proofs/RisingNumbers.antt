@@ -68,7 +68,7 @@ pub found_dead : (killer : ℕ) (ks : List ℕ) (x : ℕ) (r : Result ℕ ℕ)
     → MatchResult r (λ i. (i < length ks) × (get_or ks i 0 ≡ x)) (λ i. (i ≤ length ks) × ((k : ℕ) → k < i → get_or ks k 0 < x) × ((k : ℕ) → i ≤ k → k < length ks → x < get_or ks k 0))
     → is_ok r ≡ is_dead (deaths_by killer ks) x
 found_dead killer ks x (Ok i) h = sym (ap (λ z. is_dead (deaths_by killer ks) z) (sym h.1) ∙ dead_at killer ks i h.0)
-found_dead killer ks x (Err i) h = sym (dead_not killer ks x (λ k l e. by_place i k l e h.1.0 h.1.1))
+found_dead killer ks x (Err i) h = sym (dead_not killer ks x (λ k l e. by_place i k l e h.1 h.2))
   where
     by_place : (i k : ℕ) → k < length ks → get_or ks k 0 ≡ x → ((k : ℕ) → k < i → get_or ks k 0 < x) → ((k : ℕ) → i ≤ k → k < length ks → x < get_or ks k 0) → ⊥
     by_place i k l e low high = elim (cases_lt k i) as (λ _. ⊥) [

@@ -66,6 +66,14 @@ IsFor (Meet i) (Stale k) = ⊤
 IsFor (Meet i) (Met ks fs) = AreRising 0 ks × AreBelow i ks
 IsFor j f = ⊥
 
+-- the result is that of a pair
+abbrev pub IsForPair : Finding → Type 0
+IsForPair (Ends a b stop) = ⊥
+IsForPair (Joined why) = ⊤
+IsForPair (Kept f) = ⊤
+IsForPair (Stale k) = ⊥
+IsForPair (Met ks fs) = ⊥
+
 -- the result is that of a goal
 abbrev pub HasEnds : Finding → Type 0
 HasEnds (Ends a b stop) = ⊤

@@ -106,3 +106,12 @@ pub record SameCounts (p q : Parts) : Type 0 where
   pub verdict : q.verdict ≡ p.verdict
   pub numbers : q.numbers ≡ p.numbers
   pub history : q.history ≡ p.history
+
+-- the state is the same, and there is no less room
+pub record IsSteady (p q : Parts) : Type 0 where
+  pub state : state_of q ≡ state_of p
+  pub front : q.facts.front ≡ p.facts.front
+  pub tasks : q.tasks.items ≡ p.tasks.items
+  pub next : q.next ≡ p.next
+  pub capacity : vec_capacity p.history ≤ vec_capacity q.history
+  pub spare : p.pairs.spare ≤ q.pairs.spare

@@ -175,7 +175,7 @@ impl<'a, O: Order> Book<'a, O> {
         ensures none { self.new.state.out ≡ [] }
         ensures book { IsSameBook self.old self.new }
     {
-        while self.has_task_out() {
+        'tasks: while self.has_task_out() {
             self.put_first_back();
         }
     }

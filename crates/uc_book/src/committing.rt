@@ -1,6 +1,6 @@
 //! Commits: what the result of a task changes.
 
-ghost use Rattle.std.specs.Prelude.{◌≡◌, ⊤, ◌+◌, ◌<◌, ◌≤◌, ◌^◌, ◌++◌, ◌∷◌, [], true, false, nat_lt, length, remove, IfOk, IfErr, OnOk, OnErr, IfSome, MatchOption, Some, None, vec_len, vec_capacity};
+ghost use Rattle.std.specs.Prelude.{◌≡◌, ⊤, ◌+◌, ◌<◌, ◌≤◌, ◌^◌, ◌++◌, ◌∷◌, [], true, false, IsTrue, ◌↔◌, nat_lt, length, remove, IfOk, IfErr, OnOk, OnErr, IfSome, MatchOption, Some, None, vec_len, vec_capacity};
 ghost use Rattle.uc_fact.specs.declared.fact.Fact.{Fact as AnyFact};
 ghost use Rattle.uc_ledger.specs.declared.ledger.State.TheVariants.{Done as IsDone};
 ghost use Rattle.uc_shelf.specs.Fronts.{IsOf};
@@ -8,22 +8,23 @@ ghost use Rattle.uc_shelf.specs.declared.entry.Entry.TheVariants.{Born};
 ghost use Rattle.uc_machine.specs.declared.event.Verdict.TheVariants.{Proved};
 ghost use Rattle.uc_machine.specs.declared.event.GoalEnd.TheVariants.{Met as EndsMet};
 ghost use Rattle.uc_machine.specs.declared.task.Finding.TheVariants.{Kept};
-ghost use Rattle.uc_machine.specs.State.{Opening, Out, is_draw_what};
+ghost use Rattle.uc_machine.specs.declared.task.Job.TheVariants.{Meet};
+ghost use Rattle.uc_machine.specs.State.{Opening, Out};
 ghost use Rattle.uc_machine.specs.Effects.{accepts, closes, stages, turns, publishes};
 ghost use Rattle.uc_machine.specs.Commits.{Commits, IsOutTo, end_word};
 ghost use Rattle.uc_book.specs.Openings.{opening_of};
 ghost use Rattle.uc_book.specs.Answers.{IsCommitted, IsNotOut, IsRefused};
 ghost use Rattle.uc_book.specs.FactRows.{HasOneMore};
 ghost use Rattle.uc_book.specs.TaskRows.{StandsAt};
-ghost use Rattle.uc_book.specs.Parts.{state_of, closings, Fit, HasRoom, SameSubjects, SameCounts};
+ghost use Rattle.uc_book.specs.Parts.{state_of, closings, Fit, HasRoom, IsSubjectOut, IsSteady, SameSubjects, SameCounts};
 ghost use Rattle.uc_book.specs.Ending.{CanEnd, AnyAt, CanAccept, HasEnded};
-ghost use Rattle.uc_book.specs.Committing.{stage_by, commit_word, HasGoal, IsGoalJob, IsPairJob, IsFor, HasEnds, HasNoEnds};
+ghost use Rattle.uc_book.specs.Committing.{stage_by, commit_word, HasGoal, IsGoalJob, IsPairJob, IsFor, IsForPair, HasEnds, HasNoEnds};
 
 use crate::answer::{CommitFault, Receipt};
 use crate::chains::end_of;
 use crate::opened::Opened;
 use crate::parts::Parts;
-use crate::tasks::{place_of, same_job};
+use crate::tasks::{TaskRow, place_of, same_job};
 use crate::token::Done;
 use std::alloc::{AllocError, Global};
 use std::sync::Wait;
@@ -85,6 +86,17 @@ fn goal_event(job: &Job, goal: u32, steps: u32, end: GoalEnd) -> Happening
     }
 }
 
+/// Whether the task of a row, but for its ticket, is that of a result and is out to this worker.
+fn is_task_of(shelf: &Shelf, row: &TaskRow, worker: u32, done: &Done) -> bool
+    requires row { IsOf shelf.now row.now.front }
+    requires done { IsOf shelf.now done.now.front }
+    ensures { IsTrue result ↔ ((row.now.worker ≡ worker) × (row.now.job ≡ done.now.job) × (row.now.front.entries ≡ done.now.front.entries)) }
+{
+    row.worker == worker
+        && same_job(&row.job, &done.job)
+        && shelf.same(&row.front, &done.front)
+}
+
 impl Parts {
     /// Takes the result of a task in, where it is out to the worker. It grows first and changes last.
     pub(crate) fn commit<R: Wait>(
@@ -129,11 +141,7 @@ impl Parts {
         ensures some { IfSome result (λ at. (t : Out) × StandsAt self.now.tasks.items at t × IsOutTo (state_of self.now) worker done.now.ticket done.now.job done.now.front.entries t) }
     {
         let at = place_of(&self.tasks, done.ticket)?;
-        let row = &self.tasks[at];
-        if row.worker == worker
-            && same_job(&row.job, &done.job)
-            && shelf.same(&row.front, &done.front)
-        {
+        if is_task_of(shelf, &self.tasks[at], worker, done) {
             Some(at)
         } else {
             None
@@ -194,28 +202,78 @@ impl Parts {
         ensures fit { Fit opening.now.shelf self.new }
         ensures room { HasRoom self.new }
     {
-        match (job, found) {
-            (Job::Join { pair, .. }, Finding::Joined(_)) => {
-                self.end_pair(at, *pair, Happening::CommitJoined { pair: *pair });
+        match job {
+            Job::Join { pair, .. } => self.take_pair(rt, alloc, shelf, at, *pair, found),
+            Job::Meet(fact) => self.take_meeting(rt, alloc, shelf, opening, at, *fact, found),
+            Job::Goal { .. } | Job::More { .. } => unreachable!(),
+        }
+    }
+
+    /// Takes in what was found for a pair, where no verdict stands.
+    fn take_pair<R: Wait>(
+        &mut self,
+        rt: &R,
+        alloc: Global,
+        shelf: &Shelf,
+        at: usize,
+        pair: u64,
+        found: &Finding,
+    ) -> Result<(), AllocError>
+        requires can { (o : Opening) × CanEnd shelf.now o self.old }
+        requires open { self.old.verdict ≡ None }
+        requires found { IsForPair found.now }
+        requires at { AnyAt self.old at }
+        requires job { (t : Out) → StandsAt self.old.tasks.items at t → IsPairJob t.job pair }
+        ensures ok { OnOk result ((o : Opening) (t : Out) → StandsAt self.old.tasks.items at t → Commits o t found.now (state_of self.old) (state_of self.new)) }
+        ensures err { OnErr result ((state_of self.new ≡ state_of self.old) × (self.new.facts.front ≡ self.old.facts.front)) }
+        ensures fit { Fit shelf.now self.new }
+        ensures room { HasRoom self.new }
+    {
+        match found {
+            Finding::Joined(_) => {
+                self.end_pair(at, pair, Happening::CommitJoined { pair });
                 Ok(())
             }
-            (Job::Join { pair, .. }, Finding::Kept(fact)) => {
-                self.keep(rt, alloc, shelf, at, *pair, fact)
-            }
-            (Job::Meet(fact), Finding::Stale(killer)) => {
-                self.bury(rt, alloc, shelf, opening, at, *fact, *killer)
-            }
-            (Job::Meet(fact), Finding::Met { kills, overlaps }) => self.meet(
+            Finding::Kept(fact) => self.keep(rt, alloc, shelf, at, pair, fact),
+            Finding::Ends { .. } | Finding::Stale(_) | Finding::Met { .. } => unreachable!(),
+        }
+    }
+
+    /// Takes in what was found for a fact that was to meet the others, where no verdict stands.
+    fn take_meeting<R: Wait>(
+        &mut self,
+        rt: &R,
+        alloc: Global,
+        shelf: &Shelf,
+        opening: &Opened,
+        at: usize,
+        fact: u32,
+        found: &Finding,
+    ) -> Result<(), AllocError>
+        requires shelf { shelf.now ≡ opening.now.shelf }
+        requires can { CanEnd opening.now.shelf (opening_of opening.now) self.old }
+        requires open { self.old.verdict ≡ None }
+        requires found { IsFor (Meet fact) found.now }
+        requires at { AnyAt self.old at }
+        requires job { (t : Out) → StandsAt self.old.tasks.items at t → t.job ≡ Meet fact }
+        ensures ok { OnOk result ((t : Out) → StandsAt self.old.tasks.items at t → Commits (opening_of opening.now) t found.now (state_of self.old) (state_of self.new)) }
+        ensures err { OnErr result ((state_of self.new ≡ state_of self.old) × (self.new.facts.front ≡ self.old.facts.front)) }
+        ensures fit { Fit opening.now.shelf self.new }
+        ensures room { HasRoom self.new }
+    {
+        match found {
+            Finding::Stale(killer) => self.bury(rt, alloc, shelf, opening, at, fact, *killer),
+            Finding::Met { kills, overlaps } => self.meet(
                 rt,
                 alloc,
                 shelf,
                 opening,
                 at,
-                *fact,
+                fact,
                 kills.as_slice(),
                 overlaps.as_slice(),
             ),
-            _ => unreachable!(),
+            Finding::Ends { .. } | Finding::Joined(_) | Finding::Kept(_) => unreachable!(),
         }
     }
 
@@ -223,7 +281,7 @@ impl Parts {
     fn end_pair(&mut self, at: usize, pair: u64, what: Happening)
         requires at { AnyAt self.old at }
         requires job { (t : Out) → StandsAt self.old.tasks.items at t → IsPairJob t.job pair }
-        requires what { is_draw_what what ≡ false }
+        requires out { (t : Out) → StandsAt self.old.tasks.items at t → IsSubjectOut self.old t.worker t.job }
         requires can { (t : Out) → StandsAt self.old.tasks.items at t → CanAccept self.old t }
         ensures state { (t : Out) → StandsAt self.old.tasks.items at t → state_of self.new ≡ turns IsDone pair (accepts t what (state_of self.old)) }
         ensures rest { HasEnded self.old at self.new }
@@ -235,7 +293,7 @@ impl Parts {
         self.pairs.finish(pair, worker);
     }
 
-    /// A fact is kept: it is published at the end of a copy of the front.
+    /// A fact is kept: it is published at the end of a copy of the front. It grows first and changes last.
     fn keep<R: Wait>(
         &mut self,
         rt: &R,
@@ -254,17 +312,37 @@ impl Parts {
         ensures fit { Fit shelf.now self.new }
         ensures room { HasRoom self.new }
     {
-        self.facts.reserve(1)?;
-        let mut front = self.facts.front().copy(alloc)?;
-        if front.len() >= MAX_ENTRIES {
-            return Err(AllocError);
-        }
         let weight = fact.left.nodes() + fact.right.nodes();
-        shelf.publish(rt, alloc, &mut front, Entry::Born(fact.copy(alloc)?))?;
+        let copy = fact.copy(alloc)?;
+        let front = self.with_birth(rt, alloc, shelf, copy)?;
         let number = self.facts.count() as u32;
         self.end_pair(at, pair, Happening::CommitKept { pair, fact: number });
         self.publish(front, weight);
         Ok(())
+    }
+
+    /// A copy of the front with the birth of a fact behind it, for which there is room among the facts.
+    pub(crate) fn with_birth<R: Wait>(
+        &mut self,
+        rt: &R,
+        alloc: Global,
+        shelf: &Shelf,
+        fact: Fact,
+    ) -> Result<Front, AllocError>
+        requires { IsOf shelf.now self.old.facts.front }
+        ensures steady { IsSteady self.old self.new }
+        ensures of { IfOk result (λ f. IsOf shelf.now f) }
+        ensures entries { IfOk result (λ f. f.entries ≡ self.old.facts.front.entries ++ Born fact ∷ []) }
+        ensures few { IfOk result (λ f. length f.entries ≤ 2 ^ 31) }
+        ensures room { OnOk result (1 ≤ self.new.facts.room) }
+    {
+        if self.facts.front().len() >= MAX_ENTRIES {
+            return Err(AllocError);
+        }
+        self.facts.reserve(1)?;
+        let mut front = self.facts.front().copy(alloc)?;
+        shelf.publish(rt, alloc, &mut front, Entry::Born(fact))?;
+        Ok(front)
     }
 
     /// Takes over a front with one fact more, which is Unmet; goals that rest become Due.
@@ -333,6 +411,7 @@ impl Parts {
         requires at { AnyAt self.old at }
         requires can { (t : Out) → StandsAt self.old.tasks.items at t → CanAccept self.old t }
         requires room { vec_len self.old.history + 1 < vec_capacity self.old.history }
+        requires open { self.old.verdict ≡ None }
         requires job { IsGoalJob job.now goal }
         ensures met { (t : Out) → StandsAt self.old.tasks.items at t → met ≡ true → state_of self.new ≡ closes t.worker (Proved goal) (accepts t (commit_word job.now goal steps EndsMet) (state_of self.old)) }
         ensures apart { (t : Out) → StandsAt self.old.tasks.items at t → met ≡ false → state_of self.new ≡ stages (stage_by stop (nat_lt t.front (length self.old.facts.front.entries))) goal (accepts t (commit_word job.now goal steps (end_word stop)) (state_of self.old)) }

@@ -1,16 +1,15 @@
 //! Draws: the first of the rules that holds gives the answer.
 
-ghost use Rattle.std.specs.Prelude.{◌≡◌, ◌≢◌, ℕ, ◌+◌, ◌<◌, ◌≤◌, ◌^◌, [], true, IsTrue, ◌↔◌, length, IfOk, OnErr, MatchOption, None, vec_len, vec_capacity};
+ghost use Rattle.std.specs.Prelude.{◌≡◌, ◌≢◌, ℕ, ◌+◌, ◌<◌, ◌≤◌, ◌^◌, [], true, false, IsTrue, length, IfOk, OnOk, OnErr, MatchOption, None, vec_len, vec_capacity};
 ghost use Rattle.uc_machine.specs.declared.task.Job.TheVariants.{More};
 ghost use Rattle.uc_machine.specs.Lists.{first};
 ghost use Rattle.uc_machine.specs.State.{Opening, State, Target, is_continued, first_continued, queue};
 ghost use Rattle.uc_machine.specs.Effects.{hands_out, next_ticket};
-ghost use Rattle.uc_machine.specs.Draws.{Reply, Draws, NoneUnmet, IsLate, HasBudget, IsSpent, Waits, NothingWaits};
+ghost use Rattle.uc_machine.specs.Draws.{Reply, Draws, NoneDue, NoneUnmet, IsLate, HasBudget, IsSpent, Waits, NothingWaits};
 ghost use Rattle.uc_book.specs.Openings.{opening_of};
 ghost use Rattle.uc_book.specs.Answers.{reply_of, IfTask};
-ghost use Rattle.uc_book.specs.PairRows.{head_in, IsHead};
-ghost use Rattle.uc_book.specs.Parts.{state_of, Fit, HasRoom, IsAtHead, SameSubjects};
-ghost use Rattle.uc_book.specs.Drawing.{AreJobs, IsSound, CanGive};
+ghost use Rattle.uc_book.specs.Parts.{state_of, Fit, HasRoom, IsAtHead, IsSteady, SameSubjects};
+ghost use Rattle.uc_book.specs.Drawing.{AreJobs, IsSound, HasRoomToGive, CanGive};
 
 use crate::answer::Drawn;
 use crate::goals::Goals;
@@ -19,7 +18,6 @@ use crate::parts::Parts;
 use crate::tasks::TaskRow;
 use crate::token::Task;
 use std::alloc::{AllocError, Global};
-use uc_fact::Origin;
 use uc_machine::{Job, Verdict};
 use uc_shelf::Front;
 
@@ -57,27 +55,104 @@ impl Parts {
         ensures fit { Fit opening.shelf self.new }
         ensures room { HasRoom self.new }
     {
-        if let Some(verdict) = self.verdict {
-            return Ok(Drawn::Closed(verdict));
+        match self.verdict {
+            Some(verdict) => Ok(Drawn::Closed(verdict)),
+            None => self.draw_open(alloc, opening, worker),
         }
+    }
+
+    /// What comes next where no verdict stands: a goal that is Due, else what the other rules give.
+    fn draw_open(
+        &mut self,
+        alloc: Global,
+        opening: Opened,
+        worker: u32,
+    ) -> Result<Drawn, AllocError>
+        requires open { self.old.verdict ≡ None }
+        requires sound { IsSound (opening_of opening) self.old }
+        requires fit { Fit opening.shelf self.old }
+        requires room { HasRoom self.old }
+        ensures drawn { IfOk result (λ d. Draws (opening_of opening) worker (state_of self.old) (reply_of worker d) (state_of self.new)) }
+        ensures task { IfOk result (λ d. IfTask d (λ t. (t.opening ≡ opening) × (t.front ≡ self.old.facts.front))) }
+        ensures err { OnErr result (state_of self.new ≡ state_of self.old) }
+        ensures front { self.new.facts.front ≡ self.old.facts.front }
+        ensures fit { Fit opening.shelf self.new }
+        ensures room { HasRoom self.new }
+    {
+        self.make_room()?;
+        let fronts = self.copy_fronts(alloc)?;
+        match self.goals.due_jobs(alloc)? {
+            Some(jobs) => Ok(Drawn::Task(self.give(worker, opening, fronts, jobs))),
+            None => self.draw_fact(alloc, opening, worker, fronts),
+        }
+    }
+
+    /// Where no goal is Due: a fact that is Unmet, else what the other rules give.
+    fn draw_fact(
+        &mut self,
+        alloc: Global,
+        opening: Opened,
+        worker: u32,
+        fronts: (Front, Front),
+    ) -> Result<Drawn, AllocError>
+        requires due { NoneDue (state_of self.old) }
+        requires can { CanGive opening.shelf (opening_of opening) self.old }
+        requires events { HasRoomToGive self.old }
+        requires front { fronts.0 ≡ self.old.facts.front }
+        requires kept { fronts.1 ≡ self.old.facts.front }
+        ensures drawn { IfOk result (λ d. Draws (opening_of opening) worker (state_of self.old) (reply_of worker d) (state_of self.new)) }
+        ensures task { IfOk result (λ d. IfTask d (λ t. (t.opening ≡ opening) × (t.front ≡ self.old.facts.front))) }
+        ensures err { OnErr result (state_of self.new ≡ state_of self.old) }
+        ensures front { self.new.facts.front ≡ self.old.facts.front }
+        ensures fit { Fit opening.shelf self.new }
+        ensures room { HasRoom self.new }
+    {
+        match self.facts.first_unmet() {
+            Some(fact) => {
+                let jobs = (Job::Meet(fact), Job::Meet(fact));
+                Ok(Drawn::Task(self.give(worker, opening, fronts, jobs)))
+            }
+            None => self.draw_behind(alloc, opening, worker, fronts),
+        }
+    }
+
+    /// Where no fact is Unmet either: orphans leave the queue, and then the last rules give the answer.
+    fn draw_behind(
+        &mut self,
+        alloc: Global,
+        opening: Opened,
+        worker: u32,
+        fronts: (Front, Front),
+    ) -> Result<Drawn, AllocError>
+        requires met { NoneUnmet (state_of self.old) }
+        requires can { CanGive opening.shelf (opening_of opening) self.old }
+        requires events { HasRoomToGive self.old }
+        requires front { fronts.0 ≡ self.old.facts.front }
+        requires kept { fronts.1 ≡ self.old.facts.front }
+        ensures drawn { IfOk result (λ d. Draws (opening_of opening) worker (state_of self.old) (reply_of worker d) (state_of self.new)) }
+        ensures task { IfOk result (λ d. IfTask d (λ t. (t.opening ≡ opening) × (t.front ≡ self.old.facts.front))) }
+        ensures err { OnErr result (state_of self.new ≡ state_of self.old) }
+        ensures front { self.new.facts.front ≡ self.old.facts.front }
+        ensures fit { Fit opening.shelf self.new }
+        ensures room { HasRoom self.new }
+    {
+        let has_budget = self.counted + self.reserved < opening.budget();
+        let more = more_jobs(alloc, &mut self.goals, has_budget)?;
+        self.drop_orphans(worker);
+        Ok(self.draw_late(worker, opening, fronts, more))
+    }
+
+    /// Makes room for a task, and for the events of its draw, of its end and of a close.
+    fn make_room(&mut self) -> Result<(), AllocError>
+        ensures steady { IsSteady self.old self.new }
+        ensures room { OnOk result (HasRoomToGive self.new) }
+    {
         if self.tasks.len() >= u32::MAX as usize - 1 {
             return Err(AllocError);
         }
         self.tasks.reserve(1)?;
         let events = self.pairs.waiting() + self.tasks.len() + 3;
-        self.history.reserve(events)?;
-        let fronts = self.copy_fronts(alloc)?;
-        if let Some(jobs) = self.goals.due_jobs(alloc)? {
-            return Ok(Drawn::Task(self.give(worker, opening, fronts, jobs)));
-        }
-        if let Some(fact) = self.facts.first_unmet() {
-            let jobs = (Job::Meet(fact), Job::Meet(fact));
-            return Ok(Drawn::Task(self.give(worker, opening, fronts, jobs)));
-        }
-        let has_budget = self.counted + self.reserved < opening.budget();
-        let more = more_jobs(alloc, &mut self.goals, has_budget)?;
-        self.drop_orphans(worker);
-        Ok(self.draw_late(worker, opening, fronts, more))
+        self.history.reserve(events)
     }
 
     /// The front of all entries, for a task and for the book.
@@ -166,17 +241,44 @@ impl Parts {
         ensures fit { Fit opening.shelf self.new }
         ensures room { HasRoom self.new }
     {
-        if let Some(jobs) = more {
-            return Drawn::Task(self.give(worker, opening, fronts, jobs));
+        match more {
+            Some(jobs) => Drawn::Task(self.give(worker, opening, fronts, jobs)),
+            None => self.draw_last(worker, opening, fronts),
         }
-        let head = self.pairs.head();
+    }
+
+    /// The pair at the queue's head, where a unit may be drawn; then no goal is Continued.
+    fn draw_last(&mut self, worker: u32, opening: Opened, fronts: (Front, Front)) -> Drawn
+        requires late { IsLate (state_of self.old) }
+        requires can { CanGive opening.shelf (opening_of opening) self.old }
+        requires front { fronts.0 ≡ self.old.facts.front }
+        requires kept { fronts.1 ≡ self.old.facts.front }
+        requires goal { HasBudget (opening_of opening) (state_of self.old) → first_continued (state_of self.old) ≡ None }
+        ensures drawn { Draws (opening_of opening) worker (state_of self.old) (reply_of worker result) (state_of self.new) }
+        ensures task { IfTask result (λ t. (t.opening ≡ opening) × (t.front ≡ self.old.facts.front)) }
+        ensures front { self.new.facts.front ≡ self.old.facts.front }
+        ensures fit { Fit opening.shelf self.new }
+        ensures room { HasRoom self.new }
+    {
         if self.counted + self.reserved < opening.budget() {
-            return self.draw_pair(worker, opening, fronts, head);
+            return self.draw_pair(worker, opening, fronts);
         }
-        if head.is_some() || self.goals.first_continued().is_some() {
+        if self.has_waiting() {
             return self.draw_spent(worker);
         }
         self.draw_nothing()
+    }
+
+    /// Whether a goal is Continued or the queue isn't empty.
+    fn has_waiting(&mut self) -> bool
+        ensures waits { IsTrue result → Waits (state_of self.old) }
+        ensures none { result ≡ false → NothingWaits (state_of self.old) }
+        ensures same { self.new ≡ self.old }
+    {
+        if self.goals.first_continued().is_some() {
+            return true;
+        }
+        self.pairs.head().is_some()
     }
 
     /// The pair at the queue's head, where one waits.
@@ -185,7 +287,6 @@ impl Parts {
         worker: u32,
         opening: Opened,
         fronts: (Front, Front),
-        head: Option<(u64, Origin)>,
     ) -> Drawn
         requires late { IsLate (state_of self.old) }
         requires can { CanGive opening.shelf (opening_of opening) self.old }
@@ -193,14 +294,13 @@ impl Parts {
         requires kept { fronts.1 ≡ self.old.facts.front }
         requires goal { first_continued (state_of self.old) ≡ None }
         requires budget { HasBudget (opening_of opening) (state_of self.old) }
-        requires head { MatchOption head (head_in self.old.pairs ≡ None) (λ h. IsHead self.old.pairs h.0 h.1) }
         ensures drawn { Draws (opening_of opening) worker (state_of self.old) (reply_of worker result) (state_of self.new) }
         ensures task { IfTask result (λ t. (t.opening ≡ opening) × (t.front ≡ self.old.facts.front)) }
         ensures front { self.new.facts.front ≡ self.old.facts.front }
         ensures fit { Fit opening.shelf self.new }
         ensures room { HasRoom self.new }
     {
-        match head {
+        match self.pairs.head() {
             Some((pair, origin)) => {
                 let jobs = (Job::Join { pair, origin }, Job::Join { pair, origin });
                 Drawn::Task(self.give(worker, opening, fronts, jobs))
@@ -220,6 +320,7 @@ impl Parts {
         ensures subjects { SameSubjects self.old self.new }
         ensures tasks { (self.new.tasks ≡ self.old.tasks) × (self.new.next ≡ self.old.next) }
         ensures ticket { next_ticket (state_of self.new) ≡ next_ticket (state_of self.old) }
+        ensures numbers { self.new.numbers.items ≡ self.old.numbers.items }
         ensures room { HasRoom self.new }
     {
         if !self.tasks.is_empty() {

@@ -226,3 +226,16 @@ impl Facts {
         self.front = front;
     }
 }
+
+#[cfg(test)]
+impl Facts {
+    /// How the meeting of a fact stands.
+    pub(crate) fn meeting(&self, fact: u32) -> Option<Meeting> {
+        let number = fact as usize;
+        if number < self.rows.len() {
+            Some(self.rows[number].meeting)
+        } else {
+            None
+        }
+    }
+}

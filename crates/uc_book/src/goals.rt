@@ -283,3 +283,21 @@ impl Goals {
         go_on(alloc, row, left, right)
     }
 }
+
+#[cfg(test)]
+impl Goals {
+    /// How many goals there are.
+    pub(crate) fn count(&self) -> usize {
+        self.rows.len()
+    }
+
+    /// The state of a goal.
+    pub(crate) fn stage(&self, goal: u32) -> Option<Stage> {
+        let number = goal as usize;
+        if number < self.rows.len() {
+            Some(self.rows[number].stage)
+        } else {
+            None
+        }
+    }
+}

@@ -1,10 +1,11 @@
 //! The pairs: what each comes from, the one state that it is in, and those that wait.
 
-ghost use Rattle.std.specs.Prelude.{◌≡◌, ℕ, ◌+◌, ◌<◌, ◌≤◌, ◌++◌, ◌∷◌, [], length, Some, None, slice_get, IfOk, OnOk, MatchOption, option_map};
+ghost use Rattle.std.specs.Prelude.{◌≡◌, ℕ, ◌+◌, ◌<◌, ◌≤◌, ◌++◌, ◌∷◌, [], cond, length, Some, None, slice_get, IfOk, OnOk, MatchOption, option_map};
 ghost use Rattle.uc_queue.specs.declared.entry.Entry.{Entry as Place};
 ghost use Rattle.uc_ledger.specs.declared.ledger.State.TheVariants.{Waiting, Out as OutTo, Done, Orphan};
 ghost use Rattle.uc_machine.specs.Lists.{change, map_option};
-ghost use Rattle.uc_machine.specs.State.{Pair, next_draws};
+ghost use Rattle.uc_queue.specs.Queue.{IsNew, with_entry};
+ghost use Rattle.uc_machine.specs.State.{Pair, is_waiting, next_draws};
 ghost use Rattle.uc_book.specs.PairRows.{queue_in, head_in, IsHead};
 
 use std::alloc::{AllocError, Global};
@@ -41,6 +42,32 @@ impl Model for Pairs {
     ghost view = { pairs_view };
 
     ghost invariant = { ArePairs };
+}
+
+/// One state more, in room that is there.
+fn meet_one(alloc: Global, states: &mut Ledger, state: State)
+    requires { 1 ≤ states.old.spare }
+    ensures states { states.new.states ≡ states.old.states ++ state ∷ [] }
+    ensures room { states.old.spare ≤ states.new.spare + 1 }
+{
+    match states.meet(alloc, &[state]) {
+        Ok(()) => (),
+        Err(_) => prove!(false),
+    }
+}
+
+/// Lets a pair wait, where this is its state.
+#[inline]
+fn wait_if(queue: &mut Passive, state: State, weight: u32, number: u64)
+    requires new { IsNew number queue.old.waiting }
+    requires room { 1 ≤ queue.old.spare }
+    ensures waiting { queue.new.waiting ≡ cond (is_waiting state) (with_entry (record { weight = weight; number = number }) queue.old.waiting) queue.old.waiting }
+    ensures draws { queue.new.draws ≡ queue.old.draws }
+    ensures room { queue.old.spare ≤ queue.new.spare + 1 }
+{
+    if let State::Waiting = state {
+        queue.back(weight, number);
+    }
 }
 
 impl Pairs {
@@ -102,13 +129,8 @@ impl Pairs {
     {
         let number = self.rows.len() as u64;
         self.rows.push_reserved(PairRow { origin, weight });
-        match self.states.meet(alloc, &[state]) {
-            Ok(()) => (),
-            Err(_) => prove!(false),
-        }
-        if let State::Waiting = state {
-            self.queue.back(weight, number);
-        }
+        meet_one(alloc, &mut self.states, state);
+        wait_if(&mut self.queue, state, weight, number);
     }
 
     /// The pair at the queue's head is drawn, and is out to this worker.
@@ -164,11 +186,24 @@ impl Pairs {
         ensures room { self.new.room ≡ self.old.room }
         ensures spare { self.new.spare + 1 ≡ self.old.spare }
     {
+        let weight = self.rows[number as usize].weight;
+        self.queue.back(weight, number);
         match self.states.give_back(number, worker) {
             Ok(()) => (),
             Err(_) => prove!(false),
         }
-        let weight = self.rows[number as usize].weight;
-        self.queue.back(weight, number);
+    }
+}
+
+#[cfg(test)]
+impl Pairs {
+    /// What a pair comes from, the weight of its two sides, and its state.
+    pub(crate) fn row(&self, number: u64) -> Option<(Origin, u32, State)> {
+        let state = self.states.state(number)?;
+        if number as usize >= self.rows.len() {
+            return None;
+        }
+        let row = self.rows[number as usize];
+        Some((row.origin, row.weight, state))
     }
 }

@@ -3,11 +3,19 @@ ghost use Rattle.uc_term.specs.Table.{Has};
 ghost use Rattle.uc_order.specs.Members.{Each};
 ghost use Rattle.uc_kbo.specs.Faults.{HasConstant};
 
-use crate::{Book, CommitFault, Drawn, Job};
+mod images;
+mod invention;
+mod machine;
+mod runs;
+mod taking;
+
+use crate::tests::runs::run;
+use crate::{Book, CommitFault, Done, Drawn, Pass};
 use std::alloc::{AllocError, Global};
 use std::test::Fail;
-use uc_fact::Equation;
+use uc_fact::{Chain, Equation, Stop, System};
 use uc_kbo::Kbo;
+use uc_machine::{Ending, Event, Finding, GoalEnd, Happening, Job, Outcome, Verdict};
 use uc_problem::{Encoded, Signature};
 use uc_shelf::Shelf;
 use uc_term::{Seq, Sym, Symbols, Term, TermFault};
@@ -72,25 +80,24 @@ fn tower(alloc: Global, symbol: Sym, height: u32) -> Result<Term, TermFault> {
     Ok(term)
 }
 
-fn equation(alloc: Global, symbol: Sym, height: u32) -> Result<Equation, TermFault> {
-    Ok(Equation {
-        left: tower(alloc, symbol, height)?,
-        right: tower(alloc, symbol, 0)?,
-    })
+// The equations of such towers with a.
+fn equations(alloc: Global, towers: &[(Sym, u32)]) -> Result<Seq<Equation>, Fail> {
+    let mut list = Seq::new(alloc);
+    for (symbol, height) in towers {
+        list.push(Equation {
+            left: tower(alloc, *symbol, *height)?,
+            right: tower(alloc, *symbol, 0)?,
+        })?;
+    }
+    Ok(list)
 }
 
-// The axioms g(g(a)) = a, g(a) = a and i(i(i(a))) = a with the goal i(a) = a.
-fn problem(alloc: Global) -> Result<Encoded, Fail> {
-    let mut axioms = Seq::new(alloc);
-    axioms.push(equation(alloc, G, 2)?)?;
-    axioms.push(equation(alloc, G, 1)?)?;
-    axioms.push(equation(alloc, I, 3)?)?;
-    let mut goals = Seq::new(alloc);
-    goals.push(equation(alloc, I, 1)?)?;
+// The problem of these axioms and goals.
+fn problem(alloc: Global, axioms: &[(Sym, u32)], goals: &[(Sym, u32)]) -> Result<Encoded, Fail> {
     Ok(Encoded {
-        axioms,
+        axioms: equations(alloc, axioms)?,
         sources: Seq::new(alloc),
-        goals,
+        goals: equations(alloc, goals)?,
         goal_clauses: Seq::new(alloc),
         fresh: None,
         signature: Signature {
@@ -101,14 +108,47 @@ fn problem(alloc: Global) -> Result<Encoded, Fail> {
     })
 }
 
+// A chain without a step.
+fn rest_at(alloc: Global, start: &Term) -> Result<Chain, AllocError> {
+    Ok(Chain {
+        start: start.copy(alloc)?,
+        steps: Seq::new(alloc),
+    })
+}
+
+// What a goal comes to where no fact lives.
+fn at_rest(alloc: Global, job: &Job) -> Result<Finding, Fail> {
+    let Job::Goal { left, right, .. } = job else {
+        return Err(Fail::from("no goal"));
+    };
+    Ok(Finding::Ends {
+        left: rest_at(alloc, left)?,
+        right: rest_at(alloc, right)?,
+        stop: Stop::Full,
+    })
+}
+
+// The result of the goal that is drawn next, where no fact lives.
+fn next_goal(alloc: Global, book: &mut Book<Kbo>, pass: &mut Pass) -> Result<Done, Fail> {
+    let Drawn::Task(task) = book.draw(alloc, pass)? else {
+        return Err(Fail::from("no task"));
+    };
+    let found = at_rest(alloc, &task.job)?;
+    Ok(Done {
+        ticket: task.ticket,
+        job: task.job,
+        front: task.front,
+        found,
+        opening: task.opening,
+    })
+}
+
 // The goal comes first, then the pairs by weight; what is put back comes again under another ticket.
 #[test]
 fn tasks_in_order(rt: HostRuntime) -> Result<(), Fail> {
     let alloc = rt.alloc();
-    let (problem, order, shelf) = (problem(alloc)?, order(alloc)?, Shelf::new(alloc)?);
-    if problem.axioms.len() >= 100 || problem.goals.len() != 1 {
-        return Err(Fail::from("another problem"));
-    }
+    let problem = problem(alloc, &[(G, 2), (G, 1), (I, 3)], &[(I, 1)])?;
+    let (order, shelf) = (order(alloc)?, Shelf::new(alloc)?);
     let mut book = Book::start(alloc, &problem, &order, &shelf, 2, 3)?;
     let mut pass = book.enroll(alloc, 7)?;
     let Drawn::Task(goal) = book.draw(alloc, &mut pass)? else {
@@ -134,5 +174,160 @@ fn tasks_in_order(rt: HostRuntime) -> Result<(), Fail> {
     assert_eq!(rt; book.counted(), 0);
     assert!(rt; book.verdict().is_none());
     assert!(rt; book.front().is_empty());
+    Ok(())
+}
+
+// A result is taken in under the ticket that is out, and under no earlier one.
+#[test]
+fn an_old_ticket_is_refused(rt: HostRuntime) -> Result<(), Fail> {
+    let alloc = rt.alloc();
+    let problem = problem(alloc, &[(G, 1)], &[(I, 1)])?;
+    let (order, shelf) = (order(alloc)?, Shelf::new(alloc)?);
+    let mut book = Book::start(alloc, &problem, &order, &shelf, 9, 9)?;
+    let mut pass = book.enroll(alloc, 3)?;
+    let old = next_goal(alloc, &mut book, &mut pass)?;
+    assert!(rt; book.reclaim(&mut pass, old.ticket).is_ok());
+    let new = next_goal(alloc, &mut book, &mut pass)?;
+    assert_eq!(rt; (old.ticket, new.ticket), (0, 1));
+    let Err((old, fault)) = book.commit(&rt, alloc, &mut pass, old) else {
+        return Err(Fail::from("taken in"));
+    };
+    assert_eq!(rt; fault, CommitFault::NotOut(0));
+    assert_eq!(rt;
+        (old.ticket, book.history().len(), pass.commits()),
+        (0, 3, 0)
+    );
+    let Ok(receipt) = book.commit(&rt, alloc, &mut pass, new) else {
+        return Err(Fail::from("not taken in"));
+    };
+    assert_eq!(rt;
+        (receipt.event, book.history().len(), pass.commits()),
+        (4, 4, 1)
+    );
+    let Err((_, fault)) = book.commit(&rt, alloc, &mut pass, old) else {
+        return Err(Fail::from("taken in twice"));
+    };
+    assert_eq!(rt; fault, CommitFault::NotOut(0));
+    Ok(())
+}
+
+// A goal whose ends are equal is proved, and the book is closed; a result that comes later is counted and changes nothing.
+#[test]
+fn a_goal_is_proved(rt: HostRuntime) -> Result<(), Fail> {
+    let alloc = rt.alloc();
+    let problem = problem(alloc, &[], &[(I, 1), (I, 0)])?;
+    let (order, shelf) = (order(alloc)?, Shelf::new(alloc)?);
+    let mut book = Book::start(alloc, &problem, &order, &shelf, 9, 9)?;
+    let mut one = book.enroll(alloc, 0)?;
+    let mut other = book.enroll(alloc, 64)?;
+    let late = next_goal(alloc, &mut book, &mut one)?;
+    let first = next_goal(alloc, &mut book, &mut other)?;
+    assert!(rt; matches!(book.draw(alloc, &mut one)?, Drawn::Idle(2)));
+    assert!(rt; book.commit(&rt, alloc, &mut other, first).is_ok());
+    assert_eq!(rt; book.verdict(), Some(&Verdict::Proved(1)));
+    assert!(rt;
+        matches!(
+            book.draw(alloc, &mut one)?,
+            Drawn::Closed(Verdict::Proved(1))
+        )
+    );
+    assert!(rt; book.commit(&rt, alloc, &mut one, late).is_ok());
+    assert_eq!(rt; one.commits() + other.commits(), 2);
+    let events = [
+        Happening::DrawGoal { goal: 0, front: 0 },
+        Happening::DrawGoal { goal: 1, front: 0 },
+        Happening::CommitGoal {
+            goal: 1,
+            steps: 0,
+            end: GoalEnd::Met,
+        },
+        Happening::Close(Ending::Proved),
+        Happening::CommitLate { ticket: 0 },
+    ];
+    assert!(rt; are_events(book.history(), &[0, 64, 64, 64, 0], &events));
+    Ok(())
+}
+
+// Whether the events are these, of these workers.
+fn are_events(history: &[Event], workers: &[u32], events: &[Happening]) -> bool {
+    if history.len() != events.len() || history.len() != workers.len() {
+        return false;
+    }
+    for k in 0..history.len() {
+        if history[k].worker != workers[k] || history[k].what != events[k] {
+            return false;
+        }
+    }
+    true
+}
+
+// A book with nothing to do is drained, and is closed by what its final pass answers.
+#[test]
+fn an_empty_book_is_saturated(rt: HostRuntime) -> Result<(), Fail> {
+    let alloc = rt.alloc();
+    let problem = problem(alloc, &[], &[])?;
+    let (order, shelf) = (order(alloc)?, Shelf::new(alloc)?);
+    let mut book = Book::start(alloc, &problem, &order, &shelf, 0, 0)?;
+    let mut pass = book.enroll(alloc, 0)?;
+    assert!(rt; matches!(book.draw(alloc, &mut pass)?, Drawn::Drained));
+    let outcome = Outcome::Convergent(System {
+        facts: Seq::new(alloc),
+    });
+    assert_eq!(rt; book.close(&outcome), Verdict::Saturated);
+    assert_eq!(rt; book.verdict(), Some(&Verdict::Saturated));
+    assert!(rt; are_events(book.history(), &[0], &[Happening::Close(Ending::Saturated)]));
+    assert!(rt;
+        matches!(
+            book.draw(alloc, &mut pass)?,
+            Drawn::Closed(Verdict::Saturated)
+        )
+    );
+    Ok(())
+}
+
+// More axioms than may wait close the book at once; with as many as the limit it goes on, and the budget closes it.
+#[test]
+fn limits_close_a_book(rt: HostRuntime) -> Result<(), Fail> {
+    let alloc = rt.alloc();
+    let problem = problem(alloc, &[(G, 1), (G, 2)], &[])?;
+    let (order, shelf) = (order(alloc)?, Shelf::new(alloc)?);
+    let book = Book::start(alloc, &problem, &order, &shelf, 9, 1)?;
+    let closed = Verdict::PairsOut { waiting: 0, new: 2 };
+    assert_eq!(rt; book.verdict(), Some(&closed));
+    assert!(rt; are_events(book.history(), &[0], &[Happening::Close(Ending::Pairs)]));
+    let mut book = Book::start(alloc, &problem, &order, &shelf, 1, 2)?;
+    let mut pass = book.enroll(alloc, 5)?;
+    let Drawn::Task(task) = book.draw(alloc, &mut pass)? else {
+        return Err(Fail::from("no pair"));
+    };
+    assert!(rt; matches!(book.draw(alloc, &mut pass)?, Drawn::Idle(1)));
+    assert!(rt; book.reclaim(&mut pass, task.ticket).is_ok());
+    let book = Book::start(alloc, &problem, &order, &shelf, 0, 2)?;
+    assert_eq!(rt;
+        spent(alloc, book)?,
+        Some(Verdict::BudgetOut { counted: 0 })
+    );
+    Ok(())
+}
+
+// The verdict of a book whose budget is spent.
+fn spent(alloc: Global, mut book: Book<Kbo>) -> Result<Option<Verdict>, Fail> {
+    let mut pass = book.enroll(alloc, 5)?;
+    match book.draw(alloc, &mut pass)? {
+        Drawn::Closed(verdict) => Ok(Some(verdict)),
+        _ => Ok(None),
+    }
+}
+
+// Calls by chance, of four workers, with invented results: the book's parts and the slow machine answer alike, and stand alike
+// after each call.
+#[test]
+fn runs_beside_the_machine(rt: HostRuntime) -> Result<(), Fail> {
+    let alloc = rt.alloc();
+    for seed in 1..=40 {
+        if let Err(trouble) = run(&rt, alloc, seed, 200) {
+            return Err(Fail::new(format_args!("seed {seed}: {trouble:?}")));
+        }
+    }
     Ok(())
 }
