@@ -5,7 +5,6 @@ use Rattle.std.proofs.lemmas.Bool.{cases_Bool, eqb-true, eq-eqb}
 use Rattle.std.proofs.lemmas.List.{take_all, map-append, length-replicate, get_or-replicate}
 use Rattle.uc_term.specs.declared.equation.Equation.{Equation}
 use Rattle.uc_fact.specs.declared.fact.Fact.{Fact}
-use Rattle.uc_fact.specs.Live.{Live}
 use Rattle.uc_shelf.specs.declared.entry.Entry.{Entry}
 use Rattle.uc_shelf.specs.declared.entry.Entry.TheVariants.{Born, Dies}
 use Rattle.uc_shelf.specs.Entries.{born, is_dead, living, live}
@@ -30,8 +29,8 @@ ahead_found es number k count e f at b a =
     a.rest ∙ ap (λ n. slice_get (born (drop k es)) n) z ∙ ap (λ l. slice_get (born l) 0) (drop_at es k e at) ∙ ap (λ x. slice_get (born (x ∷ drop (k + 1) es)) 0) b.born
 
 pub ahead_goes_on : (es : List Entry) (number k count n : ℕ) (e : Entry) → Some e ≡ slice_get es k → ((f : Fact) → IsBornAs e count number f → ⊥) → n ≡ count + length (born (e ∷ [])) → Ahead es number k count → Ahead es number (k + 1) n
-ahead_goes_on es number k count n (Born f) at no c a =
-    let differ : count ≡ number → ⊥ = λ s. no f (record { born = refl; same = s }) in
+ahead_goes_on es number k count n (Born f) at differs c a =
+    let differ : count ≡ number → ⊥ = λ s. differs f (record { born = refl; same = s }) in
     let one : n ≡ count + 1 = c in
     let less : count < number = (let h = a.before in omega (arith, h, differ)) in
     let next : number - count ≡ suc (number - n) = omega arith in
@@ -40,7 +39,7 @@ ahead_goes_on es number k count n (Born f) at no c a =
       before = omega arith;
       rest = a.rest ∙ ap (λ l. slice_get (born l) (number - count)) (drop_at es k (Born f) at) ∙ ap (λ x. slice_get (f ∷ born (drop (k + 1) es)) x) next;
     }
-ahead_goes_on es number k count n (Dies f j) at no c a =
+ahead_goes_on es number k count n (Dies f j) at differs c a =
     let same : n ≡ count = (let e : n ≡ count + 0 = c in omega arith) in
     record {
       few = (let h = a.few in omega arith);
@@ -106,12 +105,13 @@ set_length [] i b = refl
 set_length (x ∷ xs) zero b = refl
 set_length (x ∷ xs) (suc i) b = ap suc (set_length xs i b)
 
-pub flag_set : (es : List Entry) (n : ℕ) (flags : List Bool) (f j : ℕ) → f < length flags → AreFlags es n flags → AreFlags (es ++ Dies f j ∷ []) n (set flags f true)
-flag_set es n flags f j inside a = record {
+pub flag_set : (es : List Entry) (n : ℕ) (flags : List Bool) (f j : ℕ) → AreFlags es n flags → AreFlags (es ++ Dies f j ∷ []) n (set flags f true)
+flag_set es n flags f j a = record {
   long = set_length flags f true ∙ a.long;
   each = λ k h. elim (cases_Bool (f == k)) as (λ _. get_or (set flags f true) k false ≡ is_dead (es ++ Dies f j ∷ []) k) [
     | inl b ↦ (
         let same : f ≡ k = eqb-true f k b in
+        let inside : f < length flags = (let long = a.long in omega (arith, same, h, long)) in
         ap (λ x. get_or (set flags f true) x false) (sym same) ∙ set_here flags f true false inside
         ∙ sym (dead_append es (Dies f j ∷ []) k ∙ or_true (is_dead es k) (is_dead (Dies f j ∷ []) k) (rw b refl))
         )
@@ -123,15 +123,11 @@ flag_set es n flags f j inside a = record {
   ];
 }
 
-pub born_kills_none : (e : Entry) → ((f j : ℕ) → e ≡ Dies f j → ⊥) → (k : ℕ) → is_dead (e ∷ []) k ≡ false
-born_kills_none (Born f) n k = refl
-born_kills_none (Dies f j) n k = absurd (n f j refl)
+pub born_marks_none : (es : List Entry) (n : ℕ) (flags : List Bool) (e : Entry) (f : Fact) → e ≡ Born f → AreFlags es n flags → AreFlags (es ++ e ∷ []) n flags
+born_marks_none es n flags e f b a = subst (λ x. AreFlags (es ++ x ∷ []) n flags) (sym b) (flags_stay es n flags (Born f) (λ k h. refl) a)
 
-pub outside_kills_none : (f j n k : ℕ) → n ≤ f → k < n → is_dead (Dies f j ∷ []) k ≡ false
-outside_kills_none f j n k h l = elim (cases_Bool (f == k)) as (λ _. is_dead (Dies f j ∷ []) k ≡ false) [
-  | inl b ↦ (let s = eqb-true f k b in absurd (omega (arith, s, h, l)))
-  | inr b ↦ rw b refl
-]
+pub death_marks_one : (es : List Entry) (n : ℕ) (flags new : List Bool) (e : Entry) (f j : ℕ) → e ≡ Dies f j → new ≡ set flags f true → AreFlags es n flags → AreFlags (es ++ e ∷ []) n new
+death_marks_one es n flags new e f j d s a = subst (λ x. AreFlags (es ++ x ∷ []) n new) (sym d) (subst (AreFlags (es ++ Dies f j ∷ []) n) (sym s) (flag_set es n flags f j a))
 
 pub next_entries : (es : List Entry) (k : ℕ) (e : Entry) → Some e ≡ slice_get es k → take (k + 1) es ≡ take k es ++ e ∷ []
 next_entries [] k e h = absurd cc

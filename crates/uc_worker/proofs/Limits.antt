@@ -1,10 +1,10 @@
 -- What a limit on steps says.
-use Rattle.std.proofs.Common.{◌≡◌, ◌≢◌, ℕ, zero, suc, ◌≤◌, List, [], ◌∷◌, length, refl, arith}
+use Rattle.std.proofs.Common.{◌≡◌, ℕ, suc, ◌≤◌, List, length, refl, arith}
 use Rattle.uc_term.specs.declared.node.Sym.{Sym}
 use Rattle.uc_term.specs.Tree.{Tree}
 use Rattle.uc_fact.specs.declared.chain.Step.{Step}
 use Rattle.uc_fact.specs.declared.fact.Stop.{Stop}
-use Rattle.uc_fact.specs.declared.fact.Stop.TheVariants.{Full, Steps, Size}
+use Rattle.uc_fact.specs.declared.fact.Stop.TheVariants.{Full, Steps}
 use Rattle.uc_fact.specs.Live.{Live, equations_of}
 use Rattle.uc_fact.specs.Ordered.{OStep, IsIrreducible}
 use Rattle.uc_rewrite.specs.declared.normal.Normal.{Normal}

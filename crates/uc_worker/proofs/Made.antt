@@ -1,5 +1,5 @@
 -- A fact made of two ends with the chain between them.
-use Rattle.std.proofs.Common.{◌≡◌, ℕ, ◌+◌, ◌≤◌, Bool, true, false, List, [], ◌++◌, length, refl, sym, ap, ◌∙◌, subst, append_assoc, append-nil, length-append, arith}
+use Rattle.std.proofs.Common.{◌≡◌, ℕ, ◌+◌, Bool, true, false, List, [], ◌++◌, length, sym, ap, ◌∙◌, subst, append_assoc, length-append, arith}
 use Rattle.uc_term.specs.Tree.{Tree}
 use Rattle.uc_term.specs.Variables.{variables, firsts, firsts_after, renumbered_by}
 use Rattle.uc_term.proofs.Firsts.{firsts-append}

@@ -1,5 +1,5 @@
 -- A fact and the others that live, one by one.
-use Rattle.std.proofs.Common.{◌≡◌, ◌≢◌, ℕ, ◌==◌, ◌+◌, ◌<◌, ◌≤◌, Bool, true, false, List, [], ◌∷◌, ◌++◌, length, map, drop, get_or, Option, Some, None, if◌then◌else◌, refl, sym, ap, ◌∙◌, subst, arith, append_assoc, append-nil, ◌⊎◌, inl, inr}
+use Rattle.std.proofs.Common.{◌≡◌, ◌≢◌, ℕ, ◌==◌, ◌+◌, ◌<◌, ◌≤◌, true, List, [], ◌∷◌, ◌++◌, length, map, drop, get_or, Option, Some, None, refl, sym, ap, ◌∙◌, subst, arith, append_assoc, append-nil, ◌⊎◌, inl, inr}
 use Rattle.std.proofs.lemmas.Bool.{cases_Bool, eqb-true, eq-eqb}
 use Rattle.std.proofs.lemmas.List.{drop_more}
 use Rattle.std.proofs.Math.ListN.{drop_of_length-le}
@@ -10,7 +10,7 @@ use Rattle.uc_pair.specs.declared.formed.Formed.{Formed}
 use Rattle.uc_pair.specs.Listing.{AreOverlaps}
 use Rattle.uc_shelf.specs.declared.entry.Entry.{Entry}
 use Rattle.uc_shelf.specs.Entries.{live}
-use Rattle.uc_machine.specs.Results.{Reduces, IsStaleBy, IsFresh, IsReducedBy, AreKills, no_facts, kills_it, spares_it, is_no_earlier, AreMeetings, with_itself, with_earlier, not_with_later}
+use Rattle.uc_machine.specs.Results.{Reduces, IsStaleBy, IsFresh, AreKills, no_facts, kills_it, spares_it, is_no_earlier, AreMeetings, with_itself, with_earlier, not_with_later}
 use Rattle.uc_worker.specs.declared.live.LiveFact.{LiveFact}
 use Rattle.uc_worker.specs.Living.{live_of}
 use Rattle.uc_worker.specs.Meeting.{IsReducedByIt, FirstReducer, none_left, it_reduces, later_one, KillsOne, is_killed, is_spared, not_earlier, MeetsOne, is_met, no_earlier, Adds}

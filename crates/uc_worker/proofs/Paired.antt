@@ -1,5 +1,5 @@
 -- The pairs of tasks.
-use Rattle.std.proofs.Common.{◌≡◌, ◌≢◌, ℕ, zero, suc, ◌<◌, ◌≤◌, List, [], ◌∷◌, length, get_or, slice_get, Some, refl, sym, ap, ◌∙◌, subst, arith}
+use Rattle.std.proofs.Common.{◌≡◌, ℕ, zero, suc, ◌<◌, ◌≤◌, List, [], ◌∷◌, length, get_or, slice_get, Some, sym, ap, ◌∙◌, subst, arith}
 use Rattle.std.specs.Prelude.{All}
 use Rattle.std.proofs.lemmas.Option.{slice_get-get_or}
 use Rattle.uc_term.specs.Tree.{Tree}
@@ -12,12 +12,10 @@ use Rattle.uc_fact.specs.declared.fact.Fact.{Fact}
 use Rattle.uc_fact.specs.declared.fact.Overlap.{Overlap}
 use Rattle.uc_fact.specs.declared.fact.Origin.TheVariants.{Axiom, Overlap as OfOverlap, Revived}
 use Rattle.uc_fact.specs.Live.{equation_of}
-use Rattle.uc_pair.specs.declared.formed.Formed.{Formed}
-use Rattle.uc_pair.specs.declared.formed.Size.TheVariants.{Large}
 use Rattle.uc_pair.specs.declared.formation.Formation.{Formation}
 use Rattle.uc_pair.specs.declared.formation.Formation.TheVariants.{Pair as Forms, TooLarge}
 use Rattle.uc_pair.specs.Overlapping.{IsFormedOf, IsOverlapOf, read_from}
-use Rattle.uc_pair.specs.Pairs.{IsPairOf, IsFormation, forms_pair}
+use Rattle.uc_pair.specs.Pairs.{IsPairOf, forms_pair}
 use Rattle.uc_pair.proofs.Listed.{all_are_formed}
 use Rattle.uc_pair.proofs.OnePair.{large_by_size}
 use Rattle.uc_shelf.specs.declared.entry.Entry.{Entry}
@@ -27,6 +25,7 @@ use Rattle.uc_machine.specs.Results.{IsPair, of_axiom, of_overlap, of_dead}
 use Rattle.uc_machine.specs.Origins.{IsListed}
 
 member_is : {A : Type 0} (P : A → Type 0) (xs : List A) (x : A) → In xs x → All P xs → P x
+member_is P [] x i all = elim i [ ]
 member_is P (x ∷ xs) _ in_front all = all 0 x (omega arith)
 member_is P (y ∷ xs) x (in_rest i) all = member_is P xs x i (λ k d lt. all (suc k) d (omega arith))
 

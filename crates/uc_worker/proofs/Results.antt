@@ -1,9 +1,8 @@
 -- What a task comes to, from what its parts come to.
-use Rattle.std.proofs.Common.{◌≡◌, ℕ, ◌-◌, ◌≤◌, List, length, slice_get, Option, Some, None, refl, sym, ap, ap₂, ◌∙◌, subst, arith}
+use Rattle.std.proofs.Common.{◌≡◌, ℕ, ◌-◌, List, length, slice_get, Option, Some, None, sym, subst}
 use Rattle.uc_term.specs.Tree.{Tree}
 use Rattle.uc_term.specs.declared.equation.Equation.{Equation}
 use Rattle.uc_order.specs.Laws.{Meaning}
-use Rattle.uc_fact.specs.declared.chain.Chain.{Chain}
 use Rattle.uc_fact.specs.declared.fact.Fact.{Fact}
 use Rattle.uc_fact.specs.Live.{Live, equation_of}
 use Rattle.uc_pair.specs.declared.formed.Formed.{Formed}
@@ -25,6 +24,9 @@ use Rattle.uc_machine.specs.declared.task.Finding.TheVariants.{Ends, Joined, Kep
 use Rattle.uc_worker.specs.Jobs.{CanBeDone}
 use Rattle.uc_machine.specs.Results.{IsResult, goal_comes_to, more_comes_to, pair_is_joined, pair_is_kept, NormaliseBoth, stop_of, Trial, IsTrial, IsPair, GivesFact, fact_is_stale, fact_meets, AreKills, AreMeetings}
 use Rattle.uc_worker.specs.Meeting.{FirstReducer}
+use Rattle.uc_worker.specs.declared.trial.Tried.{Tried}
+use Rattle.uc_worker.specs.declared.trial.Tried.TheVariants.{Joined as EndsJoin, Open as EndsDiffer}
+use Rattle.uc_worker.specs.Trying.{IsTried, ends_join, ends_differ}
 use Rattle.uc_worker.proofs.Meetings.{stale_found, none_stale}
 
 module _ (m : Meaning) (axioms : List Equation) (entries : List Entry) where
@@ -48,11 +50,25 @@ module _ (m : Meaning) (axioms : List Equation) (entries : List Entry) where
     answer_is = subst (λ es. IsAnswer m (live es) t.left.term t.right.term t.answer) e i;
   }
 
-  pub joined_result : (origin : Origin) (t : Trial) (why : Reason) (p : ℕ) → IsTrial m axioms entries origin t → t.answer ≡ IsJoinedBy why → IsResult m axioms entries (Join p origin) (Joined why)
-  joined_result origin t why p i e = pair_is_joined i e
+  pub joined_trial : (origin : Origin) (t : Trial) (why : Reason) → IsTrial m axioms entries origin t → t.answer ≡ IsJoinedBy why → IsTried m axioms entries origin (EndsJoin why)
+  joined_trial origin t why i e = ends_join t i e
 
-  pub kept_result : (origin : Origin) (t : Trial) (front : ℕ) (f : Fact) (p : ℕ) → IsTrial m axioms entries origin t → (IsJoined t.answer → ⊥) → front ≡ length entries → GivesFact m origin front t f → IsResult m axioms entries (Join p origin) (Kept f)
-  kept_result origin t front f p i n e g = pair_is_kept i n (subst (λ k. GivesFact m origin k t f) e g)
+  pub open_trial : (origin : Origin) (t : Trial) (front : ℕ) (f : Fact) → IsTrial m axioms entries origin t → (IsJoined t.answer → ⊥) → front ≡ length entries → GivesFact m origin front t f → IsTried m axioms entries origin (EndsDiffer f t.answer)
+  open_trial origin t front f i n e g = ends_differ t i n (subst (λ k. GivesFact m origin k t f) e g)
+
+  abbrev finding_for : Tried → Finding
+  finding_for (EndsJoin why) = Joined why
+  finding_for (EndsDiffer f answer) = Kept f
+
+  tried_result : (origin : Origin) (tried : Tried) (p : ℕ) → IsTried m axioms entries origin tried → IsResult m axioms entries (Join p origin) (finding_for tried)
+  tried_result origin _ p (ends_join t i e) = pair_is_joined i e
+  tried_result origin _ p (ends_differ t i n g) = pair_is_kept i n g
+
+  pub joined_result : (origin : Origin) (tried : Tried) (why : Reason) (p : ℕ) → tried ≡ EndsJoin why → IsTried m axioms entries origin tried → IsResult m axioms entries (Join p origin) (Joined why)
+  joined_result origin tried why p e t = subst (λ x. IsResult m axioms entries (Join p origin) (finding_for x)) e (tried_result origin tried p t)
+
+  pub kept_result : (origin : Origin) (tried : Tried) (f : Fact) (answer : Joinable) (p : ℕ) → tried ≡ EndsDiffer f answer → IsTried m axioms entries origin tried → IsResult m axioms entries (Join p origin) (Kept f)
+  kept_result origin tried f answer p e t = subst (λ x. IsResult m axioms entries (Join p origin) (finding_for x)) e (tried_result origin tried p t)
 
 -- a job that is known
 pub can_be : (m : Meaning) (axioms : List Equation) (entries : List Entry) (job known : Job) → job ≡ known → CanBeDone m axioms entries job → CanBeDone m axioms entries known

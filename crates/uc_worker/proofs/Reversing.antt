@@ -1,5 +1,5 @@
 -- A chain gone back, step by step.
-use Rattle.std.proofs.Common.{◌≡◌, ℕ, ◌+◌, List, [], ◌∷◌, ◌++◌, length, refl, sym, ap, ◌∙◌, append_assoc, append-nil, length-append, reverse, arith}
+use Rattle.std.proofs.Common.{◌≡◌, List, [], ◌∷◌, ◌++◌, length, refl, sym, ap, ◌∙◌, append_assoc, append-nil, length-append, reverse, arith}
 use Rattle.std.proofs.lemmas.List.{reverse-append}
 use Rattle.uc_term.specs.Tree.{Tree}
 use Rattle.uc_fact.specs.declared.chain.Step.{Step}

@@ -1,7 +1,10 @@
 //! What the tasks of the book come to: goals are normalised, pairs are joined, and facts meet those before them (Bachmair,
 //! Dershowitz and Plaisted, Completion without failure).
 //!
-//! `specs/` says which tasks can be computed.
+//! [`finding_of`] does a task of any kind. [`try_pair`] and [`live_facts`], on which it stands, are there for whoever tests
+//! pairs outside a task.
+//!
+//! `specs/` says which tasks can be done, and what the trial of a pair comes to.
 #![tactic(auto)]
 
 mod chains;

@@ -1,6 +1,6 @@
 //! The facts of a front.
 
-ghost use Rattle.std.specs.Prelude.{◌≡◌, ◌<◌, ◌≤◌, ◌++◌, ◌∷◌, [], ℕ, List, IfOk, OnOk, Some, slice_get, length, map, MatchOption};
+ghost use Rattle.std.specs.Prelude.{◌≡◌, ◌<◌, ◌≤◌, ◌++◌, ◌∷◌, [], ℕ, List, IfOk, OnOk, Some, slice_get, length, map, MatchOption, set, true};
 ghost use Rattle.uc_fact.specs.declared.fact.Fact.{Fact as AnyFact};
 ghost use Rattle.uc_shelf.specs.declared.entry.Entry.{Entry as AnyEntry};
 ghost use Rattle.uc_shelf.specs.Entries.{born, is_dead, live, living};
@@ -124,12 +124,18 @@ fn dead_flags(alloc: Global, shelf: &Shelf, front: &Front) -> Result<Vec<bool>, 
 fn mark(flags: &mut Vec<bool>, entry: &Entry)
     ensures { (all : List AnyEntry) (n : ℕ) → AreFlags all n flags.old.items → AreFlags (all ++ entry.now ∷ []) n flags.new.items }
 {
-    let Entry::Dies { fact, .. } = entry else {
-        return;
-    };
-    let number = *fact as usize;
-    if number >= flags.len() {
-        return;
+    match entry {
+        Entry::Born(_) => {}
+        Entry::Dies { fact, .. } => set_flag(flags, *fact as usize),
     }
-    flags[number] = true;
+}
+
+/// Sets the flag at a place, where there is one.
+#[inline]
+fn set_flag(flags: &mut Vec<bool>, place: usize)
+    ensures { flags.new.items ≡ set flags.old.items place true }
+{
+    if place < flags.len() {
+        flags[place] = true;
+    }
 }

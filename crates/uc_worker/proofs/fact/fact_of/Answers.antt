@@ -1,4 +1,4 @@
-use Rattle.std.proofs.Common.{◌≡◌, ◌≤◌, List, Bool, true, false, length, sym, ap, ◌∙◌, subst, arith}
+use Rattle.std.proofs.Common.{◌≡◌, List, true, false, length, sym, ap, subst, arith}
 use Rattle.std.proofs.lemmas.Result.{IfOk-weaker}
 use Rattle.uc_term.specs.declared.node.Node.{Node}
 use Rattle.uc_term.specs.Tree.{Tree}
@@ -30,8 +30,8 @@ returns-in-Greater g c =
     IfOk-weaker c.made.result (λ fact. fact ≡ made true o n l.term r.term c.args.chain l.stop r.stop) (λ fact. (t : Trial) → HasEnds l r c.args.chain t → GivesFact m o n t fact)
     (λ fact e t h. left_greater m o n l r c.args.chain fact t h greater e) c.made.ensures
 
-pub returns-in-Less : goal.returns-in-Less
-returns-in-Less g c =
+pub returns-in_ok-reversed-in-Less : goal.returns-in_ok-reversed-in-Less
+returns-in_ok-reversed-in-Less g c =
     let m = g.O.Order.meaning c.args.order.now in
     let l = c.args.left.now in
     let r = c.args.right.now in

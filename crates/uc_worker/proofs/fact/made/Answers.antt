@@ -1,4 +1,3 @@
-use Rattle.std.proofs.Common.{arith}
 use Rattle.uc_worker.proofs.Made.{left_numbered, right_numbered, chain_numbered, same_parts}
 use Rattle.uc_worker.proofs.fact.made.Goals as goal
 

@@ -7,7 +7,7 @@ use Rattle.uc_worker.proofs.Results.{can_be, result_of}
 use Rattle.uc_worker.proofs.finding.finding_of.Goals as goal
 
 pub meet-requires-clause-born : goal.meet-requires-clause-born
-meet-requires-clause-born g c = can_be (g.O.Order.meaning c.args.order.now) c.args.axioms.now c.args.front.now.entries c.args.job.now (Meet c.in-Meet.number.now) c.in-Meet.is c.requires.can
+meet-requires-clause-born g c = can_be (g.O.Order.meaning c.args.order.now) c.args.axioms.now c.args.front.now.entries c.args.job.now (Meet c.in-Meet.number) c.in-Meet.is c.requires.can
 
 pub join-requires-clause-can : goal.join-requires-clause-can
 join-requires-clause-can g c = can_be (g.O.Order.meaning c.args.order.now) c.args.axioms.now c.args.front.now.entries c.args.job.now _ c.in-Join.is c.requires.can
@@ -15,23 +15,23 @@ join-requires-clause-can g c = can_be (g.O.Order.meaning c.args.order.now) c.arg
 pub returns-in-Goal : goal.returns-in-Goal
 returns-in-Goal g c =
     let m = g.O.Order.meaning c.args.order.now in
-    IfOk-weaker c.both_ends.result (λ f. (axioms : List Equation) (n : ℕ) → IsResult m axioms c.view.result (Goal n c.in-Goal.left.now c.in-Goal.right.now) f) (IsResult m c.args.axioms.now c.args.front.now.entries c.args.job.now)
+    IfOk-weaker c.both_ends.result (λ f. (axioms : List Equation) (n : ℕ) → IsResult m axioms c.view.result (Goal n c.in-Goal.left c.in-Goal.right) f) (IsResult m c.args.axioms.now c.args.front.now.entries c.args.job.now)
     (λ f h. result_of m c.args.axioms.now c.args.front.now.entries c.view.result c.args.job.now _ f c.in-Goal.is c.view.ensures (h c.args.axioms.now _)) c.both_ends.ensures.goal
 
 pub returns-in-More : goal.returns-in-More
 returns-in-More g c =
     let m = g.O.Order.meaning c.args.order.now in
-    IfOk-weaker c.both_ends-in-More.result (λ f. (axioms : List Equation) (n : ℕ) → IsResult m axioms c.view-in-More.result (More n c.in-More.left.now c.in-More.right.now) f) (IsResult m c.args.axioms.now c.args.front.now.entries c.args.job.now)
+    IfOk-weaker c.both_ends-in-More.result (λ f. (axioms : List Equation) (n : ℕ) → IsResult m axioms c.view-in-More.result (More n c.in-More.left c.in-More.right) f) (IsResult m c.args.axioms.now c.args.front.now.entries c.args.job.now)
     (λ f h. result_of m c.args.axioms.now c.args.front.now.entries c.view-in-More.result c.args.job.now _ f c.in-More.is c.view-in-More.ensures (h c.args.axioms.now _)) c.both_ends-in-More.ensures.more
 
 pub returns-in-Meet : goal.returns-in-Meet
 returns-in-Meet g c =
     let m = g.O.Order.meaning c.args.order.now in
-    IfOk-weaker c.meet.result (λ f. (axioms : List Equation) → IsResult m axioms c.args.front.now.entries (Meet c.in-Meet.number.now) f) (IsResult m c.args.axioms.now c.args.front.now.entries c.args.job.now)
-    (λ f h. result_of m c.args.axioms.now c.args.front.now.entries c.args.front.now.entries c.args.job.now (Meet c.in-Meet.number.now) f c.in-Meet.is refl (h c.args.axioms.now)) c.meet.ensures
+    IfOk-weaker c.meet.result (λ f. (axioms : List Equation) → IsResult m axioms c.args.front.now.entries (Meet c.in-Meet.number) f) (IsResult m c.args.axioms.now c.args.front.now.entries c.args.job.now)
+    (λ f h. result_of m c.args.axioms.now c.args.front.now.entries c.args.front.now.entries c.args.job.now (Meet c.in-Meet.number) f c.in-Meet.is refl (h c.args.axioms.now)) c.meet.ensures
 
 pub returns-in-Join : goal.returns-in-Join
 returns-in-Join g c =
     let m = g.O.Order.meaning c.args.order.now in
-    IfOk-weaker c.join.result (λ f. (p : ℕ) → IsResult m c.args.axioms.now c.args.front.now.entries (Join p c.in-Join.origin.now) f) (IsResult m c.args.axioms.now c.args.front.now.entries c.args.job.now)
+    IfOk-weaker c.join.result (λ f. (p : ℕ) → IsResult m c.args.axioms.now c.args.front.now.entries (Join p c.in-Join.origin) f) (IsResult m c.args.axioms.now c.args.front.now.entries c.args.job.now)
     (λ f h. result_of m c.args.axioms.now c.args.front.now.entries c.args.front.now.entries c.args.job.now _ f c.in-Join.is refl (h _)) c.join.ensures

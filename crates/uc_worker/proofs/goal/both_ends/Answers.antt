@@ -1,4 +1,4 @@
-use Rattle.std.proofs.Common.{◌-◌, length, ap, ◌∙◌, arith}
+use Rattle.std.proofs.Common.{◌-◌, ap, arith}
 use Rattle.uc_shelf.specs.Entries.{live}
 use Rattle.uc_worker.proofs.Limits.{normal_within}
 use Rattle.uc_worker.proofs.Results.{goal_result, more_result}

@@ -1,4 +1,4 @@
-use Rattle.std.proofs.Common.{◌≡◌, ◌∷◌, [], ap, ◌∙◌}
+use Rattle.std.proofs.Common.{◌∷◌, [], ap, ◌∙◌}
 use Rattle.uc_shelf.specs.Entries.{living}
 use Rattle.uc_worker.proofs.Fronts.{none_added, dead_adds_none, born_added}
 use Rattle.uc_worker.proofs.live.add_living.Goals as goal

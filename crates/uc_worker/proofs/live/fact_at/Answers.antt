@@ -11,5 +11,5 @@ returns-in-Some c = ahead_found c.args.front.now.entries c.args.number c.loop-k.
 pub loop-k-preserved : goal.loop-k-preserved
 loop-k-preserved c = ahead_goes_on c.args.front.now.entries c.args.number c.loop-k.k c.loop-k.count (c.loop-k.count + c.births-count.result) c.read-entry.result.now c.read-entry.ensures c.in_default.ensures (ap (λ n. c.loop-k.count + n) c.births-count.ensures.value) c.loop-k.invariant
 
-pub prove-unreachable-requires : goal.prove-unreachable-requires
-prove-unreachable-requires c = ahead_ends c.args.front.now.entries c.args.number c.loop-k.k c.loop-k.count c.requires.born (omega (arith, c.loop-k-test.false, c.len-k-end.ensures.value)) c.loop-k.invariant
+pub unreachable-requires : goal.unreachable-requires
+unreachable-requires c = ahead_ends c.args.front.now.entries c.args.number c.loop-k.k c.loop-k.count c.requires.born (omega (arith, c.loop-k-test.false, c.len-k-end.ensures.value)) c.loop-k.invariant

@@ -1,4 +1,4 @@
-use Rattle.std.proofs.Common.{[], ◌++◌, sym, ap, ◌∙◌, append_assoc, append-nil, arith}
+use Rattle.std.proofs.Common.{[], ◌++◌, sym, ap, ◌∙◌, append_assoc, append-nil}
 use Rattle.uc_worker.specs.Meeting.{is_met, no_earlier}
 use Rattle.uc_worker.proofs.meet.add_overlaps.Goals as goal
 

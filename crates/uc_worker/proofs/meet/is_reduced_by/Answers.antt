@@ -6,11 +6,11 @@ use Rattle.uc_worker.specs.Living.{live_of}
 use Rattle.uc_worker.specs.Meeting.{IsReducedByIt}
 use Rattle.uc_worker.proofs.meet.is_reduced_by.Goals as goal
 
-pub returns-then-number-number : goal.returns-then-number-number
-returns-then-number-number g c = never (λ r. r.other c.if-number-number.true)
+pub returns-then-fact-number : goal.returns-then-fact-number
+returns-then-fact-number g c = never (λ r. r.other c.if-fact-number.true)
 
 pub returns : goal.returns
 returns g c =
     let m = g.O.Order.meaning c.args.order.now in
     IfOk-weaker c.reduces.result (λ answer. IsTrue answer ↔ Reduces m c.args.fact.now.equation c.args.own.now) (λ answer. IsTrue answer ↔ IsReducedByIt m c.args.number c.args.own.now (live_of c.args.fact.now))
-    (λ answer h. (λ t. record { other = c.if-number-number.false; reduces = h.0 t }, λ r. h.1 r.reduces)) c.reduces.ensures
+    (λ answer h. (λ t. record { other = c.if-fact-number.false; reduces = h.0 t }, λ r. h.1 r.reduces)) c.reduces.ensures

@@ -1,4 +1,4 @@
-use Rattle.std.proofs.Common.{◌≡◌, List, map, sym, ap, ◌∙◌}
+use Rattle.std.proofs.Common.{map, ap, ◌∙◌}
 use Rattle.uc_worker.specs.Living.{live_of}
 use Rattle.uc_worker.proofs.Results.{stale_result, met_result}
 use Rattle.uc_worker.proofs.meet.meet.Goals as goal

@@ -1,5 +1,4 @@
 use Rattle.uc_rewrite.proofs.Decided.{not_of}
-use Rattle.uc_worker.specs.Living.{live_of}
 use Rattle.uc_worker.proofs.Meetings.{none_start, none_next, none_end, first_here}
 use Rattle.uc_worker.proofs.meet.stale_by.Goals as goal
 

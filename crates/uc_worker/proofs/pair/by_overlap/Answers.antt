@@ -1,4 +1,3 @@
-use Rattle.std.proofs.Common.{◌≡◌, sym, ◌∙◌}
 use Rattle.uc_worker.proofs.Paired.{within_born, is_overlap, not_large, overlap_pair, pair_short}
 use Rattle.uc_worker.proofs.pair.by_overlap.Goals as goal
 
@@ -11,11 +10,11 @@ fact_at-b-requires-clause-born g c = within_born c.args.front.now.entries c.args
 pub pair_of-requires : goal.pair_of-requires
 pair_of-requires g c = is_overlap (g.O.Order.meaning c.args.order.now) c.args.front.now.entries c.args.overlap.now c.requires.listed c.fact_at-a.result.now c.fact_at-b.result.now c.in_ok-outer.outer c.in_ok-inner.inner c.fact_at-a.ensures c.fact_at-b.ensures c.in_ok-outer.ensures c.in_ok-inner.ensures
 
-pub returns-in-Pair-clause-pair : goal.returns-in-Pair-clause-pair
-returns-in-Pair-clause-pair g c axioms = overlap_pair (g.O.Order.meaning c.args.order.now) c.args.front.now.entries c.args.overlap.now c.requires.listed c.fact_at-a.result.now c.fact_at-b.result.now c.in_ok-outer.outer c.in_ok-inner.inner c.fact_at-a.ensures c.fact_at-b.ensures c.in_ok-outer.ensures c.in_ok-inner.ensures axioms c.in_ok-pair_of.field-0 c.in-Pair.left c.in-Pair.right c.in-Pair.chain c.in-Pair.is c.in_ok-pair_of.ensures.pair
+pub returns-clause-pair : goal.returns-clause-pair
+returns-clause-pair g c axioms = overlap_pair (g.O.Order.meaning c.args.order.now) c.args.front.now.entries c.args.overlap.now c.requires.listed c.fact_at-a.result.now c.fact_at-b.result.now c.in_ok-outer.outer c.in_ok-inner.inner c.fact_at-a.ensures c.fact_at-b.ensures c.in_ok-outer.ensures c.in_ok-inner.ensures axioms c.in_ok-left.field-0 c.in-Pair.left c.in-Pair.right c.in-Pair.chain c.in-Pair.is c.in_ok-left.ensures.pair
 
-pub returns-in-Pair-clause-short : goal.returns-in-Pair-clause-short
-returns-in-Pair-clause-short g c = pair_short c.in_ok-outer.outer c.in_ok-inner.inner c.args.overlap.now c.in_ok-pair_of.field-0 c.in-Pair.left c.in-Pair.right c.in-Pair.chain c.in-Pair.is c.in_ok-pair_of.ensures.pair
+pub returns-clause-short : goal.returns-clause-short
+returns-clause-short g c = pair_short c.in_ok-outer.outer c.in_ok-inner.inner c.args.overlap.now c.in_ok-left.field-0 c.in-Pair.left c.in-Pair.right c.in-Pair.chain c.in-Pair.is c.in_ok-left.ensures.pair
 
-pub prove-unreachable-requires : goal.prove-unreachable-requires
-prove-unreachable-requires g c = not_large (g.O.Order.meaning c.args.order.now) c.args.front.now.entries c.args.overlap.now c.requires.listed c.fact_at-a.result.now c.fact_at-b.result.now c.in_ok-outer.outer c.in_ok-inner.inner c.fact_at-a.ensures c.fact_at-b.ensures c.in_ok-outer.ensures c.in_ok-inner.ensures c.in_ok-pair_of.field-0 c.in-TooLarge.is c.in_ok-pair_of.ensures.pair
+pub unreachable-requires : goal.unreachable-requires
+unreachable-requires g c = not_large (g.O.Order.meaning c.args.order.now) c.args.front.now.entries c.args.overlap.now c.requires.listed c.fact_at-a.result.now c.fact_at-b.result.now c.in_ok-outer.outer c.in_ok-inner.inner c.fact_at-a.ensures c.fact_at-b.ensures c.in_ok-outer.ensures c.in_ok-inner.ensures c.in_ok-left.field-0 c.in-TooLarge.is c.in_ok-left.ensures.pair

@@ -1,13 +1,12 @@
-use Rattle.std.proofs.Common.{◌≡◌, ◌<◌, ◌≤◌, List, length, refl, sym, subst, arith}
+use Rattle.std.proofs.Common.{◌≡◌, ◌<◌, ◌≤◌, List, length, refl, sym, subst}
 use Rattle.std.proofs.lemmas.Result.{IfOk-weaker}
 use Rattle.uc_term.specs.declared.equation.Equation.{Equation}
 use Rattle.uc_fact.specs.declared.chain.By.TheVariants.{Axiom as ByAxiom, Fact as ByFact}
-use Rattle.uc_fact.specs.declared.fact.Origin.TheVariants.{Axiom, Overlap as OfOverlap, Revived}
+use Rattle.uc_fact.specs.declared.fact.Origin.TheVariants.{Overlap as OfOverlap}
 use Rattle.uc_fact.specs.Live.{equation_of}
 use Rattle.uc_fact.specs.Chains.{one_step}
 use Rattle.uc_machine.specs.Results.{IsPair}
 use Rattle.uc_machine.specs.Origins.{IsKnownOrigin}
-use Rattle.uc_worker.specs.declared.pair.Pair.{Pair}
 use Rattle.uc_worker.proofs.Paired.{axiom_pair, dead_pair, one_step_short}
 use Rattle.uc_worker.proofs.pair.pair_from.Goals as goal
 
@@ -39,7 +38,7 @@ pub returns-in-Overlap-clause-pair : goal.returns-in-Overlap-clause-pair
 returns-in-Overlap-clause-pair g c =
     let axioms = c.args.axioms.now in
     let entries = c.args.front.now.entries in
-    IfOk-weaker c.by_overlap.result (λ pair. (as : List Equation) → IsPair as entries (OfOverlap c.in-Overlap.overlap) pair.equation pair.chain) (λ pair. IsPair axioms entries c.args.origin.now pair.equation pair.chain)
+    IfOk-weaker c.by_overlap.result (λ pair. (others : List Equation) → IsPair others entries (OfOverlap c.in-Overlap.overlap) pair.equation pair.chain) (λ pair. IsPair axioms entries c.args.origin.now pair.equation pair.chain)
     (λ pair h. subst (λ o. IsPair axioms entries o pair.equation pair.chain) (sym c.in-Overlap.is) (h axioms)) c.by_overlap.ensures.pair
 
 pub returns-in-Revived-clause-pair : goal.returns-in-Revived-clause-pair
