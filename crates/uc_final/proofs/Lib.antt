@@ -1,0 +1,7 @@
+pub mod Firsts
+pub mod Selected
+pub mod Overlapped
+pub mod Tested
+pub mod Concluded
+pub mod Converged
+pub mod Decided

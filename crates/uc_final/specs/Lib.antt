@@ -1,2 +1,3 @@
 pub mod Phases
 pub mod Stages
+pub mod Converged

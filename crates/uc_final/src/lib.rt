@@ -7,12 +7,14 @@
 #![tactic(auto)]
 
 mod answering;
+mod laws;
 mod overlapping;
 mod passing;
 mod searching;
 mod selecting;
 mod testing;
 
+pub use laws::{convergent_decides, convergent_joins};
 pub use passing::final_pass;
 
 #[cfg(test)]

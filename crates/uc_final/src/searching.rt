@@ -1,7 +1,7 @@
 //! The first overlap that is too large, and the first goal that is stuck.
 
 ghost use Rattle.std.specs.Prelude.{◌≡◌, ◌<◌, ◌^◌, length};
-ghost use Rattle.uc_machine.specs.Finals.{first_large, is_stuck};
+ghost use Rattle.uc_machine.specs.Finals.{first_large, large_or, is_stuck};
 ghost use Rattle.uc_final.specs.Stages.{first_stuck_stage};
 
 use uc_fact::Overlap;
@@ -13,11 +13,22 @@ pub fn first_large(overlaps: &[Formed]) -> Option<Overlap>
     ensures { result ≡ first_large overlaps.now }
 {
     for formed in overlaps {
-        if formed.size == Size::Large {
-            return Some(formed.overlap);
+        if let Some(overlap) = if_large(*formed) {
+            return Some(overlap);
         }
     }
     None
+}
+
+/// The overlap, where it is too large.
+#[inline]
+fn if_large(formed: Formed) -> Option<Overlap>
+    ensures { result ≡ large_or formed.size formed.overlap None }
+{
+    match formed.size {
+        Size::Large => Some(formed.overlap),
+        Size::Weight(_) | Size::Same => None,
+    }
 }
 
 /// The number of the first state that is `Stuck`.

@@ -1,7 +1,8 @@
 //! The tests of pairs.
 
-ghost use Rattle.std.specs.Prelude.{◌≡◌, ◌++◌, All, IfOk};
+ghost use Rattle.std.specs.Prelude.{◌≡◌, ◌++◌, IfOk};
 ghost use Rattle.uc_shelf.specs.Fronts.{IsOf};
+ghost use Rattle.uc_machine.specs.Lists.{Each};
 ghost use Rattle.uc_machine.specs.Origins.{IsKnownOrigin};
 ghost use Rattle.uc_machine.specs.Finals.{Tests};
 ghost use Rattle.uc_final.specs.Phases.{IsTested, list_of};
@@ -24,7 +25,7 @@ pub fn missing_among<O: Order>(
     order: &O,
 ) -> Result<Seq<Missing>, AllocError>
     requires of { IsOf shelf.now front.now }
-    requires known { All (IsKnownOrigin (O.meaning order.now) axioms.now front.now.entries) origins.now }
+    requires known { Each (IsKnownOrigin (O.meaning order.now) axioms.now front.now.entries) origins.now }
     ensures { IfOk result (Tests (O.meaning order.now) axioms.now front.now.entries origins.now) }
 {
     let mut list = Seq::new(alloc);

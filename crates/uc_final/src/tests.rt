@@ -98,7 +98,7 @@ fn term(alloc: Global, letters: &[u8]) -> Result<Term, TermFault> {
 fn wide(alloc: Global, first: Term, other: &Term) -> Result<Term, TermFault> {
     let mut args = Vec::new(alloc);
     args.push(first)?;
-    while args.len() < WIDTH {
+    for _ in 1..WIDTH {
         args.push(other.copy(alloc)?)?;
     }
     Term::app(alloc, WIDE, args.as_slice())

@@ -1,0 +1,10 @@
+use Rattle.std.proofs.Common.{◌≡◌, ◌++◌, map}
+use Rattle.uc_fact.specs.Live.{equations_of}
+use Rattle.uc_worker.specs.Living.{live_of}
+use Rattle.uc_final.proofs.answering.system_of.Given as goal
+
+abbrev pub invariant-loop-fact : goal.invariant-loop-fact
+invariant-loop-fact l =
+    goal.iterator-loop-fact.can_next l.fact-iterator ×
+    goal.iterator-loop-fact.is_finite l.fact-iterator ×
+    (l.list ++ equations_of (map live_of l.fact-iterator.rest.items) ≡ equations_of (map live_of l.fn.facts.items))
