@@ -16,3 +16,5 @@ pub mod PathOnce
 pub mod Once
 pub mod Writing
 pub mod Making
+pub mod Saying
+pub mod Rows

@@ -12,6 +12,7 @@ use Rattle.uc_term.proofs.Terms.{take_of_length-le}
 use Rattle.uc_check.specs.declared.proof.Line.{Line}
 use Rattle.uc_check.specs.declared.proof.LineStep.{LineStep}
 use Rattle.uc_check.specs.declared.proof.LineSource.{LineSource}
+use Rattle.uc_check.specs.declared.proof.LineSource.TheVariants.{Chain}
 use Rattle.uc_pair.specs.Numbering.{placed_by, IsNameAt}
 use Rattle.uc_pair.proofs.Names.{place_new, known_adds_none, new_adds_one}
 use Rattle.uc_tstp.specs.Printable.{source_variables, line_variables, renumbered_step, renumbered_source, renumbered_line}
@@ -121,6 +122,16 @@ module _ (steps : List LineStep) (old names : List ℕ) (i : ℕ) (list : List L
 
   pub steps_list : (rest : List ℕ) → list ≡ map (renumbered_step (names ++ rest)) steps
   steps_list rest = s.list_is rest ∙ ap (map (renumbered_step (names ++ rest))) all_steps
+
+-- a source that is a chain
+module _ (old mid new : List ℕ) (source : LineSource) (start : Tree) (steps : List LineStep) (parents : List ℕ) (is : source ≡ Chain start steps parents) (steps_are : new ≡ mid ++ firsts_after mid (step_variables steps)) where
+  pub chain_names : mid ≡ old ++ firsts_after old (variables start) → new ≡ old ++ firsts_after old (source_variables source)
+  chain_names a = steps_are ∙ ap (λ l. l ++ firsts_after l (step_variables steps)) a ∙ added_twice old (variables start) (step_variables steps) ∙ ap (λ (s : LineSource). old ++ firsts_after old (source_variables s)) (sym is)
+
+  pub chain_numbered : (first : Tree) (list : List LineStep) → ((rest : List ℕ) → first ≡ renumbered_by (mid ++ rest) start) → ((rest : List ℕ) → list ≡ map (renumbered_step (new ++ rest)) steps) → Chain first list parents ≡ renumbered_source new source
+  chain_numbered first list f l =
+      ap₂ (λ t ss. Chain t ss parents) (f (firsts_after mid (step_variables steps)) ∙ ap (λ xs. renumbered_by xs start) (sym steps_are)) (l [] ∙ ap (λ xs. map (renumbered_step xs) steps) (append-nil new))
+      ∙ ap (renumbered_source new) (sym is)
 
 -- the whole line
 pub line_numbered : (line numbered : Line) (a b c : List ℕ) → a ≡ [] ++ firsts_after [] (variables line.left) → ((rest : List ℕ) → numbered.left ≡ renumbered_by (a ++ rest) line.left) → b ≡ a ++ firsts_after a (variables line.right) → ((rest : List ℕ) → numbered.right ≡ renumbered_by (b ++ rest) line.right) → c ≡ b ++ firsts_after b (source_variables line.source) → numbered.source ≡ renumbered_source c line.source → numbered.name ≡ line.name → numbered.positive ≡ line.positive → numbered ≡ renumbered_line line

@@ -25,6 +25,9 @@ pub last_of_more : (u : Tree) (ss : List Step) (s : Step) → last_term u (ss ++
 last_of_more u [] s = refl
 last_of_more u (r ∷ ss) s = last_of_more r.to ss s
 
+pub before_last : (u : Tree) (ss : List Step) (n k : ℕ) (d : Step) → n ≡ k + 1 → k < length ss → (get_or ss k d).to ≡ last_term u (take n ss)
+before_last u ss n k d e h = sym (ap (λ m. last_term u (take m ss)) e ∙ ap (last_term u) (take_more ss k d h) ∙ last_of_more u (take k ss) (get_or ss k d))
+
 pub back_last : (u : Tree) (ss : List Step) (s : Step) → steps_back u (ss ++ s ∷ []) ≡ step_back (last_term u ss) s ∷ steps_back u ss
 back_last u [] s = refl
 back_last u (r ∷ ss) s = ap (λ l. l ++ step_back u r ∷ []) (back_last r.to ss s)

@@ -185,11 +185,16 @@ fn refutation_line(
     ensures { (problem : Problem) (facts : List Fact) (conclusion : Chain) → IfOk result (Says problem encoded.now facts conclusion goal plan.now name part.Refutation) }
 {
     let chain = plan.number(Part::Conclusion);
-    let parents = match encoded.goal_clauses.as_slice()[goal as usize] {
-        Some(clause) => two(alloc, plan.number(Part::Denial(clause)), chain)?,
-        None => one(alloc, chain)?,
-    };
-    refute_line(alloc, parents, name)
+    match encoded.goal_clauses.as_slice()[goal as usize] {
+        Some(clause) => {
+            let parents = two(alloc, plan.number(Part::Denial(clause)), chain)?;
+            refute_line(alloc, parents, name)
+        }
+        None => {
+            let parents = one(alloc, chain)?;
+            refute_line(alloc, parents, name)
+        }
+    }
 }
 
 fn refute_line(alloc: Global, parents: Seq<u32>, name: Text) -> Result<Line, AllocError>

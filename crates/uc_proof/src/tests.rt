@@ -1,3 +1,10 @@
+ghost use Rattle.std.specs.Prelude.{◌≡◌, ◌<◌, ◌+◌, ◌^◌, length, map, IfOk, IsTrue};
+ghost use Rattle.uc_term.specs.Tree.{Tree};
+ghost use Rattle.uc_problem.specs.Holds.{Agrees};
+ghost use Rattle.uc_rewrite.specs.Replay.{LeadsFrom, FactsReplay};
+ghost use Rattle.uc_proof.specs.Chains.{ProvesGoal};
+ghost use Rattle.uc_proof.specs.Extracted.{IsEncodingOf};
+
 use crate::{Extracted, extract_from};
 use std::alloc::Global;
 use std::test::Fail;
@@ -6,7 +13,8 @@ use uc_clause::read_term;
 use uc_edge::MemoryLibrary;
 use uc_fact::{By, Chain, Fact, Origin, Step, Stop};
 use uc_problem::{Encoded, Problem, encode, load};
-use uc_term::{Pos, Seq, Symbols, Term, Text};
+use uc_rewrite::replay;
+use uc_term::{Equation, Pos, Seq, Symbols, Term, Text};
 use uc_tstp::read_proof;
 
 // A step: by which equation, whether from left to right, at which place, and the term after it.
@@ -16,6 +24,7 @@ type StepText<'a> = (By, bool, u32, &'a str);
 type FactText<'a> = (&'a str, &'a str, &'a [StepText<'a>]);
 
 // A row: the problem, the facts, the goal's number, the two sides with their chains, and the proof.
+#[derive(Clone, Copy)]
 struct Row<'a> {
     problem: &'a str,
     facts: &'a [FactText<'a>],
@@ -106,7 +115,9 @@ fn text(g: Global, text: &str) -> Result<Text, Fail> {
     Ok(Text::from_bytes(g, text.as_bytes())?)
 }
 
-fn problem(g: Global, symbols: &mut Symbols, bytes: &str) -> Result<Problem, Fail> {
+fn problem(g: Global, symbols: &mut Symbols, bytes: &str) -> Result<Problem, Fail>
+    ensures { IfOk result (Agrees symbols.new) }
+{
     let mut files = Vec::new(g);
     files.push((text(g, "r.p")?, text(g, bytes)?))?;
     let mut library = MemoryLibrary::new(g, files, Vec::new(g))?;
@@ -153,7 +164,9 @@ fn facts(g: Global, symbols: &mut Symbols, rows: &[FactText]) -> Result<Vec<Fact
     Ok(facts)
 }
 
-fn lent<'a>(g: Global, facts: &'a [Fact]) -> Result<Vec<&'a Fact>, Fail> {
+fn lent<'a>(g: Global, facts: &'a [Fact]) -> Result<Vec<&'a Fact>, Fail>
+    ensures { IfOk result (λ list. map (λ f. f.now) list.items ≡ facts.now) }
+{
     let mut list = Vec::new(g);
     for fact in facts {
         list.push(fact)?;
@@ -161,22 +174,134 @@ fn lent<'a>(g: Global, facts: &'a [Fact]) -> Result<Vec<&'a Fact>, Fail> {
     Ok(list)
 }
 
-fn extraction_of(g: Global, symbols: &mut Symbols, row: &Row) -> Result<Extracted, Fail> {
+// Whether the chain replays from the one term to the other.
+fn leads_from(
+    g: Global,
+    axioms: &[Equation],
+    facts: &[Fact],
+    chain: &Chain,
+    from: &Term,
+    to: &Term,
+) -> Result<bool, Fail>
+    ensures { IfOk result (λ leads. IsTrue leads → LeadsFrom axioms.now facts.now chain.now from.now to.now) }
+{
+    match replay(g, chain, axioms, facts)? {
+        None => Ok(false),
+        Some((start, end)) => {
+            if !start.same(from) {
+                return Ok(false);
+            }
+            Ok(end.same(to))
+        }
+    }
+}
+
+fn facts_replay(g: Global, axioms: &[Equation], facts: &[Fact]) -> Result<bool, Fail>
+    ensures { IfOk result (λ replays. IsTrue replays → FactsReplay axioms.now facts.now) }
+{
+    for (number, fact) in facts.iter().enumerate() {
+        if !leads_from(
+            g,
+            axioms,
+            &facts[..number],
+            &fact.chain,
+            &fact.left,
+            &fact.right,
+        )? {
+            return Ok(false);
+        }
+    }
+    Ok(true)
+}
+
+// Whether the two chains lead from the goal's sides to one term.
+fn proves_goal(
+    g: Global,
+    encoded: &Encoded,
+    facts: &[Fact],
+    goal: u32,
+    left: &Chain,
+    right: &Chain,
+) -> Result<bool, Fail>
+    ensures { IfOk result (λ proves. IsTrue proves → ProvesGoal encoded.now facts.now goal left.now right.now) }
+{
+    match encoded.goals.as_slice().get(goal as usize) {
+        None => Ok(false),
+        Some(equation) => meet(g, encoded.axioms.as_slice(), facts, equation, left, right),
+    }
+}
+
+fn meet(
+    g: Global,
+    axioms: &[Equation],
+    facts: &[Fact],
+    goal: &Equation,
+    left: &Chain,
+    right: &Chain,
+) -> Result<bool, Fail>
+    ensures { IfOk result (λ meet. IsTrue meet → (meeting : Tree) × LeadsFrom axioms.now facts.now left.now goal.now.left meeting × LeadsFrom axioms.now facts.now right.now goal.now.right meeting) }
+{
+    let meeting = last_of(left);
+    if !leads_from(g, axioms, facts, left, &goal.left, meeting)? {
+        return Ok(false);
+    }
+    leads_from(g, axioms, facts, right, &goal.right, meeting)
+}
+
+fn last_of(chain: &Chain) -> &Term {
+    match chain.steps.as_slice().last() {
+        None => &chain.start,
+        Some(step) => &step.to,
+    }
+}
+
+// Whether there is room for the numbers of all lines.
+fn are_few(problem: &Problem, encoded: &Encoded, facts: &[Fact]) -> bool
+    ensures { IsTrue result → length encoded.now.sources + length problem.now.goals + length facts.now + 2 < 2 ^ 32 }
+{
+    encoded.sources.len() < 100 && problem.goals.len() < 100 && facts.len() < 100
+}
+
+// The proof of a row, where its chains replay.
+fn extraction_of(g: Global, symbols: &mut Symbols, row: &Row) -> Result<Option<Extracted>, Fail> {
     let problem = problem(g, symbols, row.problem)?;
     let encoded = encode(g, &problem, symbols)?;
     let facts = facts(g, symbols, row.facts)?;
     let left = chain(g, symbols, row.left.0, row.left.1)?;
     let right = chain(g, symbols, row.right.0, row.right.1)?;
-    let facts = lent(g, facts.as_slice())?;
-    Ok(extract_from(
+    extraction(
         g,
-        facts.as_slice(),
-        &left,
-        &right,
         &problem,
         &encoded,
+        facts.as_slice(),
         row.goal,
-    )?)
+        &left,
+        &right,
+    )
+}
+
+fn extraction(
+    g: Global,
+    problem: &Problem,
+    encoded: &Encoded,
+    facts: &[Fact],
+    goal: u32,
+    left: &Chain,
+    right: &Chain,
+) -> Result<Option<Extracted>, Fail>
+    requires { IsEncodingOf problem.now encoded.now }
+{
+    if !are_few(problem, encoded, facts) {
+        return Ok(None);
+    }
+    if !facts_replay(g, encoded.axioms.as_slice(), facts)? {
+        return Ok(None);
+    }
+    if !proves_goal(g, encoded, facts, goal, left, right)? {
+        return Ok(None);
+    }
+    let facts = lent(g, facts)?;
+    Ok(Some(extract_from(g, facts.as_slice(), left, right, problem, encoded, goal)?))
 }
 
 fn same_steps(a: &[LineStep], b: &[LineStep]) -> bool {
@@ -230,17 +355,34 @@ fn same_line(a: &Line, b: &Line) -> bool {
         && same_source(&a.source, &b.source)
 }
 
+// The file of a line from this source.
+fn file_of(source: &LineSource) -> &'static [u8] {
+    match source {
+        LineSource::File(_) => b"r.p",
+        LineSource::Chain { .. } => b"",
+        LineSource::Reflexive { .. } => b"",
+        LineSource::EncodeGoal { .. } => b"",
+        LineSource::Refute { .. } => b"",
+    }
+}
+
 #[test]
 fn proofs_of_rows(rt: HostRuntime) -> Result<(), Fail> {
     let g = rt.alloc();
     for row in [SAME, TWICE, OPEN] {
         let mut symbols = Symbols::new(g);
-        let made = extraction_of(g, &mut symbols, &row)?;
-        let proof = made.proof;
+        let made = extraction_of(g, &mut symbols, &row)?.ok_or(
+            "a chain that doesn't lead to its end",
+        )?;
+        let lines = made.proof.lines.as_slice();
         let wanted = read_proof(g, row.proof.as_bytes(), &mut symbols)?;
-        assert!(rt; proof.lines.len() == wanted.lines.len());
-        for (a, b) in proof.lines.as_slice().iter().zip(wanted.lines.as_slice()) {
+        assert!(rt; lines.len() == wanted.lines.len());
+        assert!(rt; lines.len() == made.files.len());
+        for (a, b) in lines.iter().zip(wanted.lines.as_slice()) {
             assert!(rt; same_line(a, b));
+        }
+        for (line, file) in lines.iter().zip(made.files.as_slice()) {
+            assert!(rt; file.as_bytes() == file_of(&line.source));
         }
     }
     Ok(())

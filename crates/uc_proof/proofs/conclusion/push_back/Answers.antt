@@ -7,8 +7,8 @@ use Rattle.uc_proof.proofs.conclusion.push_back.Goals as goal
 
 pub loop-number-init : goal.loop-number-init
 loop-number-init c = (
-  let n = c.len-number.ensures in omega arith,
-  ap (λ (l : List Step). c.args.steps.now.items ++ steps_back c.args.start.now l) (take_of_length-le c.args.forth.now c.len-number.result (let n = c.len-number.ensures in omega arith)),
+  omega arith,
+  ap (λ (l : List Step). c.args.steps.now.items ++ steps_back c.args.start.now l) (take_of_length-le c.args.forth.now (length c.args.forth.now) (omega arith)),
 )
 
 pub loop-number-preserved : goal.loop-number-preserved
@@ -19,9 +19,9 @@ loop-number-preserved c =
     let fits : k < length c.args.forth.now = omega arith in
     let up : c.loop-number.number ≡ k + 1 = omega arith in (
       omega arith,
-      pushed_back c.args.start.now c.args.forth.now k _ c.index-forth-number.result.now (c.args.steps.now.items ++ steps_back c.args.start.now c.args.forth.now) c.loop-number.steps.items c.push.new.self.items c.term_before-before.result.now c.in_ok-back.field-0 fits c.index-forth-number.is
+      pushed_back c.args.start.now c.args.forth.now k _ c.index-forth-number.result (c.args.steps.now.items ++ steps_back c.args.start.now c.args.forth.now) c.loop-number.steps.items c.push.new.self.items c.term_before-before.result.now c.in_ok-back.field-0 fits c.index-forth-number.is
           (subst (λ (n : ℕ). c.loop-number.steps.items ++ steps_back c.args.start.now (take n c.args.forth.now) ≡ c.args.steps.now.items ++ steps_back c.args.start.now c.args.forth.now) up c.loop-number.invariant.1)
-          c.term_before-before.ensures c.in_ok-back.ensures c.in_ok-push.ensures.items,
+          c.term_before-before.ensures (cc) c.in_ok-push.ensures.items,
     )
 
 pub returns : goal.returns

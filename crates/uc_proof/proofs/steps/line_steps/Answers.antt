@@ -1,4 +1,6 @@
-use Rattle.std.proofs.Common.{sym, ◌∙◌}
+use Rattle.std.proofs.Common.{List, subst}
+use Rattle.uc_fact.specs.declared.chain.Step.{Step}
+use Rattle.uc_proof.specs.Written.{AreStepsFor}
 use Rattle.uc_rewrite.proofs.Replays.{step_at, nothing_left}
 use Rattle.uc_proof.proofs.Writing.{writing_begins, named_here, inside_here, writing_on, writing_ends}
 use Rattle.uc_proof.proofs.steps.line_steps.Goals as goal
@@ -23,5 +25,6 @@ loop-step-preserved c =
 
 pub returns : goal.returns
 returns c =
-    writing_ends c.args.plan.now c.args.chain.now.start c.as_slice-steps.result.now c.loop-step.before.now c.loop-step.step-index c.loop-step.written.items c.loop-step.invariant
-    (nothing_left c.as_slice-steps.result.now c.loop-step.step-index c.loop-step-test.false)
+    subst (λ (ss : List Step). AreStepsFor c.args.plan.now c.args.chain.now.start ss c.loop-step.written.items) c.as_slice-steps.ensures
+    (writing_ends c.args.plan.now c.args.chain.now.start c.as_slice-steps.result.now c.loop-step.before.now c.loop-step.step-index c.loop-step.written.items c.loop-step.invariant
+    (nothing_left c.as_slice-steps.result.now c.loop-step.step-index c.loop-step-test.false))
