@@ -5,20 +5,22 @@ use std::sync::Wait;
 use std::test::Fail;
 use std::thread::Threads;
 use uc_edge::{MemoryLibrary, MemorySink, NoGate};
+use uc_system::{print_system, read_system};
+use uc_term::Symbols;
 
 // The words; the name of a problem and its text; the calls that fail; and what is answered.
 #[derive(Clone, Copy)]
-struct Row {
-    words: &'static [&'static str],
+struct Row<'a> {
+    words: &'a [&'static str],
     name: &'static str,
-    problem: &'static str,
+    problem: &'a str,
     failing_fetches: &'static [u32],
     failing_writes: &'static [u32],
     status: u8,
     text: &'static str,
 }
 
-const ROW: Row = Row {
+const ROW: Row<'static> = Row {
     words: &["prove", "r5.p"],
     name: "r5.p",
     problem: R5,
@@ -147,8 +149,31 @@ cnf(s4, plain, eq(c,a) = false).
 % SZS output end Saturation for rb.p
 ";
 
+const P_GROUP: &str = "% SZS status Satisfiable for grp.p
+% SZS output start Saturation for grp.p
+% system 1
+% order lpo
+% symbol e 0
+% symbol a 0
+% symbol b 0
+% symbol m 2
+% symbol i 1
+cnf(s1, plain, m(e,X1) = X1).
+cnf(s2, plain, m(i(X1),X1) = e).
+cnf(s3, plain, m(m(X1,X2),X3) = m(X1,m(X2,X3))).
+cnf(s4, plain, m(i(X1),m(X1,X2)) = X2).
+cnf(s5, plain, i(e) = e).
+cnf(s6, plain, m(X1,i(X1)) = e).
+cnf(s7, plain, m(X1,e) = X1).
+cnf(s8, plain, i(i(X1)) = X1).
+cnf(s9, plain, m(X1,m(i(X1),X2)) = X2).
+cnf(s10, plain, i(m(X1,X2)) = m(i(X2),i(X1))).
+% end
+% SZS output end Saturation for grp.p
+";
+
 // Problems that are proved, saturated, or given up.
-const SEARCHES: [(&[&str], &str, u8, &str); 11] = [
+const SEARCHES: [(&[&str], &str, u8, &str); 12] = [
     (&["prove", "r4.p"], R4, 0, P4),
     (&["prove", "r5.p"], R5, 0, P5),
     (&["prove", "r8.p"], R8, 1, P8),
@@ -174,6 +199,12 @@ const SEARCHES: [(&[&str], &str, u8, &str); 11] = [
         "% SZS status ResourceOut for r5.p\n% pairs 0 plus 2 of 1\n",
     ),
     (&["prove", "--budget", "2", "--trace", "r5.p"], R5, 0, T5),
+    (
+        &["prove", "--order", "lpo", "--precedence", "i", "grp.p"],
+        GROUP,
+        1,
+        P_GROUP,
+    ),
     (
         &["prove", "--workers", "2", "r5.p"],
         R5,
@@ -293,5 +324,57 @@ fn refusals_have_a_status(rt: HostRuntime) -> Result<(), Fail> {
         };
         assert!(rt; is_answered(&rt, rt.alloc(), &row)?, "{text}");
     }
+    Ok(())
+}
+
+// Text so many times.
+fn push_times(out: &mut String, text: &str, times: usize) -> Result<(), AllocError> {
+    for _ in 0..times {
+        out.push_str(text)?;
+    }
+    Ok(())
+}
+
+// Two axioms whose one overlap has a side of 6,001 nodes.
+fn large(alloc: Global) -> Result<String, AllocError> {
+    let mut out = String::from_str(alloc, "cnf(b1, axiom, g(h(X)) = k(")?;
+    push_times(&mut out, "X,", 59)?;
+    out.push_str("X)).\ncnf(b2, axiom, h(")?;
+    push_times(&mut out, "s(", 99)?;
+    out.push_str("c")?;
+    push_times(&mut out, ")", 99)?;
+    out.push_str(") = c).\n")?;
+    Ok(out)
+}
+
+#[test]
+fn large_overlaps_end_a_search(rt: HostRuntime) -> Result<(), Fail> {
+    let problem = large(rt.alloc())?;
+    let row = Row {
+        words: &["prove", "--order", "lpo", "--precedence", "g", "big.p"],
+        name: "big.p",
+        problem: problem.as_str(),
+        status: 2,
+        text: "% SZS status ResourceOut for big.p\n% size overlap 0 l 1 l [1]\n",
+        ..ROW
+    };
+    assert!(rt; is_answered(&rt, rt.alloc(), &row)?);
+    Ok(())
+}
+
+// What stands between the two lines of a saturated system is read as a system, and printed again as the same text.
+#[test]
+fn systems_are_read_again(rt: HostRuntime) -> Result<(), Fail> {
+    let alloc = rt.alloc();
+    let mut symbols = Symbols::new(alloc);
+    let Some((_, behind)) = P8.split_once("start Saturation for r8.p\n") else {
+        return Err(Fail::from("no start"));
+    };
+    let Some((text, _)) = behind.split_once("% SZS output end") else {
+        return Err(Fail::from("no end"));
+    };
+    let read = read_system(alloc, text.as_bytes(), &mut symbols)?;
+    let again = print_system(alloc, &read.spec, &read.system, &symbols)?;
+    assert!(rt; again.as_bytes() == text.as_bytes());
     Ok(())
 }
