@@ -4,10 +4,14 @@
 
 mod computing;
 mod facts;
+mod laws;
 mod rounds;
 mod working;
 
 pub use computing::compute;
 pub use facts::{all_facts, live_system};
+pub use laws::{
+    limits_have_causes, one_search, search_is_a_run, searches_are_bounded, stays_over_signature,
+};
 pub use rounds::search_alone;
 pub use working::{Ended, work_alone};
