@@ -164,7 +164,14 @@ fn searched_answer<R: Wait>(
 {
     let order = Chosen::new(alloc, spec, symbols, encoded.signature.symbols.as_slice())?;
     let shelf = Shelf::new(alloc)?;
-    let mut book = Book::start(alloc, encoded, &order, &shelf, command.budget, command.pairs)?;
+    let mut book = Book::start(
+        alloc,
+        encoded,
+        &order,
+        &shelf,
+        command.budget,
+        command.pairs,
+    )?;
     let mut pass = book.enroll(alloc, 0)?;
     let verdict = search_alone(rt, alloc, &mut book, &shelf, encoded, &order, &mut pass)?;
     let closed = Closed {
