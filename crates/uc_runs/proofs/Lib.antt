@@ -9,3 +9,16 @@ pub mod Whole
 pub mod OneResult
 pub mod Continuing
 pub mod Origins
+pub mod EachFact
+pub mod OverTerms
+pub mod OverUnifiers
+pub mod OverFound
+pub mod OverRuns
+pub mod OpenGoals
+pub mod Verdicts
+pub mod Saturating
+pub mod GoalsApart
+pub mod WrittenFacts
+pub mod ProvedGoals
+pub mod FewFacts
+pub mod LargeOverlaps
