@@ -1,0 +1,16 @@
+pub mod Turns
+pub mod Counting
+pub mod Alone
+pub mod Moved
+pub mod Finishing
+pub mod Turning
+pub mod RoundEnds
+pub mod Births
+pub mod AllAudits
+pub mod Rests
+pub mod OneSearch
+pub mod Caused
+pub mod Distinct
+pub mod Loads
+pub mod Fits
+pub mod Bounded

@@ -1,0 +1,4 @@
+pub mod Working
+pub mod Searching
+pub mod Causes
+pub mod Bounds
