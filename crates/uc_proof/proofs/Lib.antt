@@ -12,8 +12,10 @@ pub mod Using
 pub mod Numbers
 pub mod Naming
 pub mod Printing
+pub mod TableLines
 pub mod PathOnce
 pub mod Once
 pub mod Writing
 pub mod Making
 pub mod Saying
+pub mod Rows

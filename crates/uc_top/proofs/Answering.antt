@@ -47,7 +47,8 @@ use Rattle.uc_check.specs.declared.proof.Proof.{Proof}
 use Rattle.uc_top.specs.declared.output.Answer.{Answer}
 use Rattle.uc_top.specs.Lines.{joined, load_line, proof_line}
 use Rattle.std.proofs.lemmas.Option.{slice_get_read}
-use Rattle.uc_top.specs.Answers.{IsBuilt, large_line, WhereTold, load_status, IsProofFetched, TextAnswers, is_not_read, is_checked, ProofAnswers, is_absent, isnt_fetched, is_found, ProblemAnswers, has_large_goal, is_marked, LoadAnswers, CheckAnswers, fetch_fails, is_refused, is_loaded}
+use Rattle.uc_top.specs.Answers.{IsBuilt, IsProofFetched, TextAnswers, is_not_read, is_checked, ProofAnswers, is_absent, isnt_fetched, is_found, ProblemAnswers, has_large_goal, is_marked, LoadAnswers, CheckAnswers, fetch_fails, is_refused, is_loaded}
+use Rattle.uc_top.specs.Refusals.{large_line, WhereTold, load_status}
 
 -- A count that rose in a part of a call rose in the call.
 pub rose_before : (first before now : ℕ) → first ≤ before → Rose before now → Rose first now
@@ -164,7 +165,7 @@ held_problem table later (Some files) root name problem g h = h later g
 
 -- the answer where no problem is loaded
 module _ (table : Table) (before now : ℕ) (AnswersFor : Problem → ℕ → List ℕ → Type 0) (root : Option (List ℕ)) (name : List ℕ) where
-  refuses : (files : Files) (why : LoadFault) → load_status why ≡ 3 → IsLoadFault table (Some files) before now root name why → Refuses table files root name why
+  pub refuses : (files : Files) (why : LoadFault) → load_status why ≡ 3 → IsLoadFault table (Some files) before now root name why → Refuses table files root name why
   refuses files (load.Absent f from) e h = h table (Grows-refl table)
   refuses files (load.ReadFault f) e h = absurd (omega (arith, e))
   refuses files (load.TooDeep f p) e h = h table (Grows-refl table)
@@ -180,7 +181,7 @@ module _ (table : Table) (before now : ℕ) (AnswersFor : Problem → ℕ → Li
   refuses files (load.Clause f clause.NoMemory) e h = absurd h
   refuses files load.NoMemory e h = absurd (omega (arith, e))
 
-  fails : (holds : Option Files) (file : List ℕ) → IsLoadFault table holds before now root name (load.ReadFault file) → WhereTold holds (λ files. FailsAt table files root name file)
+  pub fails : (holds : Option Files) (file : List ℕ) → IsLoadFault table holds before now root name (load.ReadFault file) → WhereTold holds (λ files. FailsAt table files root name file)
   fails None file h = tt
   fails (Some files) file h = h.1 table (Grows-refl table)
 
@@ -296,15 +297,15 @@ one_name [] a low high p = absurd (omega arith)
 one_name (x ∷ []) a low high p = rw p refl
 one_name (x ∷ y ∷ ys) a low high p = absurd (omega arith)
 
-pub not_built : (v : Verb) → (v ≡ verb.Check → ⊥) → (v ≡ verb.Show → ⊥) → (v ≡ verb.Order → ⊥) → (v ≡ verb.Rewrite → ⊥) → (v ≡ verb.Pairs → ⊥) → IsBuilt v → ⊥
-not_built verb.Check n m o r p b = n refl
-not_built verb.Show n m o r p b = m refl
-not_built verb.Order n m o r p b = o refl
-not_built verb.Prove n m o r p b = b
-not_built verb.Decide n m o r p b = b
-not_built verb.Rewrite n m o r p b = r refl
-not_built verb.Pairs n m o r p b = p refl
-not_built verb.Gen n m o r p b = b
+pub not_built : (v : Verb) → (v ≡ verb.Check → ⊥) → (v ≡ verb.Show → ⊥) → (v ≡ verb.Order → ⊥) → (v ≡ verb.Rewrite → ⊥) → (v ≡ verb.Pairs → ⊥) → (v ≡ verb.Prove → ⊥) → IsBuilt v → ⊥
+not_built verb.Check n m o r p q b = n refl
+not_built verb.Show n m o r p q b = m refl
+not_built verb.Order n m o r p q b = o refl
+not_built verb.Prove n m o r p q b = q refl
+not_built verb.Decide n m o r p q b = b
+not_built verb.Rewrite n m o r p q b = r refl
+not_built verb.Pairs n m o r p q b = p refl
+not_built verb.Gen n m o r p q b = b
 
 -- the empty table
 pub none_distinct : IsDistinct []

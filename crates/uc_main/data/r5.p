@@ -1,0 +1,3 @@
+cnf(ax1, axiom, f(a) = b).
+cnf(ax2, axiom, f(b) = a).
+cnf(goal, negated_conjecture, f(f(a)) != a).
