@@ -21,3 +21,6 @@ pub use book::{Book, MAX_BUDGET, MAX_LIMIT};
 pub use opened::Opened;
 pub use token::{Done, Pass, Task};
 pub use uc_rows::{WORKERS, copy_job};
+
+#[cfg(test)]
+mod tests;
