@@ -17,3 +17,4 @@ pub mod Once
 pub mod Writing
 pub mod Making
 pub mod Saying
+pub mod Rows

@@ -22,3 +22,6 @@ mod trial;
 pub use finding::finding_of;
 pub use live::{LiveFact, live_facts};
 pub use trial::{Tried, try_pair};
+
+#[cfg(test)]
+mod tests;

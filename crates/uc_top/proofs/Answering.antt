@@ -47,7 +47,8 @@ use Rattle.uc_check.specs.declared.proof.Proof.{Proof}
 use Rattle.uc_top.specs.declared.output.Answer.{Answer}
 use Rattle.uc_top.specs.Lines.{joined, load_line, proof_line}
 use Rattle.std.proofs.lemmas.Option.{slice_get_read}
-use Rattle.uc_top.specs.Answers.{IsBuilt, large_line, WhereTold, load_status, IsProofFetched, TextAnswers, is_not_read, is_checked, ProofAnswers, is_absent, isnt_fetched, is_found, ProblemAnswers, has_large_goal, is_marked, LoadAnswers, CheckAnswers, fetch_fails, is_refused, is_loaded}
+use Rattle.uc_top.specs.Answers.{IsBuilt, IsProofFetched, TextAnswers, is_not_read, is_checked, ProofAnswers, is_absent, isnt_fetched, is_found, ProblemAnswers, has_large_goal, is_marked, LoadAnswers, CheckAnswers, fetch_fails, is_refused, is_loaded}
+use Rattle.uc_top.specs.Refusals.{large_line, WhereTold, load_status}
 
 -- A count that rose in a part of a call rose in the call.
 pub rose_before : (first before now : ℕ) → first ≤ before → Rose before now → Rose first now

@@ -31,7 +31,8 @@ use Rattle.uc_top.proofs.OrderOnce.{ordered_once}
 use Rattle.uc_top.proofs.RewriteOnce.{rewritten_once}
 use Rattle.uc_top.proofs.PairsOnce.{paired_once}
 use Rattle.uc_top.proofs.ByVerb.{IsUsage, Of, of_command, read_or_not}
-use Rattle.uc_top.specs.Answers.{checked_status, large_line, TextAnswers, is_not_read, is_checked, ProofAnswers, is_absent, isnt_fetched, is_found, ProblemAnswers, has_large_goal, is_marked, LoadAnswers, CheckAnswers, ShowAnswers, OrderAnswers, RewriteAnswers, PairsAnswers, IsShown, fetch_fails, is_refused, is_loaded, Answers}
+use Rattle.uc_top.specs.Answers.{checked_status, TextAnswers, is_not_read, is_checked, ProofAnswers, is_absent, isnt_fetched, is_found, ProblemAnswers, has_large_goal, is_marked, LoadAnswers, CheckAnswers, ShowAnswers, OrderAnswers, RewriteAnswers, PairsAnswers, IsShown, fetch_fails, is_refused, is_loaded, Answers}
+use Rattle.uc_top.specs.Refusals.{large_line}
 
 -- what a text reads as where memory isn't wanted: it is too long, or it is read
 module _ (table : Table) (text : List ℕ) where

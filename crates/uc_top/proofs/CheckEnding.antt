@@ -33,7 +33,8 @@ use Rattle.uc_words.specs.declared.command.Command.{Command}
 use Rattle.uc_words.specs.declared.command.Verb.TheVariants as verb
 use Rattle.uc_words.specs.Reads.{Reads}
 use Rattle.uc_top.specs.Lines.{about_file, name_or_dash, cause_word, memory_line, checked_line, proof_line}
-use Rattle.uc_top.specs.Answers.{large_line, checked_status, TextAnswers, is_not_read, is_checked, is_absent, isnt_fetched, is_found, ProblemAnswers, has_large_goal, is_marked, CheckAnswers, fetch_fails, is_refused, is_loaded, Answers}
+use Rattle.uc_top.specs.Answers.{checked_status, TextAnswers, is_not_read, is_checked, is_absent, isnt_fetched, is_found, ProblemAnswers, has_large_goal, is_marked, CheckAnswers, fetch_fails, is_refused, is_loaded, Answers}
+use Rattle.uc_top.specs.Refusals.{large_line}
 use Rattle.uc_top.specs.Runs.{MayAnswer, is_answer, wants_memory, IsRun, EndsWith, tells_all, tells_want, CheckEnds, tells_checked, checks_in_want, CheckCompletes, CompletesCheck}
 use Rattle.uc_top.proofs.AnswersOnce.{LongOrRead, long_or_read, either_once, not_memory, read_not_memory, first_name, second_name}
 use Rattle.uc_top.proofs.ByVerb.{of_verb}

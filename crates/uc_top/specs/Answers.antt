@@ -1,18 +1,13 @@
 -- What the program answers: its status and its text, for the words of the command line and the files of a library.
-use Rattle.std.specs.Prelude.{ℕ, ◌≡◌, ◌+◌, List, [], ◌∷◌, take, codes, slice_get, unwrap_or, Option, Some, None, Ok, Err}
+use Rattle.std.specs.Prelude.{ℕ, ◌≡◌, ◌+◌, List, [], ◌∷◌, take, codes, slice_get, Option, Some, None, Ok, Err}
 use Rattle.uc_term.specs.declared.fresh.Fresh.{Fresh}
 use Rattle.uc_term.specs.Table.{Table}
 use Rattle.uc_edge.specs.Files.{Files}
 use Rattle.uc_edge.specs.Faults.{Rose}
 use Rattle.uc_edge.specs.declared.library.Fetched.{Fetched}
 use Rattle.uc_edge.specs.declared.library.Fetched.TheVariants.{Found, Absent, Failed}
-use Rattle.uc_clause.specs.declared.token.Place.{Place}
-use Rattle.uc_clause.specs.declared.clause.Clause as read
 use Rattle.uc_clause.specs.declared.clause.Sourced.{Sourced}
-use Rattle.uc_clause.specs.declared.fault.ClauseFault.TheVariants as clause
-use Rattle.uc_clause.specs.declared.fault.What.TheVariants.{Nodes}
 use Rattle.uc_problem.specs.declared.fault.LoadFault.{LoadFault}
-use Rattle.uc_problem.specs.declared.fault.LoadFault.TheVariants as load
 use Rattle.uc_problem.specs.declared.fault.EncodeFault.TheVariants.{GoalTooLarge}
 use Rattle.uc_problem.specs.declared.problem.Problem.{Problem}
 use Rattle.uc_problem.specs.Loading.{held}
@@ -31,22 +26,12 @@ use Rattle.uc_words.specs.declared.command.OrderWords.{OrderWords}
 use Rattle.uc_words.specs.declared.command.Verb.{Verb}
 use Rattle.uc_words.specs.declared.command.Verb.TheVariants as verb
 use Rattle.uc_words.specs.Reads.{Reads}
-use Rattle.uc_top.specs.Lines.{located, about_file, spaced, what_word, load_line, proof_line, checked_line, shown_lines, usage_line}
+use Rattle.uc_top.specs.Lines.{about_file, load_line, proof_line, checked_line, shown_lines, usage_line}
+use Rattle.uc_top.specs.Refusals.{WhereTold, load_status, large_line}
 use Rattle.uc_top.specs.OrderAnswers.{IsOrdered}
 use Rattle.uc_top.specs.RewriteAnswers.{IsRewritten}
 use Rattle.uc_top.specs.PairsAnswers.{IsPaired}
-
--- this holds of the library's files, where it tells them
-abbrev pub WhereTold : Option Files → (Files → Type 0) → Type 0
-WhereTold None P = Unit {0}
-WhereTold (Some files) P = P files
-
--- the status of a refusal of loading: a fault of the library, want of memory, or what the files say
-abbrev pub load_status : LoadFault → ℕ
-load_status (load.ReadFault file) = 5
-load_status load.NoMemory = 7
-load_status (load.Clause file clause.NoMemory) = 7
-load_status other = 3
+use Rattle.uc_top.specs.ProveAnswers.{ProveAnswers}
 
 -- what a fetch answers of the proof file of this name: its first bytes, as many as are asked for; that there is none; or a failure,
 -- which comes only where the count of faults rose
@@ -55,20 +40,13 @@ IsProofFetched holds before now name (Found bytes) = WhereTold holds (λ files. 
 IsProofFetched holds before now name Absent = WhereTold holds (λ files. held files name ≡ None)
 IsProofFetched holds before now name Failed = Rose before now
 
--- where the first node of a clause's left side stands; a clause without places stands where its item does
-abbrev pub first_node : read.Clause → Place
-first_node c = unwrap_or (slice_get c.places 0) c.place
-
--- the line of a goal that is too large to be encoded
-abbrev pub large_line : Sourced → List ℕ
-large_line s = located s.file (first_node s.clause) (codes "Limit") (spaced (what_word Nodes))
-
 abbrev pub checked_status : Checked → ℕ
 checked_status Accepted = 0
 checked_status (Rejected line cause) = 1
 
 -- the commands that are built
 abbrev pub IsBuilt : Verb → Type 0
+IsBuilt verb.Prove = Unit {0}
 IsBuilt verb.Check = Unit {0}
 IsBuilt verb.Show = Unit {0}
 IsBuilt verb.Order = Unit {0}
@@ -136,8 +114,10 @@ module _ (table : Table) where
       pub data Answers : ℕ → List ℕ → Type 0 where
         has_no_reading : ((command : Command) → Reads words command → ⊥) → Answers 4 usage_line
         isnt_built : {command : Command} → Reads words command → (IsBuilt command.verb → ⊥) → Answers 4 usage_line
+        has_many_workers : {command : Command} → Reads words command → command.verb ≡ verb.Prove → (command.workers ≡ 1 → ⊥) → Answers 4 usage_line
         checks : {command : Command} {name proof : List ℕ} {status : ℕ} {answer : List ℕ} → Reads words command → command.verb ≡ verb.Check → command.positionals ≡ name ∷ proof ∷ [] → CheckAnswers command.root name proof status answer → Answers status answer
         shows : {command : Command} {name : List ℕ} {status : ℕ} {answer : List ℕ} → Reads words command → command.verb ≡ verb.Show → command.positionals ≡ name ∷ [] → ShowAnswers command.root name status answer → Answers status answer
         orders : {command : Command} {name : List ℕ} {status : ℕ} {answer : List ℕ} → Reads words command → command.verb ≡ verb.Order → command.positionals ≡ name ∷ [] → OrderAnswers command.order command.root name status answer → Answers status answer
         rewrites : {command : Command} {name word : List ℕ} {status : ℕ} {answer : List ℕ} → Reads words command → command.verb ≡ verb.Rewrite → command.positionals ≡ name ∷ word ∷ [] → RewriteAnswers command.order command.limit word command.root name status answer → Answers status answer
         pairs_up : {command : Command} {name : List ℕ} {status : ℕ} {answer : List ℕ} → Reads words command → command.verb ≡ verb.Pairs → command.positionals ≡ name ∷ [] → PairsAnswers command.order command.root name status answer → Answers status answer
+        proves : {command : Command} {name : List ℕ} {status : ℕ} {answer : List ℕ} → Reads words command → command.verb ≡ verb.Prove → command.workers ≡ 1 → command.positionals ≡ name ∷ [] → ProveAnswers table command name holds before now status answer → Answers status answer

@@ -1,13 +1,17 @@
 pub mod Lines
+pub mod Refusals
 pub mod Axioms
 pub mod Directions
 pub mod OrderAnswers
 pub mod TermWords
 pub mod RewriteAnswers
 pub mod PairsAnswers
+pub mod TraceLines
+pub mod ProveAnswers
 pub mod Told
 pub mod Answers
 pub mod Runs
 pub mod OrderRuns
 pub mod RewriteRuns
 pub mod PairsRuns
+pub mod ProveRuns

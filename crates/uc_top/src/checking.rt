@@ -9,7 +9,8 @@ ghost use Rattle.uc_check.specs.Clauses.{axioms_of, goals_of, AreFresh, HasGoalI
 ghost use Rattle.uc_problem.specs.Holds.{Agrees};
 ghost use Rattle.uc_tstp.specs.Reading.{IsReading};
 ghost use Rattle.uc_top.specs.Lines.{joined, proof_line};
-ghost use Rattle.uc_top.specs.Answers.{large_line, checked_status, IsProofFetched, TextAnswers, ProofAnswers, ProblemAnswers, CheckAnswers};
+ghost use Rattle.uc_top.specs.Answers.{checked_status, IsProofFetched, TextAnswers, ProofAnswers, ProblemAnswers, CheckAnswers};
+ghost use Rattle.uc_top.specs.Refusals.{large_line};
 ghost use Rattle.uc_top.specs.Runs.{HasProof};
 
 use crate::lines::{about_file, checked_line, limit_line, proof_line};
@@ -88,7 +89,7 @@ fn problem_answer<L: Library>(
 }
 
 // The answer for a goal that is too large to be encoded.
-fn large_answer(alloc: Global, goal: &Sourced) -> Result<Answer, AllocError>
+pub(crate) fn large_answer(alloc: Global, goal: &Sourced) -> Result<Answer, AllocError>
     ensures { IfOk result (λ answer. (answer.status ≡ 3) × (joined answer.lines ≡ large_line goal.now)) }
 {
     let clause = &goal.clause;

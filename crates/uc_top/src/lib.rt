@@ -25,14 +25,20 @@ mod program;
 #[cfg(test)]
 mod proof_tests;
 #[cfg(test)]
+mod prove_tests;
+mod proving;
+#[cfg(test)]
 mod rewrite_tests;
 mod rewriting;
 #[cfg(test)]
 mod show_tests;
 mod showing;
+mod szs;
 mod term_word;
 #[cfg(test)]
 mod tests;
+mod trace_lines;
+mod verdict_lines;
 
 pub use laws::one_answer;
 pub use output::tell_memory_out;

@@ -4,7 +4,7 @@ ghost use Rattle.std.specs.Prelude.{◌≡◌, ℕ, List, IfOk};
 ghost use Rattle.std.specs.Option.{option_copied};
 ghost use Rattle.uc_problem.specs.declared.fault.LoadFault.TheVariants.{Clause};
 ghost use Rattle.uc_top.specs.Lines.{joined, load_line};
-ghost use Rattle.uc_top.specs.Answers.{load_status};
+ghost use Rattle.uc_top.specs.Refusals.{load_status};
 
 use crate::lines::load_line;
 use crate::output::{Answer, READ_FAULT, REFUSED, WANT_OF_MEMORY, of_line};

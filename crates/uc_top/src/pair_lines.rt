@@ -17,7 +17,7 @@ use uc_pair::{Formation, Formed, overlaps, pair_of};
 use uc_term::{Equation, Seq, Symbols, Term, Text};
 
 // The letter of a side.
-fn side_letter(side: Side) -> &'static [u8]
+pub(crate) fn side_letter(side: Side) -> &'static [u8]
     ensures { result.now ≡ side_letter side }
 {
     match side {
@@ -27,7 +27,7 @@ fn side_letter(side: Side) -> &'static [u8]
 }
 
 // The side of an equation.
-fn side_of(equation: &Equation, side: Side) -> &Term
+pub(crate) fn side_of(equation: &Equation, side: Side) -> &Term
     ensures { result.now ≡ side_of side equation.now }
 {
     match side {

@@ -12,11 +12,13 @@ ghost use Rattle.uc_top.specs.Runs.{MayAnswer, IsRun, IsCertified, Completes, Co
 ghost use Rattle.uc_top.specs.OrderRuns.{CompletesOrder};
 ghost use Rattle.uc_top.specs.RewriteRuns.{CompletesRewrite};
 ghost use Rattle.uc_top.specs.PairsRuns.{CompletesPairs};
+ghost use Rattle.uc_top.specs.ProveRuns.{KeepsWord, CompletesProve};
 
 use crate::checking::check_answer;
 use crate::ordering::order_answer;
 use crate::output::{Answer, USAGE, of_line, tell, tell_memory_out};
 use crate::pairing::pairs_answer;
+use crate::proving::prove_answer;
 use crate::rewriting::rewrite_answer;
 use crate::showing::show_answer;
 use std::alloc::{AllocError, Global};
@@ -31,17 +33,21 @@ const USAGE_LINE: &[u8] = b"usage: uc COMMAND [--option VALUE].. [WORD]..\n";
 /// Answers the words after the program's name: tells the sink the whole answer, line by line, and answers its status.
 ///
 /// For `check` the status is 0 where the proof file has a proof of the problem, each line of it right and the last one a
-/// refutation of a goal, so that one of the problem's goals follows from its axioms; 1 where the proof reads and isn't such;
-/// 3 where the problem or the proof isn't there or is refused. For `show` it is 0 where the problem is there, and all its
-/// clauses are told, each on a line; else 3. For `order` it is 0 where the problem is there and the words name an order for it,
-/// and how it directs each axiom is told on a line of its own; 4 where the order is refused; else 3. For `rewrite` it is 0 where
-/// the word is a term over the problem's signature that the axioms normalise by that order, and 2 where the limit or the largest
+/// refutation of a goal, so that one of the problem's goals follows from its axioms; 1 where the proof reads and isn't such; 3
+/// where the problem or the proof isn't there or is refused. For `show` it is 0 where the problem is there, and all its clauses
+/// are told, each on a line; else 3. For `order` it is 0 where the problem is there and the words name an order for it, and how
+/// it directs each axiom is told on a line of its own; 4 where the order is refused; else 3. For `rewrite` it is 0 where the
+/// word is a term over the problem's signature that the axioms normalise by that order, and 2 where the limit or the largest
 /// size ends it, with the term and each step told; 4 where the order is refused; else 3. For `pairs` it is 0 where the problem
 /// is there and the words name an order for it, and each critical pair of its axioms is told on a line of its own; 4 where the
-/// order is refused; else 3. 4 stands for words that have no reading, 5 for a failure of the library and 6 for one of the sink,
-/// each only where its count of faults rose in this call, and 7 for want of memory.
+/// order is refused; else 3. For `prove`, with one worker, it is 0 where the text has a proof of the problem, each line of it
+/// right and the last one a refutation of a goal; 1 where it has a system by which each ground term has exactly one normal
+/// form, two terms share it exactly if their equation follows from the axioms, and no goal follows; 2 where the text names the
+/// budget or the size that ended the search; 4 where the order is refused; else 3. 4 stands for words that have no reading, 5
+/// for a failure of the library and 6 for one of the sink, each only where its count of faults rose in this call, and 7 for
+/// want of memory.
 pub fn run<R: Threads + Wait + Sync, L: Library, S: Sink, G: Gate + Sync>(
-    _rt: &R,
+    rt: &R,
     alloc: Global,
     words: &[String],
     library: &mut L,
@@ -55,18 +61,21 @@ pub fn run<R: Threads + Wait + Sync, L: Library, S: Sink, G: Gate + Sync>(
     ensures complete_order { (files : Files) → L.holds library.old ≡ Some files → (Rose (L.faults library.old) (L.faults library.new) → ⊥) → (Rose (S.faults sink.old) (S.faults sink.new) → ⊥) → CompletesOrder files (map string_bytes words.now) (S.written sink.old) (S.written sink.new) result }
     ensures complete_rewrite { (files : Files) → L.holds library.old ≡ Some files → (Rose (L.faults library.old) (L.faults library.new) → ⊥) → (Rose (S.faults sink.old) (S.faults sink.new) → ⊥) → CompletesRewrite files (map string_bytes words.now) (S.written sink.old) (S.written sink.new) result }
     ensures complete_pairs { (files : Files) → L.holds library.old ≡ Some files → (Rose (L.faults library.old) (L.faults library.new) → ⊥) → (Rose (S.faults sink.old) (S.faults sink.new) → ⊥) → CompletesPairs files (map string_bytes words.now) (S.written sink.old) (S.written sink.new) result }
+    ensures promise { (files : Files) → L.holds library.old ≡ Some files → KeepsWord files (map string_bytes words.now) (S.written sink.old) (S.written sink.new) result }
+    ensures complete_prove { (files : Files) → L.holds library.old ≡ Some files → (Rose (L.faults library.old) (L.faults library.new) → ⊥) → (Rose (S.faults sink.old) (S.faults sink.new) → ⊥) → CompletesProve files (map string_bytes words.now) (S.written sink.old) (S.written sink.new) result }
     ensures same { L.holds library.new ≡ L.holds library.old }
     ensures later { L.faults library.old ≤ L.faults library.new }
     ensures sink_later { S.faults sink.old ≤ S.faults sink.new }
 {
-    match answer_of(alloc, words, library) {
+    match answer_of(rt, alloc, words, library) {
         Ok(answer) => tell(sink, &answer),
         Err(_) => tell_memory_out(sink),
     }
 }
 
 // The answer to the words.
-fn answer_of<L: Library>(
+fn answer_of<R: Wait, L: Library>(
+    rt: &R,
     alloc: Global,
     words: &[String],
     library: &mut L,
@@ -77,7 +86,7 @@ fn answer_of<L: Library>(
     ensures later { L.faults library.old ≤ L.faults library.new }
 {
     match read_words(alloc, words) {
-        Ok(command) => command_answer(alloc, &command, library),
+        Ok(command) => command_answer(rt, alloc, &command, library),
         Err(WordsFault::Usage) => usage_answer(alloc),
         Err(WordsFault::NoMemory) => Err(AllocError),
     }
@@ -90,7 +99,8 @@ fn usage_answer(alloc: Global) -> Result<Answer, AllocError>
 }
 
 // The answer to a command.
-fn command_answer<L: Library>(
+fn command_answer<R: Wait, L: Library>(
+    rt: &R,
     alloc: Global,
     command: &Command,
     library: &mut L,
@@ -121,6 +131,10 @@ fn command_answer<L: Library>(
         },
         Verb::Pairs => match command.positionals.as_slice() {
             [name] => pairs_answer(alloc, command.root.as_ref(), name, &command.order, library),
+            _ => unreachable!(),
+        },
+        Verb::Prove if command.workers == 1 => match command.positionals.as_slice() {
+            [name] => prove_answer(rt, alloc, command, name, library),
             _ => unreachable!(),
         },
         _ => usage_answer(alloc),

@@ -110,7 +110,7 @@ const WORDS: [(&[&str], u8, &str); 13] = [
     (&["check", "r1.p"], 4, USAGE),
     (&["check", "r1.p", "r1.s", "--trace"], 4, USAGE),
     (&["help"], 4, USAGE),
-    (&["prove", "r1.p"], 4, USAGE),
+    (&["decide", "r1.p", "a = b"], 4, USAGE),
     (&["prove"], 4, USAGE),
     (
         &["prove", "--budget", "5", "--budget", "6", "r5.p"],

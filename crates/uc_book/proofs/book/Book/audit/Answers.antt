@@ -1,0 +1,25 @@
+use Rattle.std.proofs.Common.{rules, arith, refl, ◌≡◌, ◌<◌, ◌≤◌, ◌^◌, length, sym, ◌∙◌, ap, subst}
+use Rattle.uc_book.specs.Openings.{Opened, opening_of}
+use Rattle.uc_book.specs.Ending.{CanEnd}
+use Rattle.uc_book.proofs.Sound.{book_can_end}
+use Rattle.uc_book.proofs.Booked.{audited_book}
+use Rattle.uc_book.proofs.book.Book.audit.Goals as goal
+
+pub audit-requires : goal.audit-requires
+audit-requires g c =
+    let b = c.self.inside in
+    let o : Opened = record { problem = b.problem.now; shelf = b.shelf.now; budget = b.budget; limit = b.limit } in
+    let is = rw (← c.self.view_is) at c.opening-opening.ensures in
+    let few : length b.parts.history.items < 2 ^ 63 = omega (arith, b.parts.history.ok.0, b.parts.history.ok.1, b.parts.history.small) in
+    record {
+      shelf = sym (ap (λ (x : Opened). x.shelf) is);
+      can = subst (λ (x : Opened). CanEnd x.shelf (opening_of x) b.parts) (sym is) (book_can_end (g.O.Order.meaning b.order.now) o b.parts c.self.invariant few);
+    }
+
+pub invariant_of-self : goal.invariant_of-self
+invariant_of-self g c =
+    let b = c.self.inside in
+    let o : Opened = record { problem = b.problem.now; shelf = b.shelf.now; budget = b.budget; limit = b.limit } in
+    let is = rw (← c.self.view_is) at c.opening-opening.ensures in
+    let may = rw (← c.self.view_is) at c.requires in
+    audited_book (g.O.Order.meaning b.order.now) o c.args.missing b.parts c.audit.new.self c.audit.result c.self.invariant may (rw is at c.audit.ensures.audited) c.audit.ensures.err (rw is at c.audit.ensures.fit) c.audit.ensures.room

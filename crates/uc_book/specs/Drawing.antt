@@ -1,0 +1,40 @@
+-- What a draw needs of the parts of a book, and what it finds in them.
+use Rattle.std.specs.Prelude.{◌≡◌, ℕ, ◌+◌, ◌<◌, ◌≤◌, ◌^◌, Option, Some, None, length, vec_len, vec_capacity}
+use Rattle.boxcar.specs.Table.{Shelves}
+use Rattle.uc_term.specs.Tree.{Tree}
+use Rattle.uc_machine.specs.declared.task.Job.{Job}
+use Rattle.uc_book.specs.declared.parts.Parts.{Parts}
+use Rattle.uc_machine.specs.Lists.{At}
+use Rattle.uc_machine.specs.State.{Opening, State, Target, queue}
+use Rattle.uc_machine.specs.Draws.{with_ends}
+use Rattle.uc_book.specs.Bounds.{AreSmall}
+use Rattle.uc_book.specs.Parts.{state_of, Fit, HasRoom, RoomFor}
+
+-- a job about the goal that was found, twice
+pub record AreJobs (kind : ℕ → Tree → Tree → Job) (found : Option (At Target)) (jobs : Job × Job) : Type 0 where
+  pub goal : At Target
+  pub is : found ≡ Some goal
+  pub one : jobs.0 ≡ with_ends kind goal
+  pub other : jobs.1 ≡ with_ends kind goal
+
+-- the counts stay far below the ends of their types
+pub record IsSound (o : Opening) (p : Parts) : Type 0 where
+  pub small : AreSmall p.numbers.items
+  pub within : p.counted + p.reserved ≤ o.budget
+  pub budget : o.budget ≤ 10000000
+  pub next : p.next < 2 ^ 63
+
+-- there is room for one task more, for its draw and its end and a close, and for as many events as pairs wait
+pub record HasRoomToGive (p : Parts) : Type 0 where
+  pub few : length p.tasks.items + 1 < 2 ^ 32
+  pub tasks : vec_len p.tasks < vec_capacity p.tasks
+  pub events : vec_len p.history + (length (queue (state_of p)) + length p.tasks.items + 3) ≤ vec_capacity p.history
+
+-- a task may be given: there is room for it, for its draw and its end
+pub record CanGive (shelf : Shelves) (o : Opening) (p : Parts) : Type 0 where
+  pub sound : IsSound o p
+  pub fit : Fit shelf p
+  pub room : HasRoom p
+  pub few : length p.tasks.items + 1 < 2 ^ 32
+  pub room_tasks : vec_len p.tasks < vec_capacity p.tasks
+  pub room_events : RoomFor 2 p

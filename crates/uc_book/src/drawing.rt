@@ -1,0 +1,345 @@
+//! Draws: the first of the rules that holds gives the answer.
+
+ghost use Rattle.std.specs.Prelude.{◌≡◌, ◌≢◌, ℕ, ◌+◌, ◌<◌, ◌≤◌, ◌^◌, [], true, false, IsTrue, length, IfOk, OnOk, OnErr, MatchOption, None, vec_len, vec_capacity};
+ghost use Rattle.uc_machine.specs.declared.task.Job.TheVariants.{More};
+ghost use Rattle.uc_machine.specs.Lists.{first};
+ghost use Rattle.uc_machine.specs.State.{Opening, State, Target, is_continued, first_continued, queue};
+ghost use Rattle.uc_machine.specs.Effects.{hands_out, next_ticket};
+ghost use Rattle.uc_machine.specs.Draws.{Reply, Draws, NoneDue, NoneUnmet, IsLate, HasBudget, IsSpent, Waits, NothingWaits};
+ghost use Rattle.uc_book.specs.Openings.{opening_of};
+ghost use Rattle.uc_book.specs.Answers.{reply_of, IfTask};
+ghost use Rattle.uc_book.specs.Parts.{state_of, Fit, HasRoom, IsAtHead, IsSteady, SameSubjects};
+ghost use Rattle.uc_book.specs.Drawing.{AreJobs, IsSound, HasRoomToGive, CanGive};
+
+use crate::answer::Drawn;
+use crate::goals::Goals;
+use crate::opened::Opened;
+use crate::parts::Parts;
+use crate::tasks::TaskRow;
+use crate::token::Task;
+use std::alloc::{AllocError, Global};
+use uc_machine::{Job, Verdict};
+use uc_shelf::Front;
+
+/// The job to go on with the least goal that is Continued, twice, where a unit may be drawn.
+fn more_jobs(
+    alloc: Global,
+    goals: &mut Goals,
+    has_budget: bool,
+) -> Result<Option<(Job, Job)>, AllocError>
+    ensures jobs { IfOk result (λ o. MatchOption o (has_budget ≡ true → first (λ (g : Target). is_continued g.stage) goals.old ≡ None) (λ jobs. (has_budget ≡ true) × AreJobs More (first (λ (g : Target). is_continued g.stage) goals.old) jobs)) }
+    ensures same { goals.new ≡ goals.old }
+{
+    if has_budget {
+        goals.continued_jobs(alloc)
+    } else {
+        Ok(None)
+    }
+}
+
+impl Parts {
+    /// What comes next for a worker. It takes its memory first: refused, it changes nothing.
+    pub(crate) fn draw(
+        &mut self,
+        alloc: Global,
+        opening: Opened,
+        worker: u32,
+    ) -> Result<Drawn, AllocError>
+        requires sound { IsSound (opening_of opening) self.old }
+        requires fit { Fit opening.shelf self.old }
+        requires room { HasRoom self.old }
+        ensures drawn { IfOk result (λ d. Draws (opening_of opening) worker (state_of self.old) (reply_of worker d) (state_of self.new)) }
+        ensures task { IfOk result (λ d. IfTask d (λ t. (t.opening ≡ opening) × (t.front ≡ self.old.facts.front))) }
+        ensures err { OnErr result (state_of self.new ≡ state_of self.old) }
+        ensures front { self.new.facts.front ≡ self.old.facts.front }
+        ensures fit { Fit opening.shelf self.new }
+        ensures room { HasRoom self.new }
+    {
+        match self.verdict {
+            Some(verdict) => Ok(Drawn::Closed(verdict)),
+            None => self.draw_open(alloc, opening, worker),
+        }
+    }
+
+    /// What comes next where no verdict stands: a goal that is Due, else what the other rules give.
+    fn draw_open(
+        &mut self,
+        alloc: Global,
+        opening: Opened,
+        worker: u32,
+    ) -> Result<Drawn, AllocError>
+        requires open { self.old.verdict ≡ None }
+        requires sound { IsSound (opening_of opening) self.old }
+        requires fit { Fit opening.shelf self.old }
+        requires room { HasRoom self.old }
+        ensures drawn { IfOk result (λ d. Draws (opening_of opening) worker (state_of self.old) (reply_of worker d) (state_of self.new)) }
+        ensures task { IfOk result (λ d. IfTask d (λ t. (t.opening ≡ opening) × (t.front ≡ self.old.facts.front))) }
+        ensures err { OnErr result (state_of self.new ≡ state_of self.old) }
+        ensures front { self.new.facts.front ≡ self.old.facts.front }
+        ensures fit { Fit opening.shelf self.new }
+        ensures room { HasRoom self.new }
+    {
+        self.make_room()?;
+        let fronts = self.copy_fronts(alloc)?;
+        match self.goals.due_jobs(alloc)? {
+            Some(jobs) => Ok(Drawn::Task(self.give(worker, opening, fronts, jobs))),
+            None => self.draw_fact(alloc, opening, worker, fronts),
+        }
+    }
+
+    /// Where no goal is Due: a fact that is Unmet, else what the other rules give.
+    fn draw_fact(
+        &mut self,
+        alloc: Global,
+        opening: Opened,
+        worker: u32,
+        fronts: (Front, Front),
+    ) -> Result<Drawn, AllocError>
+        requires due { NoneDue (state_of self.old) }
+        requires can { CanGive opening.shelf (opening_of opening) self.old }
+        requires events { HasRoomToGive self.old }
+        requires front { fronts.0 ≡ self.old.facts.front }
+        requires kept { fronts.1 ≡ self.old.facts.front }
+        ensures drawn { IfOk result (λ d. Draws (opening_of opening) worker (state_of self.old) (reply_of worker d) (state_of self.new)) }
+        ensures task { IfOk result (λ d. IfTask d (λ t. (t.opening ≡ opening) × (t.front ≡ self.old.facts.front))) }
+        ensures err { OnErr result (state_of self.new ≡ state_of self.old) }
+        ensures front { self.new.facts.front ≡ self.old.facts.front }
+        ensures fit { Fit opening.shelf self.new }
+        ensures room { HasRoom self.new }
+    {
+        match self.facts.first_unmet() {
+            Some(fact) => {
+                let jobs = (Job::Meet(fact), Job::Meet(fact));
+                Ok(Drawn::Task(self.give(worker, opening, fronts, jobs)))
+            }
+            None => self.draw_behind(alloc, opening, worker, fronts),
+        }
+    }
+
+    /// Where no fact is Unmet either: orphans leave the queue, and then the last rules give the answer.
+    fn draw_behind(
+        &mut self,
+        alloc: Global,
+        opening: Opened,
+        worker: u32,
+        fronts: (Front, Front),
+    ) -> Result<Drawn, AllocError>
+        requires met { NoneUnmet (state_of self.old) }
+        requires can { CanGive opening.shelf (opening_of opening) self.old }
+        requires events { HasRoomToGive self.old }
+        requires front { fronts.0 ≡ self.old.facts.front }
+        requires kept { fronts.1 ≡ self.old.facts.front }
+        ensures drawn { IfOk result (λ d. Draws (opening_of opening) worker (state_of self.old) (reply_of worker d) (state_of self.new)) }
+        ensures task { IfOk result (λ d. IfTask d (λ t. (t.opening ≡ opening) × (t.front ≡ self.old.facts.front))) }
+        ensures err { OnErr result (state_of self.new ≡ state_of self.old) }
+        ensures front { self.new.facts.front ≡ self.old.facts.front }
+        ensures fit { Fit opening.shelf self.new }
+        ensures room { HasRoom self.new }
+    {
+        let has_budget = self.counted + self.reserved < opening.budget();
+        let more = more_jobs(alloc, &mut self.goals, has_budget)?;
+        self.drop_orphans(worker);
+        Ok(self.draw_late(worker, opening, fronts, more))
+    }
+
+    /// Makes room for a task, and for the events of its draw, of its end and of a close.
+    fn make_room(&mut self) -> Result<(), AllocError>
+        ensures steady { IsSteady self.old self.new }
+        ensures room { OnOk result (HasRoomToGive self.new) }
+    {
+        if self.tasks.len() >= u32::MAX as usize - 1 {
+            return Err(AllocError);
+        }
+        self.tasks.reserve(1)?;
+        let events = self.pairs.waiting() + self.tasks.len() + 3;
+        self.history.reserve(events)
+    }
+
+    /// The front of all entries, for a task and for the book.
+    fn copy_fronts(&self, alloc: Global) -> Result<(Front, Front), AllocError>
+        ensures { IfOk result (λ f. (f.0 ≡ self.now.facts.front) × (f.1 ≡ self.now.facts.front)) }
+    {
+        let front = self.facts.front();
+        Ok((front.copy(alloc)?, front.copy(alloc)?))
+    }
+
+    /// A task with the next ticket goes out to a worker.
+    fn give(
+        &mut self,
+        worker: u32,
+        opening: Opened,
+        fronts: (Front, Front),
+        jobs: (Job, Job),
+    ) -> Task
+        requires can { CanGive opening.shelf (opening_of opening) self.old }
+        requires front { fronts.0 ≡ self.old.facts.front }
+        requires kept { fronts.1 ≡ self.old.facts.front }
+        requires jobs { jobs.1 ≡ jobs.0 }
+        requires head { IsAtHead self.old jobs.0 }
+        ensures state { state_of self.new ≡ hands_out worker jobs.0 (state_of self.old) }
+        ensures task { result ≡ record { ticket = self.old.next; job = jobs.0; front = self.old.facts.front; opening = opening } }
+        ensures front { self.new.facts.front ≡ self.old.facts.front }
+        ensures fit { Fit opening.shelf self.new }
+        ensures room { HasRoom self.new }
+    {
+        let (front, kept) = fronts;
+        let (job, kept_job) = jobs;
+        let ticket = self.next;
+        self.hand_out(TaskRow {
+            ticket,
+            worker,
+            job: kept_job,
+            front: kept,
+        });
+        Task {
+            ticket,
+            job,
+            front,
+            opening,
+        }
+    }
+
+    /// Draws orphans from the queue, until there is none at its head.
+    fn drop_orphans(&mut self, worker: u32)
+        requires met { NoneUnmet (state_of self.old) }
+        requires room { vec_len self.old.history + length (queue (state_of self.old)) ≤ vec_capacity self.old.history }
+        ensures leads { (o : Opening) (r : Reply) (u : State) → Draws o worker (state_of self.new) r u → Draws o worker (state_of self.old) r u }
+        ensures late { IsLate (state_of self.new) }
+        ensures facts { self.new.facts ≡ self.old.facts }
+        ensures goals { self.new.goals ≡ self.old.goals }
+        ensures tasks { self.new.tasks ≡ self.old.tasks }
+        ensures next { self.new.next ≡ self.old.next }
+        ensures counts { (self.new.counted ≡ self.old.counted) × (self.new.reserved ≡ self.old.reserved) }
+        ensures numbers { self.new.numbers ≡ self.old.numbers }
+        ensures verdict { self.new.verdict ≡ self.old.verdict }
+        ensures spare { self.old.pairs.spare ≤ self.new.pairs.spare }
+        ensures ticket { next_ticket (state_of self.new) ≡ next_ticket (state_of self.old) }
+        ensures history { vec_len self.new.history ≤ vec_len self.old.history + length (queue (state_of self.old)) }
+        ensures capacity { vec_capacity self.new.history ≡ vec_capacity self.old.history }
+    {
+        while let Some(number) = self.orphan_at_head() {
+            self.drop_head(worker, number);
+        }
+    }
+
+    /// Rules 5 and 6: a goal that is Continued, else the pair at the queue's head, where a unit may be drawn.
+    fn draw_late(
+        &mut self,
+        worker: u32,
+        opening: Opened,
+        fronts: (Front, Front),
+        more: Option<(Job, Job)>,
+    ) -> Drawn
+        requires late { IsLate (state_of self.old) }
+        requires can { CanGive opening.shelf (opening_of opening) self.old }
+        requires front { fronts.0 ≡ self.old.facts.front }
+        requires kept { fronts.1 ≡ self.old.facts.front }
+        requires more { MatchOption more (HasBudget (opening_of opening) (state_of self.old) → first_continued (state_of self.old) ≡ None) (λ jobs. HasBudget (opening_of opening) (state_of self.old) × AreJobs More (first_continued (state_of self.old)) jobs) }
+        ensures drawn { Draws (opening_of opening) worker (state_of self.old) (reply_of worker result) (state_of self.new) }
+        ensures task { IfTask result (λ t. (t.opening ≡ opening) × (t.front ≡ self.old.facts.front)) }
+        ensures front { self.new.facts.front ≡ self.old.facts.front }
+        ensures fit { Fit opening.shelf self.new }
+        ensures room { HasRoom self.new }
+    {
+        match more {
+            Some(jobs) => Drawn::Task(self.give(worker, opening, fronts, jobs)),
+            None => self.draw_last(worker, opening, fronts),
+        }
+    }
+
+    /// The pair at the queue's head, where a unit may be drawn; then no goal is Continued.
+    fn draw_last(&mut self, worker: u32, opening: Opened, fronts: (Front, Front)) -> Drawn
+        requires late { IsLate (state_of self.old) }
+        requires can { CanGive opening.shelf (opening_of opening) self.old }
+        requires front { fronts.0 ≡ self.old.facts.front }
+        requires kept { fronts.1 ≡ self.old.facts.front }
+        requires goal { HasBudget (opening_of opening) (state_of self.old) → first_continued (state_of self.old) ≡ None }
+        ensures drawn { Draws (opening_of opening) worker (state_of self.old) (reply_of worker result) (state_of self.new) }
+        ensures task { IfTask result (λ t. (t.opening ≡ opening) × (t.front ≡ self.old.facts.front)) }
+        ensures front { self.new.facts.front ≡ self.old.facts.front }
+        ensures fit { Fit opening.shelf self.new }
+        ensures room { HasRoom self.new }
+    {
+        if self.counted + self.reserved < opening.budget() {
+            return self.draw_pair(worker, opening, fronts);
+        }
+        if self.has_waiting() {
+            return self.draw_spent(worker);
+        }
+        self.draw_nothing()
+    }
+
+    /// Whether a goal is Continued or the queue isn't empty.
+    fn has_waiting(&mut self) -> bool
+        ensures waits { IsTrue result → Waits (state_of self.old) }
+        ensures none { result ≡ false → NothingWaits (state_of self.old) }
+        ensures same { self.new ≡ self.old }
+    {
+        if self.goals.first_continued().is_some() {
+            return true;
+        }
+        self.pairs.head().is_some()
+    }
+
+    /// The pair at the queue's head, where one waits.
+    fn draw_pair(&mut self, worker: u32, opening: Opened, fronts: (Front, Front)) -> Drawn
+        requires late { IsLate (state_of self.old) }
+        requires can { CanGive opening.shelf (opening_of opening) self.old }
+        requires front { fronts.0 ≡ self.old.facts.front }
+        requires kept { fronts.1 ≡ self.old.facts.front }
+        requires goal { first_continued (state_of self.old) ≡ None }
+        requires budget { HasBudget (opening_of opening) (state_of self.old) }
+        ensures drawn { Draws (opening_of opening) worker (state_of self.old) (reply_of worker result) (state_of self.new) }
+        ensures task { IfTask result (λ t. (t.opening ≡ opening) × (t.front ≡ self.old.facts.front)) }
+        ensures front { self.new.facts.front ≡ self.old.facts.front }
+        ensures fit { Fit opening.shelf self.new }
+        ensures room { HasRoom self.new }
+    {
+        match self.pairs.head() {
+            Some((pair, origin)) => {
+                let jobs = (Job::Join { pair, origin }, Job::Join { pair, origin });
+                Drawn::Task(self.give(worker, opening, fronts, jobs))
+            }
+            None => self.draw_nothing(),
+        }
+    }
+
+    /// Something waits, and the budget is spent: it is waited for the tasks out, or, where none is, the book is closed.
+    fn draw_spent(&mut self, worker: u32) -> Drawn
+        requires late { IsLate (state_of self.old) }
+        requires waits { Waits (state_of self.old) }
+        requires few { length self.old.tasks.items < 2 ^ 32 }
+        requires room { HasRoom self.old }
+        ensures drawn { (o : Opening) → IsSpent o (state_of self.old) → Draws o worker (state_of self.old) (reply_of worker result) (state_of self.new) }
+        ensures task { IfTask result (λ _. ⊥) }
+        ensures subjects { SameSubjects self.old self.new }
+        ensures tasks { (self.new.tasks ≡ self.old.tasks) × (self.new.next ≡ self.old.next) }
+        ensures ticket { next_ticket (state_of self.new) ≡ next_ticket (state_of self.old) }
+        ensures numbers { self.new.numbers.items ≡ self.old.numbers.items }
+        ensures room { HasRoom self.new }
+    {
+        if !self.tasks.is_empty() {
+            return Drawn::Idle(self.tasks.len() as u32);
+        }
+        let verdict = Verdict::BudgetOut {
+            counted: self.counted,
+        };
+        self.close(worker, verdict);
+        Drawn::Closed(verdict)
+    }
+
+    /// Nothing waits.
+    fn draw_nothing(&self) -> Drawn
+        requires late { IsLate (state_of self.now) }
+        requires waits { NothingWaits (state_of self.now) }
+        requires few { length self.now.tasks.items < 2 ^ 32 }
+        ensures drawn { (o : Opening) (w : ℕ) → Draws o w (state_of self.now) (reply_of w result) (state_of self.now) }
+        ensures task { IfTask result (λ _. ⊥) }
+    {
+        if self.tasks.is_empty() {
+            Drawn::Drained
+        } else {
+            Drawn::Idle(self.tasks.len() as u32)
+        }
+    }
+}

@@ -1,0 +1,5 @@
+pub mod Working
+pub mod Searching
+pub mod Causes
+pub mod Bounds
+pub mod Signatures

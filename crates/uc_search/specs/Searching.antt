@@ -1,0 +1,44 @@
+-- How one worker searches alone: round after round, until the book has a verdict.
+use Rattle.std.specs.Prelude.{ℕ, List, [], ◌∷◌, Option, Some, None}
+use Rattle.uc_order.specs.Laws.{Meaning}
+use Rattle.uc_machine.specs.declared.event.Verdict.{Verdict}
+use Rattle.uc_machine.specs.declared.task.Missing.{Missing}
+use Rattle.uc_machine.specs.declared.task.Outcome.{Outcome}
+use Rattle.uc_machine.specs.declared.task.Outcome.TheVariants.{Missing as Lacks}
+use Rattle.uc_machine.specs.State.{Opening, State}
+use Rattle.uc_machine.specs.Draws.{Drained, Closed}
+use Rattle.uc_machine.specs.Finals.{IsFinal}
+use Rattle.uc_machine.specs.Runs.{KeptAs, ClosedBy, Starts, Audits, Closes}
+use Rattle.uc_search.specs.Working.{WorksUntil}
+
+-- Each missing equation is audited, in order, until the book has a verdict, if it gets one.
+pub data AuditsAll (o : Opening) : List Missing → State → Option Verdict → State → Type 0 where
+  all_are_kept : {s : State} → AuditsAll o [] s None s
+  one_is_kept : {x : Missing} {xs : List Missing} {s u t : State} {n : ℕ} {v : Option Verdict} → Audits o x.fact s (KeptAs n) u → AuditsAll o xs u v t → AuditsAll o (x ∷ xs) s v t
+  book_is_closed : {x : Missing} {xs : List Missing} {s u : State} {v : Verdict} → Audits o x.fact s (ClosedBy v) u → AuditsAll o (x ∷ xs) s (Some v) u
+
+-- By this order, in a book with this opening.
+module _ (m : Meaning) (o : Opening) where
+  -- The end of a round over a drained book, where the final pass is made. What is missing is audited; where anything else is the
+  -- answer, the book is closed by it.
+  pub data EndsRound (drained : State) : Option Verdict → State → Type 0 where
+    is_closed_by : {outcome : Outcome} {v : Verdict} {new : State} → IsFinal m o.axioms drained outcome → Closes drained outcome v new → EndsRound drained (Some v) new
+    audits_missing : {missing : List Missing} {v : Option Verdict} {new : State} → IsFinal m o.axioms drained (Lacks missing) → AuditsAll o missing drained v new → EndsRound drained v new
+
+-- By this order, in a book with this opening, the worker of this number.
+module _ (m : Meaning) (o : Opening) (w : ℕ) where
+  -- A round: the worker works until the book has a verdict, or until it is drained, and then the round is ended.
+  pub data Rounds (old : State) : Option Verdict → State → Type 0 where
+    gets_verdict : {v : Verdict} {new : State} → WorksUntil m o w old (Closed v) new → Rounds old (Some v) new
+    gets_drained : {drained new : State} {v : Option Verdict} → WorksUntil m o w old Drained drained → EndsRound m o drained v new → Rounds old v new
+
+  -- Rounds are made until one ends with a verdict.
+  pub data Searches : State → Verdict → State → Type 0 where
+    last_round : {s u : State} {v : Verdict} → Rounds s (Some v) u → Searches s v u
+    next_round : {s u t : State} {v : Verdict} → Rounds s None u → Searches u v t → Searches s v t
+
+  -- The search of a whole book, from its start to its verdict.
+  pub record IsSearched (v : Verdict) (s : State) : Type 0 where
+    pub start : State
+    pub starts : Starts o start
+    pub searches : Searches start v s

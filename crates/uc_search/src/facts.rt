@@ -1,0 +1,42 @@
+//! The facts of a front.
+
+ghost use Rattle.std.specs.Prelude.{◌≡◌, map, IfOk};
+ghost use Rattle.uc_fact.specs.Live.{equations_of};
+ghost use Rattle.uc_shelf.specs.Entries.{born, live};
+ghost use Rattle.uc_shelf.specs.Fronts.{IsOf};
+
+use std::alloc::{AllocError, Global};
+use uc_fact::{Fact, System};
+use uc_shelf::{Entry, Front, Shelf};
+use uc_term::Seq;
+use uc_task::live_facts;
+
+/// All facts that are born in a front, by number.
+pub fn all_facts<'a>(
+    alloc: Global,
+    shelf: &'a Shelf,
+    front: &Front,
+) -> Result<Vec<&'a Fact>, AllocError>
+    requires { IsOf shelf.now front.now }
+    ensures { IfOk result (λ facts. map (λ f. f.now) facts.items ≡ born front.now.entries) }
+{
+    let mut facts = Vec::new(alloc);
+    for k in 0..front.len() {
+        if let Entry::Born(fact) = shelf.read(front, k) {
+            facts.push(fact)?;
+        }
+    }
+    Ok(facts)
+}
+
+/// The facts that live in a front, by number.
+pub fn live_system(alloc: Global, shelf: &Shelf, front: &Front) -> Result<System, AllocError>
+    requires { IsOf shelf.now front.now }
+    ensures { IfOk result (λ system. system.facts ≡ equations_of (live front.now.entries)) }
+{
+    let mut facts = Seq::new(alloc);
+    for fact in live_facts(alloc, shelf, front)? {
+        facts.push(fact.equation)?;
+    }
+    Ok(System { facts })
+}

@@ -1,0 +1,17 @@
+//! The search over a book by one worker: tasks are computed and their results committed, one by one, and each time that the
+//! book is drained the final pass says whether more is missing.
+#![tactic(auto)]
+
+mod computing;
+mod facts;
+mod laws;
+mod rounds;
+mod working;
+
+pub use computing::compute;
+pub use facts::{all_facts, live_system};
+pub use laws::{
+    limits_have_causes, one_search, search_is_a_run, searches_are_bounded, stays_over_signature,
+};
+pub use rounds::search_alone;
+pub use working::{Ended, work_alone};

@@ -1,0 +1,140 @@
+//! The rounds of a search.
+
+ghost use Rattle.std.specs.Prelude.{◌≡◌, ◌<◌, ◌^◌, [], length, Some, IfOk};
+ghost use Rattle.uc_book.specs.Openings.{opening_of};
+ghost use Rattle.uc_book.specs.Answers.{IsSameBook};
+ghost use Rattle.uc_machine.specs.Finals.{IsFinal};
+ghost use Rattle.uc_machine.specs.Runs.{IsDrained};
+ghost use Rattle.uc_machine.specs.declared.task.Outcome.TheVariants.{Missing as Lacks};
+ghost use Rattle.uc_search.specs.Working.{CountsCommits, IsSamePass};
+ghost use Rattle.uc_search.specs.Searching.{AuditsAll, EndsRound, Rounds, Searches};
+
+use crate::working::{Ended, work_alone};
+use std::alloc::{AllocError, Global};
+use std::sync::Wait;
+use uc_book::{Audited, Book, Pass};
+use uc_final::final_pass;
+use uc_machine::{Missing, Outcome, Verdict};
+use uc_order::Order;
+use uc_problem::Encoded;
+use uc_shelf::Shelf;
+use uc_term::Seq;
+
+/// Works on a book until it has a verdict. Each time that it is drained the final pass is made: what is missing is kept and
+/// the work goes on, or the book is closed.
+pub fn search_alone<R: Wait, O: Order>(
+    rt: &R,
+    alloc: Global,
+    book: &mut Book<O>,
+    shelf: &Shelf,
+    problem: &Encoded,
+    order: &O,
+    pass: &mut Pass,
+) -> Result<Verdict, AllocError>
+    requires pass { pass.old.opening ≡ book.old.opening }
+    requires problem { book.old.opening.problem ≡ problem.now }
+    requires shelf { book.old.opening.shelf ≡ shelf.now }
+    requires order { book.old.order ≡ order.now }
+    requires count { CountsCommits pass.old book.old.state }
+    requires none_out { book.old.state.out ≡ [] }
+    requires few_axioms { length problem.now.axioms < 2 ^ 31 }
+    requires few_goals { length problem.now.goals < 2 ^ 31 }
+    ensures searched { IfOk result (λ verdict. Searches (O.meaning book.old.order) (opening_of book.old.opening) pass.old.worker book.old.state verdict book.new.state) }
+    ensures verdict { IfOk result (λ verdict. book.new.state.verdict ≡ Some verdict) }
+    ensures none_out { IfOk result (λ _. book.new.state.out ≡ []) }
+    ensures book { IsSameBook book.old book.new }
+    ensures pass { IsSamePass pass.old pass.new }
+    ensures count { CountsCommits pass.new book.new.state }
+{
+    // Each round adds to the history, which no memory holds at so many rounds.
+    for _ in 0..u64::MAX {
+        if let Some(verdict) = round(rt, alloc, book, shelf, problem, order, pass)? {
+            return Ok(verdict);
+        }
+    }
+    Err(AllocError)
+}
+
+/// Works on a book until it is drained or has a verdict, and makes the final pass where it is drained. None where no verdict
+/// stands then.
+fn round<R: Wait, O: Order>(
+    rt: &R,
+    alloc: Global,
+    book: &mut Book<O>,
+    shelf: &Shelf,
+    problem: &Encoded,
+    order: &O,
+    pass: &mut Pass,
+) -> Result<Option<Verdict>, AllocError>
+    requires pass { pass.old.opening ≡ book.old.opening }
+    requires problem { book.old.opening.problem ≡ problem.now }
+    requires shelf { book.old.opening.shelf ≡ shelf.now }
+    requires order { book.old.order ≡ order.now }
+    requires count { CountsCommits pass.old book.old.state }
+    requires none_out { book.old.state.out ≡ [] }
+    requires few_axioms { length problem.now.axioms < 2 ^ 31 }
+    requires few_goals { length problem.now.goals < 2 ^ 31 }
+    ensures round { IfOk result (λ verdict. Rounds (O.meaning book.old.order) (opening_of book.old.opening) pass.old.worker book.old.state verdict book.new.state) }
+    ensures verdict { IfOk result (λ verdict. book.new.state.verdict ≡ verdict) }
+    ensures none_out { IfOk result (λ _. book.new.state.out ≡ []) }
+    ensures book { IsSameBook book.old book.new }
+    ensures pass { IsSamePass pass.old pass.new }
+    ensures count { CountsCommits pass.new book.new.state }
+{
+    match work_alone(rt, alloc, book, shelf, problem, order, pass) {
+        Ended::Drained => end_round(rt, alloc, book, shelf, problem, order),
+        Ended::Closed => Ok(book.verdict().copied()),
+        Ended::NoMemory => Err(AllocError),
+    }
+}
+
+/// Makes the final pass over a drained book: audits what is missing, or closes the book.
+fn end_round<R: Wait, O: Order>(
+    rt: &R,
+    alloc: Global,
+    book: &mut Book<O>,
+    shelf: &Shelf,
+    problem: &Encoded,
+    order: &O,
+) -> Result<Option<Verdict>, AllocError>
+    requires problem { book.old.opening.problem ≡ problem.now }
+    requires shelf { book.old.opening.shelf ≡ shelf.now }
+    requires order { book.old.order ≡ order.now }
+    requires drained { IsDrained book.old.state }
+    requires few_axioms { length problem.now.axioms < 2 ^ 31 }
+    requires few_goals { length problem.now.goals < 2 ^ 31 }
+    ensures ends { IfOk result (λ verdict. EndsRound (O.meaning book.old.order) (opening_of book.old.opening) book.old.state verdict book.new.state) }
+    ensures verdict { IfOk result (λ verdict. book.new.state.verdict ≡ verdict) }
+    ensures out { book.new.state.out ≡ book.old.state.out }
+    ensures book { IsSameBook book.old book.new }
+{
+    let stages = book.stages(alloc)?;
+    let axioms = problem.axioms.as_slice();
+    let outcome = final_pass(alloc, shelf, book.front(), axioms, stages.as_slice(), order)?;
+    match outcome {
+        Outcome::Missing(all) => audit_all(rt, alloc, book, all),
+        _ => Ok(Some(book.close(&outcome))),
+    }
+}
+
+/// Audits each missing equation in order, until the book has a verdict.
+fn audit_all<R: Wait, O: Order>(
+    rt: &R,
+    alloc: Global,
+    book: &mut Book<O>,
+    all: Seq<Missing>,
+) -> Result<Option<Verdict>, AllocError>
+    requires drained { IsDrained book.old.state }
+    requires missing { IsFinal (O.meaning book.old.order) book.old.opening.problem.axioms book.old.state (Lacks all) }
+    ensures audited { IfOk result (λ verdict. AuditsAll (opening_of book.old.opening) all book.old.state verdict book.new.state) }
+    ensures verdict { IfOk result (λ verdict. book.new.state.verdict ≡ verdict) }
+    ensures out { book.new.state.out ≡ book.old.state.out }
+    ensures book { IsSameBook book.old book.new }
+{
+    for missing in all.into_vec() {
+        if let Audited::Closed(verdict) = book.audit(rt, alloc, missing)? {
+            return Ok(Some(verdict));
+        }
+    }
+    Ok(None)
+}

@@ -1,0 +1,186 @@
+//! The command `prove`.
+
+ghost use Rattle.std.specs.Prelude.{◌≡◌, ◌≤◌, Some, Ok, IfOk};
+ghost use Rattle.uc_term.specs.Table.{Table, Grows, IsDistinct};
+ghost use Rattle.uc_edge.specs.Files.{Files};
+ghost use Rattle.uc_problem.specs.Holds.{Agrees};
+ghost use Rattle.uc_problem.specs.Encodes.{Encodes};
+ghost use Rattle.uc_ordering.specs.Choice.{IsChosen};
+ghost use Rattle.uc_ordering.specs.Fits.{Fits};
+ghost use Rattle.uc_top.specs.Lines.{joined};
+ghost use Rattle.uc_top.specs.ProveAnswers.{IsProveAnswer, ProveAnswers};
+ghost use Rattle.uc_top.specs.ProveRuns.{Keeps, IsKept, KeepsPromise};
+
+use crate::checking::large_answer;
+use crate::choosing::choice_answer;
+use crate::loading::bytes_of;
+use crate::output::Answer;
+use crate::szs::{unloaded_answer, with_status};
+use crate::verdict_lines::{Closed, verdict_answer};
+use std::alloc::{AllocError, Global};
+use std::sync::Wait;
+use uc_book::Book;
+use uc_edge::Library;
+use uc_order::OrderSpec;
+use uc_ordering::{Chosen, choose};
+use uc_problem::{EncodeFault, Encoded, Problem, encode, load};
+use uc_search::search_alone;
+use uc_shelf::Shelf;
+use uc_term::{Symbols, Text};
+use uc_words::Command;
+
+/// The answer to `prove` for the problem file of this name, by the command's order, budget and limit on pairs, with one worker.
+pub(crate) fn prove_answer<R: Wait, L: Library>(
+    rt: &R,
+    alloc: Global,
+    command: &Command,
+    name: &Text,
+    library: &mut L,
+) -> Result<Answer, AllocError>
+    requires w0_some { 1 ≤ command.now.order.w0 }
+    requires w0_most { command.now.order.w0 ≤ 1000000 }
+    requires budget { command.now.budget ≤ 10000000 }
+    requires pairs { command.now.pairs ≤ 8000000 }
+    ensures answers { IfOk result (λ answer. (table : Table) × IsDistinct table × ProveAnswers table command.now name.now (L.holds library.old) (L.faults library.old) (L.faults library.new) answer.status (joined answer.lines)) }
+    ensures promise { IfOk result (λ answer. answer.status ≤ 2 → (files : Files) → L.holds library.old ≡ Some files → KeepsPromise files command.now name.now answer.status (joined answer.lines)) }
+    ensures same { L.holds library.new ≡ L.holds library.old }
+    ensures later { L.faults library.old ≤ L.faults library.new }
+{
+    let mut symbols = Symbols::new(alloc);
+    let answer = load_and_prove(rt, alloc, command, name.as_bytes(), &mut symbols, library);
+    // The entries of the table are all different, so what was read is the only reading.
+    let _ = symbols.len();
+    answer
+}
+
+/// The answer, with a table for the symbols.
+fn load_and_prove<R: Wait, L: Library>(
+    rt: &R,
+    alloc: Global,
+    command: &Command,
+    name: &[u8],
+    symbols: &mut Symbols,
+    library: &mut L,
+) -> Result<Answer, AllocError>
+    requires w0_some { 1 ≤ command.now.order.w0 }
+    requires w0_most { command.now.order.w0 ≤ 1000000 }
+    requires budget { command.now.budget ≤ 10000000 }
+    requires pairs { command.now.pairs ≤ 8000000 }
+    ensures answers { IfOk result (λ answer. ProveAnswers symbols.new command.now name.now (L.holds library.old) (L.faults library.old) (L.faults library.new) answer.status (joined answer.lines)) }
+    ensures promise { IfOk result (λ answer. answer.status ≤ 2 → (files : Files) → L.holds library.old ≡ Some files → IsKept symbols.new files command.now name.now answer.status (joined answer.lines)) }
+    ensures same { L.holds library.new ≡ L.holds library.old }
+    ensures later { L.faults library.old ≤ L.faults library.new }
+{
+    match load(
+        alloc,
+        library,
+        bytes_of(command.root.as_ref()),
+        name,
+        symbols,
+    ) {
+        Ok(problem) => encoded_answer(rt, alloc, command, name, &problem, symbols),
+        Err(fault) => unloaded_answer(alloc, name, &fault),
+    }
+}
+
+/// The answer for a problem that is loaded.
+fn encoded_answer<R: Wait>(
+    rt: &R,
+    alloc: Global,
+    command: &Command,
+    name: &[u8],
+    problem: &Problem,
+    symbols: &mut Symbols,
+) -> Result<Answer, AllocError>
+    requires agrees { Agrees symbols.old problem.now }
+    requires w0_some { 1 ≤ command.now.order.w0 }
+    requires w0_most { command.now.order.w0 ≤ 1000000 }
+    requires budget { command.now.budget ≤ 10000000 }
+    requires pairs { command.now.pairs ≤ 8000000 }
+    ensures answers { IfOk result (λ answer. IsProveAnswer symbols.new command.now name.now problem.now answer.status (joined answer.lines)) }
+    ensures promise { IfOk result (λ answer. answer.status ≤ 2 → Keeps symbols.new command.now name.now problem.now answer.status (joined answer.lines)) }
+    ensures grows { Grows symbols.old symbols.new }
+{
+    match encode(alloc, problem, symbols) {
+        Ok(encoded) => ordered_answer(rt, alloc, command, name, problem, &encoded, symbols),
+        Err(EncodeFault::GoalTooLarge(number)) => {
+            let goal = &problem.clauses.as_slice()[number as usize];
+            with_status(alloc, b"InputError", name, large_answer(alloc, goal)?)
+        }
+        Err(EncodeFault::NoMemory) => Err(AllocError),
+    }
+}
+
+/// The answer for a problem that is encoded.
+fn ordered_answer<R: Wait>(
+    rt: &R,
+    alloc: Global,
+    command: &Command,
+    name: &[u8],
+    problem: &Problem,
+    encoded: &Encoded,
+    symbols: &Symbols,
+) -> Result<Answer, AllocError>
+    requires agrees { Agrees symbols.now problem.now }
+    requires encodes { Encodes symbols.now problem.now (Ok encoded.now) }
+    requires w0_some { 1 ≤ command.now.order.w0 }
+    requires w0_most { command.now.order.w0 ≤ 1000000 }
+    requires budget { command.now.budget ≤ 10000000 }
+    requires pairs { command.now.pairs ≤ 8000000 }
+    ensures answers { IfOk result (λ answer. IsProveAnswer symbols.now command.now name.now problem.now answer.status (joined answer.lines)) }
+    ensures promise { IfOk result (λ answer. answer.status ≤ 2 → Keeps symbols.now command.now name.now problem.now answer.status (joined answer.lines)) }
+{
+    match choose(
+        alloc,
+        &command.order,
+        symbols,
+        &problem.signature,
+        encoded.fresh,
+    ) {
+        Ok(spec) => searched_answer(rt, alloc, command, name, problem, encoded, &spec, symbols),
+        Err(fault) => choice_answer(alloc, &fault),
+    }
+}
+
+/// The answer by this order: the search, and what its verdict tells.
+fn searched_answer<R: Wait>(
+    rt: &R,
+    alloc: Global,
+    command: &Command,
+    name: &[u8],
+    problem: &Problem,
+    encoded: &Encoded,
+    spec: &OrderSpec,
+    symbols: &Symbols,
+) -> Result<Answer, AllocError>
+    requires agrees { Agrees symbols.now problem.now }
+    requires encodes { Encodes symbols.now problem.now (Ok encoded.now) }
+    requires chosen { IsChosen symbols.now problem.now.signature command.now.order encoded.now.fresh spec.now }
+    requires fits { Fits symbols.now encoded.now.signature.symbols spec.now }
+    requires budget { command.now.budget ≤ 10000000 }
+    requires pairs { command.now.pairs ≤ 8000000 }
+    ensures answers { IfOk result (λ answer. IsProveAnswer symbols.now command.now name.now problem.now answer.status (joined answer.lines)) }
+    ensures promise { IfOk result (λ answer. answer.status ≤ 2 → Keeps symbols.now command.now name.now problem.now answer.status (joined answer.lines)) }
+{
+    let order = Chosen::new(alloc, spec, symbols, encoded.signature.symbols.as_slice())?;
+    let shelf = Shelf::new(alloc)?;
+    let mut book = Book::start(
+        alloc,
+        encoded,
+        &order,
+        &shelf,
+        command.budget,
+        command.pairs,
+    )?;
+    let mut pass = book.enroll(alloc, 0)?;
+    let verdict = search_alone(rt, alloc, &mut book, &shelf, encoded, &order, &mut pass)?;
+    let closed = Closed {
+        name,
+        problem,
+        encoded,
+        spec,
+        symbols,
+        shelf: &shelf,
+    };
+    verdict_answer(alloc, &closed, command, &book, &pass, verdict)
+}
