@@ -18,9 +18,9 @@ use Rattle.uc_machine.specs.State.{Opening, State, Pair, Target, draws_in}
 use Rattle.uc_machine.specs.Effects.{closes}
 use Rattle.uc_machine.specs.Runs.{Starts, axioms_wait, too_many_axioms, axiom_pairs, goal_of, opened}
 use Rattle.uc_book.specs.declared.parts.Parts.{Parts}
-use Rattle.uc_book.specs.declared.tasks.TaskRow.{TaskRow}
-use Rattle.uc_book.specs.RowViews.{FactsView, PairsView}
-use Rattle.uc_book.specs.TaskRows.{HasFront, out_of}
+use Rattle.uc_rows.specs.declared.tasks.TaskRow.{TaskRow}
+use Rattle.uc_rows.specs.RowViews.{FactsView, PairsView}
+use Rattle.uc_rows.specs.TaskRows.{HasFront, out_of}
 use Rattle.uc_book.specs.Parts.{state_of, closings, Fit, HasRoom}
 use Rattle.uc_book.proofs.Fitting.{joins}
 

@@ -24,10 +24,10 @@ use Rattle.uc_machine.specs.Lists.{map_option}
 use Rattle.uc_machine.specs.State.{Opening, State, Pair, Out, is_draw_what}
 use Rattle.uc_machine.specs.Effects.{accepts, closes, takes_ends, stages, turns, publishes}
 use Rattle.uc_machine.specs.Commits.{Commits, is_late, GoalEnds, ends_meet, ends_differ, StageAfter, after_steps, full_but_grown, size_but_grown, after_full, after_size, goal_ends, more_ends, pair_joins, fact_is_kept, end_word, steps_of}
-use Rattle.uc_book.specs.declared.tasks.TaskRow.{TaskRow}
+use Rattle.uc_rows.specs.declared.tasks.TaskRow.{TaskRow}
 use Rattle.uc_book.specs.declared.parts.Parts.{Parts}
-use Rattle.uc_book.specs.TaskRows.{StandsAt}
-use Rattle.uc_book.proofs.PutBack.{one_at}
+use Rattle.uc_rows.specs.TaskRows.{StandsAt}
+use Rattle.uc_rows.proofs.PutBack.{one_at}
 use Rattle.uc_book.specs.Parts.{IsSubjectOut}
 use Rattle.uc_book.specs.Committing.{stage_by, commit_word, IsGoalJob, IsPairJob, HasGoal, IsFor}
 

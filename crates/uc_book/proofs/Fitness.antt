@@ -15,7 +15,8 @@ use Rattle.uc_shelf.specs.Rising.{live_rise}
 use Rattle.uc_machine.specs.declared.task.Job.{Job}
 use Rattle.uc_machine.specs.declared.task.Finding.{Finding}
 use Rattle.uc_machine.specs.Results.{IsResult, goal_comes_to, more_comes_to, pair_is_joined, pair_is_kept, fact_is_stale, fact_meets, NormaliseBoth, AreKills, no_facts, kills_it, spares_it, is_no_earlier}
-use Rattle.uc_book.specs.Committing.{IsFor, AreRising, AreBelow}
+use Rattle.uc_book.specs.Committing.{IsFor}
+use Rattle.uc_rows.specs.Rising.{AreRising, AreBelow}
 
 few_steps : (Greater : Tree → Tree → Type 0) (least : Sym) (live : List Live) (limit : ℕ) (t : Tree) (steps : List Step) (end : Tree) (stop : Stop) → Normalises Greater least live limit t steps end stop → length steps ≤ limit
 few_steps G least live limit t _ _ _ (is_full n) = omega arith

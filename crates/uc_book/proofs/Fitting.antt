@@ -7,22 +7,22 @@ use Rattle.boxcar.specs.Table.{Shelves}
 use Rattle.uc_shelf.specs.Fronts.{IsOf}
 use Rattle.uc_shelf.specs.Sights.{Sight}
 use Rattle.uc_shelf.specs.declared.entry.Entry.{Entry}
-use Rattle.uc_book.specs.declared.tasks.TaskRow.{TaskRow}
+use Rattle.uc_rows.specs.declared.tasks.TaskRow.{TaskRow}
 use Rattle.uc_machine.specs.declared.task.Job.{Job}
 use Rattle.uc_machine.specs.declared.task.Job.TheVariants.{Goal, More, Meet, Join}
 use Rattle.uc_machine.specs.Lists.{Each, change}
 use Rattle.uc_machine.specs.State.{Out}
-use Rattle.uc_book.specs.TaskRows.{out_of, is_join, unit_if_join, HasFront, StandsAt}
+use Rattle.uc_rows.specs.TaskRows.{out_of, is_join, unit_if_join, HasFront, StandsAt}
 use Rattle.uc_book.specs.declared.parts.Parts.{Parts}
 use Rattle.uc_machine.specs.declared.event.Verdict.{Verdict}
 use Rattle.uc_machine.specs.State.{State, draws_in}
 use Rattle.uc_machine.specs.Effects.{hands_out, next_ticket, draw_event, one_drawn}
 use Rattle.uc_book.specs.Parts.{state_of, closings, Fit, HasRoom, RoomFor}
 use Rattle.uc_book.specs.Ending.{HasEnded}
-use Rattle.uc_book.proofs.PutBack.{joins_left}
+use Rattle.uc_rows.proofs.PutBack.{joins_left}
 use Rattle.uc_machine.proofs.Lists.{Each-map, Each-push, length-change}
 use Rattle.uc_book.proofs.Histories.{draws-one}
-use Rattle.uc_book.proofs.Items.{Each-remove, length-remove}
+use Rattle.uc_rows.proofs.Items.{Each-remove, length-remove}
 
 abbrev pub joins : List TaskRow → ℕ
 joins ts = count_by (λ (t : TaskRow). is_join t.job) ts

@@ -17,16 +17,17 @@ use Rattle.uc_machine.specs.Effects.{hands_out, next_ticket}
 use Rattle.uc_machine.specs.Draws.{Drew, Draws, NoneDue, NoneUnmet, HasBudget}
 use Rattle.uc_book.specs.declared.answer.Drawn.TheVariants.{Task as DrawnTask}
 use Rattle.uc_book.specs.declared.parts.Parts.{Parts}
-use Rattle.uc_book.specs.declared.tasks.TaskRow.{TaskRow}
+use Rattle.uc_rows.specs.declared.tasks.TaskRow.{TaskRow}
 use Rattle.uc_book.specs.declared.token.Task.{Task}
 use Rattle.uc_book.specs.Openings.{Opened}
 use Rattle.uc_machine.specs.declared.state.Numbers.{Numbers}
-use Rattle.uc_book.specs.RowViews.{FactsView}
-use Rattle.uc_book.specs.Bounds.{AreSmall}
-use Rattle.uc_book.specs.TaskRows.{HasFront}
+use Rattle.uc_rows.specs.RowViews.{FactsView}
+use Rattle.uc_rows.specs.Bounds.{AreSmall}
+use Rattle.uc_rows.specs.TaskRows.{HasFront}
 use Rattle.uc_book.specs.Answers.{reply_of}
 use Rattle.uc_book.specs.Parts.{state_of, closings, Fit, HasRoom, IsAtHead, IsSteady}
-use Rattle.uc_book.specs.Drawing.{AreJobs, IsSound, HasRoomToGive, CanGive}
+use Rattle.uc_book.specs.Drawing.{IsSound, HasRoomToGive, CanGive}
+use Rattle.uc_rows.specs.Jobs.{AreJobs}
 use Rattle.uc_book.proofs.Fitting.{joins}
 use Rattle.uc_book.proofs.Steady.{closings_few}
 use Rattle.uc_book.proofs.Rules.{Gives, due_drawn, unmet_drawn}

@@ -1,4 +1,3 @@
-pub mod Items
 pub mod Histories
 pub mod Sound
 pub mod Handing
@@ -8,13 +7,6 @@ pub mod Fitness
 pub mod Booked
 pub mod GoalCount
 pub mod Drawable
-pub mod FactRows
-pub mod GoalRows
-pub mod PutBack
-pub mod PairRows
-pub mod PairChanges
-pub mod Deaths
-pub mod BuriedRows
 pub mod RisingNumbers
 pub mod NewPairs
 pub mod Visits
@@ -22,8 +14,6 @@ pub mod Prefixes
 pub mod VisitEnds
 pub mod Taking
 pub mod Rules
-pub mod Ends
-pub mod Jobs
 pub mod Steady
 pub mod Standing
 pub mod Giving

@@ -15,8 +15,8 @@ use Rattle.uc_machine.specs.State.{State, Pair, dead_of, is_waiting, queue_from,
 use Rattle.uc_machine.specs.Effects.{dies, pair_by, weight_by, condition_by, forms}
 use Rattle.uc_machine.specs.Lists.{each}
 use Rattle.uc_machine.specs.Commits.{deaths, newly_waiting}
-use Rattle.uc_book.specs.Deaths.{deaths_by, revived, all_dead}
-use Rattle.uc_book.proofs.Deaths.{all_die}
+use Rattle.uc_rows.specs.Deaths.{deaths_by, revived, all_dead}
+use Rattle.uc_rows.proofs.Deaths.{all_die}
 use Rattle.uc_book.proofs.Prefixes.{map_more, count_more}
 
 abbrev pub waits : Pair → Bool

@@ -18,8 +18,8 @@ use Rattle.uc_machine.specs.State.{State, Opening, Target, draws_in}
 use Rattle.uc_machine.specs.Effects.{wakes, publishes, keeps, closes, next_ticket}
 use Rattle.uc_machine.specs.Runs.{Audits, KeptAs, ClosedBy, is_kept, is_spent}
 use Rattle.uc_book.specs.declared.parts.Parts.{Parts}
-use Rattle.uc_book.specs.RowViews.{FactsView}
-use Rattle.uc_book.specs.TaskRows.{HasFront}
+use Rattle.uc_rows.specs.RowViews.{FactsView}
+use Rattle.uc_rows.specs.TaskRows.{HasFront}
 use Rattle.uc_book.specs.Parts.{state_of, closings, Fit, HasRoom}
 use Rattle.uc_book.proofs.Histories.{draws-none}
 use Rattle.uc_book.proofs.Fitting.{joins, longer_fronts}

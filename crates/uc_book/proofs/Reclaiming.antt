@@ -3,9 +3,9 @@ use Rattle.std.proofs.Common.{◌≡◌, ℕ, ◌<◌, List, length, get_or, map
 use Rattle.std.specs.Prelude.{◌≢◌, MatchOption, IfSome}
 use Rattle.uc_machine.specs.State.{State, Out, out_at}
 use Rattle.uc_machine.specs.Effects.{reclaims}
-use Rattle.uc_book.specs.declared.tasks.TaskRow.{TaskRow}
+use Rattle.uc_rows.specs.declared.tasks.TaskRow.{TaskRow}
 use Rattle.uc_book.specs.declared.answer.CommitFault.TheVariants.{NotOut}
-use Rattle.uc_book.specs.TaskRows.{out_of, StandsAt}
+use Rattle.uc_rows.specs.TaskRows.{out_of, StandsAt}
 use Rattle.uc_book.specs.Answers.{IsReclaimed, IsNotOutTo}
 
 -- no task of the ticket is out

@@ -3,8 +3,8 @@ use Rattle.std.proofs.Common.{◌≡◌, ℕ, zero, suc, ◌+◌, ◌<◌, ◌�
 use Rattle.std.specs.Prelude.{◌||◌, filter, MatchResult, is_ok}
 use Rattle.std.proofs.lemmas.Bool.{cases_Bool, cases_lt, eq-eqb, ne_eqb}
 use Rattle.uc_shelf.specs.Entries.{is_dead}
-use Rattle.uc_book.specs.Committing.{AreRising, AreBelow}
-use Rattle.uc_book.specs.Deaths.{deaths_by}
+use Rattle.uc_rows.specs.Rising.{AreRising, AreBelow}
+use Rattle.uc_rows.specs.Deaths.{deaths_by}
 use Rattle.uc_machine.proofs.Kept.{NotIn, Distinct}
 
 pub rise_later : (n m : ℕ) (ks : List ℕ) → n ≤ m → AreRising m ks → AreRising n ks

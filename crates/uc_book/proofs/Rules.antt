@@ -10,9 +10,9 @@ use Rattle.uc_machine.specs.Lists.{At, map_option}
 use Rattle.uc_machine.specs.State.{Opening, State, Target, Out, first_due, first_continued, first_unmet}
 use Rattle.uc_machine.specs.Effects.{hands_out, next_ticket}
 use Rattle.uc_machine.specs.Draws.{Reply, Drew, Draws, NoneDue, IsLate, HasBudget, with_ends, goal_is_due, fact_is_unmet, goal_is_continued, pair_is_drawn}
-use Rattle.uc_book.specs.PairRows.{IsHead}
+use Rattle.uc_rows.specs.PairRows.{IsHead}
 use Rattle.uc_book.specs.Parts.{state_of}
-use Rattle.uc_book.specs.Drawing.{AreJobs}
+use Rattle.uc_rows.specs.Jobs.{AreJobs}
 use Rattle.uc_machine.proofs.Steps.{has_item}
 
 -- a task that is drawn with this ticket and for this job

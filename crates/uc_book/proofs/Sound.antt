@@ -18,16 +18,16 @@ use Rattle.uc_machine.specs.State.{Opening, State, Target, Out, is_draw, draws_i
 use Rattle.uc_machine.specs.Effects.{unit_of}
 use Rattle.uc_machine.specs.Events.{numbers_of, draws_by, commits_by, reclaims_by, is_commit_what, is_reclaim_what}
 use Rattle.uc_book.specs.Openings.{Opened, opening_of}
-use Rattle.uc_book.specs.TaskRows.{out_of}
+use Rattle.uc_rows.specs.TaskRows.{out_of}
 use Rattle.uc_book.specs.Parts.{state_of, Fit, HasRoom, IsBook, IsSubjectOut}
-use Rattle.uc_book.specs.Bounds.{IsSmall}
+use Rattle.uc_rows.specs.Bounds.{IsSmall}
 use Rattle.uc_book.specs.Drawing.{IsSound}
 use Rattle.uc_book.specs.Ending.{CanEnd, IsOut}
 use Rattle.uc_machine.proofs.Kept.{Kept, IsBusy}
 use Rattle.uc_machine.proofs.Lists.{sum-without, below}
 use Rattle.uc_machine.proofs.Steps.{at_task, has_item}
 use Rattle.uc_machine.proofs.Runs.{kept_reaches}
-use Rattle.uc_book.proofs.Items.{or-get}
+use Rattle.uc_rows.proofs.Items.{or-get}
 use Rattle.uc_book.proofs.Histories.{few_draws}
 
 small_numbers : (h : List Event) (w : ℕ) → length h < 2 ^ 63 → IsSmall (numbers_of h w)

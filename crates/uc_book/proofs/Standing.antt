@@ -21,19 +21,19 @@ use Rattle.uc_machine.specs.declared.task.Job.TheVariants.{Goal, More, Meet, Joi
 use Rattle.uc_machine.specs.Lists.{Each, change, map_option}
 use Rattle.uc_machine.specs.State.{Opening, State, Target, Pair, Out, out_at, draws_in, is_draw_what}
 use Rattle.uc_machine.specs.Effects.{unit_of, reclaims, accepts, turns, publishes, stages, closes, ending_of, reclaim_event, one_reclaim, one_commit}
-use Rattle.uc_book.specs.declared.tasks.TaskRow.{TaskRow}
+use Rattle.uc_rows.specs.declared.tasks.TaskRow.{TaskRow}
 use Rattle.uc_book.specs.declared.parts.Parts.{Parts}
 use Rattle.uc_book.specs.declared.token.Done.{Done as DoneTask}
 use Rattle.uc_book.specs.Answers.{IsNotOut}
-use Rattle.uc_book.specs.RowViews.{PairsView}
-use Rattle.uc_book.specs.TaskRows.{out_of, is_join, unit_if_join, HasFront, StandsAt}
+use Rattle.uc_rows.specs.RowViews.{PairsView}
+use Rattle.uc_rows.specs.TaskRows.{out_of, is_join, unit_if_join, HasFront, StandsAt}
 use Rattle.uc_book.specs.Parts.{state_of, closings, Fit, HasRoom, IsSubjectOut, IsSteady, SameCounts}
 use Rattle.uc_book.specs.Ending.{CanEnd, CanAccept, CanReturn, HasEnded}
 use Rattle.uc_machine.proofs.Lists.{length-change}
 use Rattle.uc_book.proofs.Histories.{draws-none, no_draw}
-use Rattle.uc_book.proofs.PutBack.{joins_left}
+use Rattle.uc_rows.proofs.PutBack.{joins_left}
 use Rattle.uc_book.proofs.Steady.{steady_fit, steady_room, steady_sound}
-use Rattle.uc_book.proofs.Items.{length-remove}
+use Rattle.uc_rows.proofs.Items.{length-remove}
 use Rattle.uc_book.proofs.Fitting.{joins, fit_ended, room_ended}
 
 -- the row at the place is that of the task

@@ -11,10 +11,10 @@ use Rattle.uc_machine.specs.Lists.{Each}
 use Rattle.uc_machine.specs.State.{Opening, State, Target, queue, queue_from}
 use Rattle.uc_machine.specs.Effects.{next_ticket}
 use Rattle.uc_book.specs.declared.parts.Parts.{Parts}
-use Rattle.uc_book.specs.declared.tasks.TaskRow.{TaskRow}
-use Rattle.uc_book.specs.RowViews.{FactsView, PairsView}
-use Rattle.uc_book.specs.Bounds.{AreSmall}
-use Rattle.uc_book.specs.TaskRows.{HasFront}
+use Rattle.uc_rows.specs.declared.tasks.TaskRow.{TaskRow}
+use Rattle.uc_rows.specs.RowViews.{FactsView, PairsView}
+use Rattle.uc_rows.specs.Bounds.{AreSmall}
+use Rattle.uc_rows.specs.TaskRows.{HasFront}
 use Rattle.uc_book.specs.Parts.{state_of, closings, Fit, HasRoom, IsSteady}
 use Rattle.uc_book.specs.Drawing.{IsSound, HasRoomToGive, CanGive}
 use Rattle.uc_book.proofs.Fitting.{joins}

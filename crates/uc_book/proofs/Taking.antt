@@ -8,9 +8,9 @@ use Rattle.uc_machine.specs.Lists.{change}
 use Rattle.uc_machine.specs.State.{State, Pair, Target}
 use Rattle.uc_machine.specs.Effects.{is_met, pair_by}
 use Rattle.uc_book.specs.declared.parts.Parts.{Parts}
-use Rattle.uc_book.specs.RowViews.{FactsView, PairsView}
+use Rattle.uc_rows.specs.RowViews.{FactsView, PairsView}
 use Rattle.uc_book.specs.Parts.{state_of}
-use Rattle.uc_book.specs.Deaths.{deaths_by, revived, met_by, woken_by, visited}
+use Rattle.uc_rows.specs.Deaths.{deaths_by, revived, met_by, woken_by, visited}
 
 same_state : (s : State) (es es2 : List Entry) (ms ms2 : List Meeting) (ps ps2 : List Pair) (d d2 : ℕ) (gs gs2 : List Target) → es ≡ es2 → ms ≡ ms2 → ps ≡ ps2 → d ≡ d2 → gs ≡ gs2
     → (let u : State = record s { entries = es; meetings = ms; pairs = ps; draws = d; goals = gs } in u) ≡ record s { entries = es2; meetings = ms2; pairs = ps2; draws = d2; goals = gs2 }

@@ -21,17 +21,17 @@ use Rattle.uc_machine.specs.Effects.{accepts, is_met, closes, ending_of, one_com
 use Rattle.uc_machine.specs.Commits.{Commits, Meets, within_limit, past_limit, newly_waiting}
 use Rattle.uc_machine.proofs.Lists.{length-change}
 use Rattle.uc_book.specs.declared.parts.Parts.{Parts}
-use Rattle.uc_book.specs.declared.tasks.TaskRow.{TaskRow}
-use Rattle.uc_book.specs.TaskRows.{is_join, unit_if_join, StandsAt}
-use Rattle.uc_book.specs.RowViews.{PairsView}
+use Rattle.uc_rows.specs.declared.tasks.TaskRow.{TaskRow}
+use Rattle.uc_rows.specs.TaskRows.{is_join, unit_if_join, StandsAt}
+use Rattle.uc_rows.specs.RowViews.{PairsView}
 use Rattle.uc_book.specs.Parts.{state_of, closings, Fit, HasRoom, IsSubjectOut}
 use Rattle.uc_book.specs.Ending.{CanEnd, HasEnded}
-use Rattle.uc_book.specs.Committing.{AreRising, AreBelow}
-use Rattle.uc_book.specs.Deaths.{alive_of, all_dead, visited, deaths_by}
+use Rattle.uc_rows.specs.Rising.{AreRising, AreBelow}
+use Rattle.uc_rows.specs.Deaths.{alive_of, all_dead, visited, deaths_by}
 use Rattle.uc_book.proofs.Histories.{draws-none}
-use Rattle.uc_book.proofs.Items.{length-remove}
+use Rattle.uc_rows.proofs.Items.{length-remove}
 use Rattle.uc_book.proofs.Fitting.{joins, fit_ended}
-use Rattle.uc_book.proofs.PutBack.{joins_left}
+use Rattle.uc_rows.proofs.PutBack.{joins_left}
 use Rattle.uc_book.proofs.Standing.{accepted_fit}
 use Rattle.uc_book.proofs.Steady.{IsSteady}
 use Rattle.uc_book.proofs.Taking.{reserved_state}

@@ -12,9 +12,9 @@ use Rattle.uc_machine.specs.Lists.{each}
 use Rattle.uc_machine.specs.State.{Opening, State, Out, waiting}
 use Rattle.uc_machine.specs.Effects.{accepts, is_met, dies, kills, forms, visits}
 use Rattle.uc_machine.specs.Commits.{Commits, fact_is_stale, fact_is_dead, fact_meets, Meets, within_limit, past_limit, deaths, newly_waiting, stays}
-use Rattle.uc_book.specs.Committing.{AreRising}
-use Rattle.uc_book.specs.Deaths.{alive_of, all_dead, visited}
-use Rattle.uc_book.proofs.Deaths.{all_die, kills_alive}
+use Rattle.uc_rows.specs.Rising.{AreRising}
+use Rattle.uc_rows.specs.Deaths.{alive_of, all_dead, visited}
+use Rattle.uc_rows.proofs.Deaths.{all_die, kills_alive}
 use Rattle.uc_book.proofs.RisingNumbers.{rising_differ}
 
 -- two effects that do the same to these states

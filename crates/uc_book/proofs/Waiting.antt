@@ -11,9 +11,9 @@ use Rattle.uc_machine.specs.State.{Opening, State, Target, Out, first_continued,
 use Rattle.uc_machine.specs.Effects.{closes}
 use Rattle.uc_machine.specs.Draws.{Reply, Idle, Drained, Closed, Draws, IsLate, Waits, goal_waits, pair_waits, NothingWaits, IsSpent, budget_is_out, budget_is_spent, all_is_out, all_is_done}
 use Rattle.uc_book.specs.declared.parts.Parts.{Parts}
-use Rattle.uc_book.specs.declared.tasks.TaskRow.{TaskRow}
-use Rattle.uc_book.specs.TaskRows.{out_of}
-use Rattle.uc_book.specs.PairRows.{head_in, IsHead}
+use Rattle.uc_rows.specs.declared.tasks.TaskRow.{TaskRow}
+use Rattle.uc_rows.specs.TaskRows.{out_of}
+use Rattle.uc_rows.specs.PairRows.{head_in, IsHead}
 use Rattle.uc_book.specs.Parts.{state_of}
 
 some_number : (s : State) (o : Option (At Target)) (b : Bool) → first_continued s ≡ o → b ≡ is_some (map_option (λ (f : At Target). f.number) o) → b ≡ true → Waits s

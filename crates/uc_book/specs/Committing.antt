@@ -12,6 +12,7 @@ use Rattle.uc_machine.specs.declared.task.Job.{Job}
 use Rattle.uc_machine.specs.declared.task.Job.TheVariants.{Goal, More, Meet, Join}
 use Rattle.uc_machine.specs.declared.task.Finding.{Finding}
 use Rattle.uc_machine.specs.declared.task.Finding.TheVariants.{Ends, Joined, Kept, Stale, Met}
+use Rattle.uc_rows.specs.Rising.{AreRising, AreBelow}
 
 -- the state of a goal whose ends differ, where the entries have grown or not
 abbrev pub stage_by : Stop → Bool → Stage
@@ -45,15 +46,6 @@ commit_word (Goal g l r) n steps end = CommitGoal n steps end
 commit_word (More g l r) n steps end = CommitMore n steps end
 commit_word (Meet i) n steps end = CommitGoal n steps end
 commit_word (Join p o) n steps end = CommitGoal n steps end
-
--- the numbers rise, from n on
-abbrev pub AreRising : ℕ → List ℕ → Type 0
-AreRising n [] = Unit {0}
-AreRising n (k ∷ ks) = (n ≤ k) × AreRising (k + 1) ks
-
-abbrev pub AreBelow : ℕ → List ℕ → Type 0
-AreBelow n [] = Unit {0}
-AreBelow n (k ∷ ks) = (k < n) × AreBelow n ks
 
 -- What is known of a result by its job alone: of which kind it is, how many steps it has, and that the facts that a fact
 -- replaces are earlier and rise.

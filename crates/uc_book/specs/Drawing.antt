@@ -7,15 +7,8 @@ use Rattle.uc_book.specs.declared.parts.Parts.{Parts}
 use Rattle.uc_machine.specs.Lists.{At}
 use Rattle.uc_machine.specs.State.{Opening, State, Target, queue}
 use Rattle.uc_machine.specs.Draws.{with_ends}
-use Rattle.uc_book.specs.Bounds.{AreSmall}
+use Rattle.uc_rows.specs.Bounds.{AreSmall}
 use Rattle.uc_book.specs.Parts.{state_of, Fit, HasRoom, RoomFor}
-
--- a job about the goal that was found, twice
-pub record AreJobs (kind : ℕ → Tree → Tree → Job) (found : Option (At Target)) (jobs : Job × Job) : Type 0 where
-  pub goal : At Target
-  pub is : found ≡ Some goal
-  pub one : jobs.0 ≡ with_ends kind goal
-  pub other : jobs.1 ≡ with_ends kind goal
 
 -- the counts stay far below the ends of their types
 pub record IsSound (o : Opening) (p : Parts) : Type 0 where

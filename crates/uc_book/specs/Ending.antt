@@ -4,8 +4,8 @@ use Rattle.boxcar.specs.Table.{Shelves}
 use Rattle.uc_book.specs.declared.parts.Parts.{Parts}
 use Rattle.uc_machine.specs.State.{Opening, Out, out_at}
 use Rattle.uc_machine.specs.Effects.{unit_of}
-use Rattle.uc_book.specs.Bounds.{AreSmall}
-use Rattle.uc_book.specs.TaskRows.{out_of, unit_if_join, StandsAt}
+use Rattle.uc_rows.specs.Bounds.{AreSmall}
+use Rattle.uc_rows.specs.TaskRows.{out_of, unit_if_join, StandsAt}
 use Rattle.uc_book.specs.Parts.{Fit, HasRoom, IsSubjectOut}
 use Rattle.uc_book.specs.Drawing.{IsSound}
 

@@ -1,13 +1,6 @@
 pub mod Openings
 pub mod Answers
-pub mod Bounds
-pub mod RowViews
-pub mod GoalRows
-pub mod FactRows
-pub mod PairRows
-pub mod TaskRows
 pub mod Parts
 pub mod Drawing
 pub mod Ending
 pub mod Committing
-pub mod Deaths

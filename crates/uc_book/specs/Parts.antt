@@ -9,12 +9,12 @@ use Rattle.uc_ledger.specs.declared.ledger.State.TheVariants.{Out as OutTo}
 use Rattle.uc_machine.specs.declared.event.Verdict.{Verdict}
 use Rattle.uc_machine.specs.declared.task.Job.{Job}
 use Rattle.uc_machine.specs.declared.task.Job.TheVariants.{Goal, More, Meet, Join}
-use Rattle.uc_book.specs.declared.tasks.TaskRow.{TaskRow}
+use Rattle.uc_rows.specs.declared.tasks.TaskRow.{TaskRow}
 use Rattle.uc_book.specs.declared.parts.Parts.{Parts}
-use Rattle.uc_book.specs.TaskRows.{out_of, is_join, HasFront}
+use Rattle.uc_rows.specs.TaskRows.{out_of, is_join, HasFront}
 use Rattle.uc_machine.specs.Lists.{Each, map_option}
 use Rattle.uc_machine.specs.State.{State, Pair}
-use Rattle.uc_book.specs.PairRows.{head_in}
+use Rattle.uc_rows.specs.PairRows.{head_in}
 use Rattle.uc_machine.specs.Effects.{next_ticket}
 use Rattle.uc_book.specs.Openings.{Opened, opening_of}
 use Rattle.uc_machine.specs.Runs.{Reaches}

@@ -15,7 +15,7 @@ ghost use Rattle.uc_book.specs.Answers.{IsSameBook, reply_of, IfTask, IsTaskOf, 
 use crate::answer::{Audited, CommitFault, Drawn, Receipt};
 use crate::opened::Opened;
 use crate::parts::Parts;
-use crate::token::{Done, Pass, WORKERS};
+use crate::token::{Done, Pass};
 use std::alloc::{AllocError, Global};
 use std::marker::Model;
 use std::sync::Wait;
@@ -23,6 +23,7 @@ use uc_fact::Chain;
 use uc_machine::{Event, Missing, Outcome, Stage, Verdict};
 use uc_order::Order;
 use uc_problem::Encoded;
+use uc_rows::WORKERS;
 use uc_shelf::{Front, Shelf};
 use uc_term::Term;
 

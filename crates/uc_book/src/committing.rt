@@ -14,22 +14,21 @@ ghost use Rattle.uc_machine.specs.Effects.{accepts, closes, stages, turns, publi
 ghost use Rattle.uc_machine.specs.Commits.{Commits, IsOutTo, end_word};
 ghost use Rattle.uc_book.specs.Openings.{opening_of};
 ghost use Rattle.uc_book.specs.Answers.{IsCommitted, IsNotOut, IsRefused};
-ghost use Rattle.uc_book.specs.FactRows.{HasOneMore};
-ghost use Rattle.uc_book.specs.TaskRows.{StandsAt};
+ghost use Rattle.uc_rows.specs.FactRows.{HasOneMore};
+ghost use Rattle.uc_rows.specs.TaskRows.{StandsAt};
 ghost use Rattle.uc_book.specs.Parts.{state_of, closings, Fit, HasRoom, IsSubjectOut, IsSteady, SameSubjects, SameCounts};
 ghost use Rattle.uc_book.specs.Ending.{CanEnd, AnyAt, CanAccept, HasEnded};
 ghost use Rattle.uc_book.specs.Committing.{stage_by, commit_word, HasGoal, IsGoalJob, IsPairJob, IsFor, IsForPair, HasEnds, HasNoEnds};
 
 use crate::answer::{CommitFault, Receipt};
-use crate::chains::end_of;
 use crate::opened::Opened;
 use crate::parts::Parts;
-use crate::tasks::{TaskRow, place_of, same_job};
 use crate::token::Done;
 use std::alloc::{AllocError, Global};
 use std::sync::Wait;
 use uc_fact::{Fact, Stop};
 use uc_machine::{Finding, GoalEnd, Happening, Job, Stage, Verdict};
+use uc_rows::{TaskRow, end_of, place_of, same_job};
 use uc_shelf::{Entry, Front, Shelf};
 
 /// The most entries of a front.

@@ -9,16 +9,16 @@ ghost use Rattle.uc_machine.specs.Draws.{Reply, Draws, NoneDue, NoneUnmet, IsLat
 ghost use Rattle.uc_book.specs.Openings.{opening_of};
 ghost use Rattle.uc_book.specs.Answers.{reply_of, IfTask};
 ghost use Rattle.uc_book.specs.Parts.{state_of, Fit, HasRoom, IsAtHead, IsSteady, SameSubjects};
-ghost use Rattle.uc_book.specs.Drawing.{AreJobs, IsSound, HasRoomToGive, CanGive};
+ghost use Rattle.uc_book.specs.Drawing.{IsSound, HasRoomToGive, CanGive};
+ghost use Rattle.uc_rows.specs.Jobs.{AreJobs};
 
 use crate::answer::Drawn;
-use crate::goals::Goals;
 use crate::opened::Opened;
 use crate::parts::Parts;
-use crate::tasks::TaskRow;
 use crate::token::Task;
 use std::alloc::{AllocError, Global};
 use uc_machine::{Job, Verdict};
+use uc_rows::{Goals, TaskRow};
 use uc_shelf::Front;
 
 /// The job to go on with the least goal that is Continued, twice, where a unit may be drawn.

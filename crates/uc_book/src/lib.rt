@@ -7,26 +7,20 @@
 mod answer;
 mod auditing;
 mod book;
-mod chains;
 mod committing;
 mod drawing;
-mod facts;
-mod goals;
 mod opened;
-mod pairs;
 mod parts;
 mod returning;
 mod starting;
-mod tasks;
 mod token;
 mod visiting;
-mod workers;
 
 pub use answer::{Audited, CommitFault, Drawn, Receipt};
 pub use book::{Book, MAX_BUDGET, MAX_LIMIT};
 pub use opened::Opened;
-pub use tasks::copy_job;
-pub use token::{Done, Pass, Task, WORKERS};
+pub use token::{Done, Pass, Task};
+pub use uc_rows::{WORKERS, copy_job};
 
 #[cfg(test)]
 mod tests;

@@ -4,18 +4,17 @@ ghost use Rattle.std.specs.Prelude.{◌≡◌, ⊤, ◌+◌, ◌<◌, ◌≤◌,
 ghost use Rattle.uc_queue.specs.declared.entry.Entry.{Entry as Place};
 ghost use Rattle.uc_machine.specs.State.{Out, peek, is_orphan, head_is_orphan, has_dead_parent};
 ghost use Rattle.uc_machine.specs.Effects.{takes, hands_out, drops, closes, ending_of, accepts, restores, reclaims, next_ticket};
-ghost use Rattle.uc_book.specs.Bounds.{AreSmall};
-ghost use Rattle.uc_book.specs.TaskRows.{unit_if_join, StandsAt};
+ghost use Rattle.uc_rows.specs.Bounds.{AreSmall};
+ghost use Rattle.uc_rows.specs.TaskRows.{unit_if_join, StandsAt};
 ghost use Rattle.uc_book.specs.Ending.{AnyAt, CanAccept, CanReturn, HasEnded};
 ghost use Rattle.uc_book.specs.Parts.{state_of, IsAtHead, IsSubjectOut, SameRest, SameSubjects};
 
-use crate::facts::Facts;
-use crate::goals::Goals;
-use crate::pairs::Pairs;
-use crate::tasks::{TaskRow, draw_event, reclaim_event, units};
-use crate::workers::{count_commit, count_draw, count_reclaim};
 use uc_fact::Origin;
 use uc_machine::{Ending, Event, Happening, Job, Meeting, Numbers, Stage, Verdict};
+use uc_rows::{
+    Facts, Goals, Pairs, TaskRow, count_commit, count_draw, count_reclaim, draw_event,
+    reclaim_event, units,
+};
 
 /// The parts that hold a book's state; `next` is the next ticket.
 #[derive(Drop)]

@@ -10,7 +10,7 @@ ghost use Rattle.uc_book.specs.Ending.{CanEnd};
 use crate::answer::CommitFault;
 use crate::opened::Opened;
 use crate::parts::Parts;
-use crate::tasks::place_of;
+use uc_rows::place_of;
 
 impl Parts {
     /// Puts the task of a ticket back, where it is out to the worker.

@@ -7,16 +7,13 @@ ghost use Rattle.uc_machine.specs.State.{Opening};
 ghost use Rattle.uc_machine.specs.Runs.{Starts, axiom_pairs, opened};
 ghost use Rattle.uc_book.specs.Parts.{state_of, Fit, HasRoom};
 
-use crate::facts::Facts;
-use crate::goals::Goals;
-use crate::pairs::Pairs;
 use crate::parts::Parts;
-use crate::workers::no_numbers;
 use std::alloc::{AllocError, Global};
 use uc_fact::{Equation, Origin};
 use uc_ledger::State;
 use uc_machine::Verdict;
 use uc_problem::Encoded;
+use uc_rows::{Facts, Goals, Pairs, no_numbers};
 
 /// A pair for each axiom, which waits.
 fn axiom_pairs(alloc: Global, axioms: &[Equation]) -> Result<Pairs, AllocError>

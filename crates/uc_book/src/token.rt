@@ -5,10 +5,8 @@ ghost use Rattle.std.specs.Prelude.{◌≡◌, ◌+◌, ◌-◌, ◌^◌, ◌<�
 use crate::opened::Opened;
 use std::marker::Model;
 use uc_machine::{Finding, Job};
+use uc_rows::WORKERS;
 use uc_shelf::Front;
-
-/// The workers' numbers are below this one.
-pub const WORKERS: u32 = 65;
 
 /// A worker's token, with its number and its count of commits. It has the opening of the book that enrolled it.
 #[derive(Drop)]

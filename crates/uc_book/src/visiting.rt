@@ -12,17 +12,14 @@ ghost use Rattle.uc_machine.specs.State.{Opening, Out, is_waiting};
 ghost use Rattle.uc_machine.specs.Effects.{condition_by, weight_by, pair_by, accepts, is_met, closes};
 ghost use Rattle.uc_machine.specs.Commits.{Commits, Meets, newly_waiting};
 ghost use Rattle.uc_book.specs.Openings.{opening_of};
-ghost use Rattle.uc_book.specs.TaskRows.{StandsAt};
+ghost use Rattle.uc_rows.specs.TaskRows.{StandsAt};
 ghost use Rattle.uc_book.specs.Parts.{state_of, Fit, HasRoom};
 ghost use Rattle.uc_book.specs.Ending.{AnyAt, CanEnd, CanAccept, HasEnded};
-ghost use Rattle.uc_book.specs.Committing.{AreRising, AreBelow};
-ghost use Rattle.uc_book.specs.Deaths.{alive_of, deaths_by, revived, all_dead, visited, woken_by};
+ghost use Rattle.uc_rows.specs.Rising.{AreRising, AreBelow};
+ghost use Rattle.uc_rows.specs.Deaths.{alive_of, deaths_by, revived, all_dead, visited, woken_by};
 
 use crate::committing::MAX_ENTRIES;
-use crate::facts::Facts;
-use crate::goals::Goals;
 use crate::opened::Opened;
-use crate::pairs::Pairs;
 use crate::parts::Parts;
 use std::alloc::{AllocError, Global};
 use std::sync::Wait;
@@ -30,6 +27,7 @@ use uc_fact::Origin;
 use uc_ledger::State;
 use uc_machine::{Happening, Meeting, Verdict};
 use uc_pair::{Formed, Size};
+use uc_rows::{Facts, Goals, Pairs};
 use uc_shelf::{Entry, Front, Shelf};
 
 /// What a visit brings, as far as the limit allows it: these facts die, killed by one fact, and these overlaps get their pairs.

@@ -4,16 +4,16 @@
 use crate::answer::{Audited, CommitFault, Drawn, Receipt};
 use crate::opened::Opened;
 use crate::parts::Parts;
-use crate::tasks::copy_job;
 use crate::tests::images::{found_of, has_lines, is_drawn, is_way, lines_of, sides_of, work_of};
 use crate::tests::invention::{Generator, problem_of};
 use crate::tests::machine::{Machine, small, start};
-use crate::token::{Done, WORKERS};
+use crate::token::Done;
 use std::alloc::{AllocError, Global};
 use std::sync::Wait;
 use uc_fact::Fact;
 use uc_machine::Meeting;
 use uc_problem::Encoded;
+use uc_rows::{WORKERS, copy_job};
 use uc_shelf::{Entry, Front, Shelf};
 
 /// Why a run ends before its time.

@@ -1,5 +1,5 @@
 use Rattle.std.proofs.Common.{◌≡◌, take}
-use Rattle.uc_book.specs.Deaths.{alive_of}
+use Rattle.uc_rows.specs.Deaths.{alive_of}
 use Rattle.uc_book.proofs.visiting.alive.Given as goal
 
 abbrev pub invariant-loop-k : goal.invariant-loop-k

@@ -1,7 +1,7 @@
 use Rattle.std.proofs.Common.{arith, ◌≡◌, ◌<◌, ◌++◌, length, map, ap, ◌∙◌}
 use Rattle.std.proofs.lemmas.List.{take_all}
 use Rattle.uc_machine.specs.Effects.{pair_by}
-use Rattle.uc_book.specs.Deaths.{deaths_by}
+use Rattle.uc_rows.specs.Deaths.{deaths_by}
 use Rattle.uc_book.proofs.NewPairs.{formed_more}
 use Rattle.uc_book.proofs.visiting.form.Goals as goal
 

@@ -1,6 +1,6 @@
 use Rattle.std.proofs.Common.{◌≡◌, ℕ, ◌≤◌, ◌+◌, ◌++◌, map, take}
 use Rattle.uc_machine.specs.Effects.{pair_by}
-use Rattle.uc_book.specs.Deaths.{deaths_by}
+use Rattle.uc_rows.specs.Deaths.{deaths_by}
 use Rattle.uc_book.proofs.visiting.form.Given as goal
 
 abbrev pub invariant-loop-k : goal.invariant-loop-k

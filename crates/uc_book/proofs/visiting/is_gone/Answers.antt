@@ -1,8 +1,8 @@
 use Rattle.std.proofs.Common.{◌≡◌, true, false, sym, ap, ◌∙◌}
 use Rattle.std.specs.Prelude.{◌||◌}
 use Rattle.uc_shelf.specs.Entries.{is_dead}
-use Rattle.uc_book.specs.Deaths.{deaths_by}
-use Rattle.uc_book.proofs.Deaths.{dead_either}
+use Rattle.uc_rows.specs.Deaths.{deaths_by}
+use Rattle.uc_rows.proofs.Deaths.{dead_either}
 use Rattle.uc_book.proofs.visiting.is_gone.Goals as goal
 
 pub returns-then-is_dead : goal.returns-then-is_dead

@@ -4,7 +4,7 @@ use Rattle.std.proofs.lemmas.List.{take_all}
 use Rattle.uc_pair.specs.declared.formed.Formed.{Formed}
 use Rattle.uc_machine.specs.State.{is_waiting}
 use Rattle.uc_machine.specs.Effects.{pair_by}
-use Rattle.uc_book.specs.Deaths.{deaths_by}
+use Rattle.uc_rows.specs.Deaths.{deaths_by}
 use Rattle.uc_book.proofs.NewPairs.{newly_more}
 use Rattle.uc_book.proofs.visiting.newly_waiting.Goals as goal
 use Rattle.uc_book.proofs.visiting.newly_waiting.Goals.{then-is_waiting, else-is_waiting}

@@ -3,7 +3,7 @@ use Rattle.std.specs.Prelude.{count_by}
 use Rattle.uc_pair.specs.declared.formed.Formed.{Formed}
 use Rattle.uc_machine.specs.State.{is_waiting}
 use Rattle.uc_machine.specs.Effects.{pair_by}
-use Rattle.uc_book.specs.Deaths.{deaths_by}
+use Rattle.uc_rows.specs.Deaths.{deaths_by}
 use Rattle.uc_book.proofs.visiting.newly_waiting.Given as goal
 
 abbrev pub invariant-loop-k : goal.invariant-loop-k

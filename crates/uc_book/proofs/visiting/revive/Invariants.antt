@@ -1,5 +1,5 @@
 use Rattle.std.proofs.Common.{◌≡◌, ◌≤◌, ◌+◌, ◌++◌, map, take}
-use Rattle.uc_book.specs.Deaths.{revived}
+use Rattle.uc_rows.specs.Deaths.{revived}
 use Rattle.uc_book.proofs.visiting.revive.Given as goal
 
 abbrev pub invariant-loop-k : goal.invariant-loop-k

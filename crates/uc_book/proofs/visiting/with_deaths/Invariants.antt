@@ -1,6 +1,6 @@
 use Rattle.std.proofs.Common.{◌≡◌, ◌++◌, take}
 use Rattle.uc_shelf.specs.Fronts.{IsOf}
-use Rattle.uc_book.specs.Deaths.{deaths_by}
+use Rattle.uc_rows.specs.Deaths.{deaths_by}
 use Rattle.uc_book.proofs.visiting.with_deaths.Given as goal
 
 abbrev pub invariant-loop-k : goal.invariant-loop-k

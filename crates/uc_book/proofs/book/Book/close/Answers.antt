@@ -2,8 +2,8 @@ use Rattle.std.proofs.Common.{rules, arith, refl, ◌≡◌, ◌<◌, ◌≤◌,
 use Rattle.std.specs.Prelude.{Vec}
 use Rattle.std.specs.declared.alloc.Global.{Global}
 use Rattle.uc_machine.specs.Runs.{closes_on}
-use Rattle.uc_book.specs.declared.tasks.TaskRow.{TaskRow}
-use Rattle.uc_book.specs.RowViews.{FactsView, PairsView}
+use Rattle.uc_rows.specs.declared.tasks.TaskRow.{TaskRow}
+use Rattle.uc_rows.specs.RowViews.{FactsView, PairsView}
 use Rattle.uc_book.specs.Openings.{Opened}
 use Rattle.uc_book.specs.Parts.{state_of, closings}
 use Rattle.uc_book.proofs.Standing.{closed_fit, closed_room}

@@ -2,13 +2,13 @@ use Rattle.std.proofs.Common.{rules, arith, refl, ◌≡◌, ◌<◌, ◌≤◌,
 use Rattle.std.proofs.lemmas.List.{length-map}
 use Rattle.uc_machine.specs.Runs.{Reaches, reclaims_on}
 use Rattle.uc_book.specs.Openings.{Opened, opening_of}
-use Rattle.uc_book.specs.TaskRows.{out_of}
+use Rattle.uc_rows.specs.TaskRows.{out_of}
 use Rattle.uc_book.specs.Parts.{state_of}
-use Rattle.uc_book.proofs.PutBack.{some_first, recall_stands}
+use Rattle.uc_rows.proofs.PutBack.{some_first, recall_stands}
 use Rattle.uc_book.proofs.Sound.{book_can_end}
 use Rattle.uc_book.proofs.Standing.{can_return, returned_fit}
 use Rattle.uc_book.proofs.Fitting.{room_ended}
-use Rattle.uc_book.proofs.Items.{length-remove}
+use Rattle.uc_rows.proofs.Items.{length-remove}
 use Rattle.uc_book.proofs.book.Book.put_first_back.Goals as goal
 
 pub put_back-requires-clause-at : goal.put_back-requires-clause-at

@@ -1,6 +1,6 @@
 use Rattle.std.proofs.Common.{rules, arith, refl, ◌≡◌, ◌<◌, ◌+◌, [], length, sym, ◌∙◌, ap}
 use Rattle.std.proofs.lemmas.Bool.{false≢true}
-use Rattle.uc_book.proofs.PutBack.{recall_none}
+use Rattle.uc_rows.proofs.PutBack.{recall_none}
 use Rattle.uc_book.proofs.Booked.{none_left}
 use Rattle.uc_book.proofs.book.Book.recall.Goals as goal
 

@@ -14,8 +14,8 @@ use Rattle.uc_machine.specs.Effects.{publishes}
 use Rattle.uc_machine.specs.Runs.{Audits, ClosedBy, is_spent}
 use Rattle.uc_book.specs.declared.parts.Parts.{Parts}
 use Rattle.uc_machine.specs.declared.event.Verdict.TheVariants.{BudgetOut}
-use Rattle.uc_book.specs.declared.tasks.TaskRow.{TaskRow}
-use Rattle.uc_book.specs.RowViews.{FactsView, PairsView}
+use Rattle.uc_rows.specs.declared.tasks.TaskRow.{TaskRow}
+use Rattle.uc_rows.specs.RowViews.{FactsView, PairsView}
 use Rattle.uc_book.specs.Openings.{opening_of}
 use Rattle.uc_book.specs.Parts.{state_of, closings, IsSteady}
 use Rattle.uc_book.proofs.Steady.{steady_fit, steady_room, steady_len, steady_events, steady_after, closings_few}

@@ -9,7 +9,7 @@ use Rattle.uc_machine.specs.State.{State, is_unmet, first_unmet}
 use Rattle.uc_book.specs.declared.parts.Parts.{Parts}
 use Rattle.uc_book.specs.declared.token.Task.{Task}
 use Rattle.uc_book.specs.Openings.{opening_of}
-use Rattle.uc_book.specs.RowViews.{FactsView}
+use Rattle.uc_rows.specs.RowViews.{FactsView}
 use Rattle.uc_book.specs.Parts.{state_of, IsSteady}
 use Rattle.uc_book.specs.Drawing.{CanGive}
 use Rattle.uc_book.specs.Answers.{reply_of, IfTask}

@@ -3,8 +3,8 @@ use Rattle.std.specs.Prelude.{Vec}
 use Rattle.std.specs.declared.alloc.Global.{Global}
 use Rattle.uc_machine.specs.Draws.{Draws, IsLate, IsSpent, Waits, NothingWaits}
 use Rattle.uc_book.specs.declared.parts.Parts.{Parts}
-use Rattle.uc_book.specs.declared.tasks.TaskRow.{TaskRow}
-use Rattle.uc_book.specs.RowViews.{FactsView}
+use Rattle.uc_rows.specs.declared.tasks.TaskRow.{TaskRow}
+use Rattle.uc_rows.specs.RowViews.{FactsView}
 use Rattle.uc_book.specs.Openings.{opening_of}
 use Rattle.uc_book.specs.Answers.{reply_of}
 use Rattle.uc_book.specs.Parts.{state_of, Fit, HasRoom}

@@ -10,7 +10,7 @@ use Rattle.uc_machine.specs.State.{State, Target, is_due, first_due}
 use Rattle.uc_book.specs.declared.parts.Parts.{Parts}
 use Rattle.uc_book.specs.Openings.{opening_of}
 use Rattle.uc_book.specs.Parts.{state_of, IsSteady}
-use Rattle.uc_book.specs.Drawing.{AreJobs}
+use Rattle.uc_rows.specs.Jobs.{AreJobs}
 use Rattle.uc_book.proofs.Steady.{steady_on, steady_fit, steady_room, steady_give, give_on}
 use Rattle.uc_book.proofs.Giving.{goal_at_head, same_jobs, due_given}
 use Rattle.uc_book.proofs.parts.Parts.draw_open.Goals as goal

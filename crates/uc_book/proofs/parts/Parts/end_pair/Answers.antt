@@ -4,8 +4,8 @@ use Rattle.uc_ledger.specs.declared.ledger.State.TheVariants.{Out as OutTo, Done
 use Rattle.uc_machine.specs.Lists.{map_option}
 use Rattle.uc_machine.specs.State.{State, Pair, Out}
 use Rattle.uc_machine.specs.Effects.{turns}
-use Rattle.uc_book.specs.RowViews.{PairsView}
-use Rattle.uc_book.specs.TaskRows.{out_of}
+use Rattle.uc_rows.specs.RowViews.{PairsView}
+use Rattle.uc_rows.specs.TaskRows.{out_of}
 use Rattle.uc_book.specs.Parts.{state_of}
 use Rattle.uc_book.proofs.Standing.{row_out}
 use Rattle.uc_book.proofs.Finishing.{pair_out}

@@ -2,10 +2,10 @@ use Rattle.std.proofs.Common.{rules, arith, ◌≡◌, ◌+◌, ◌++◌, ◌∷
 use Rattle.std.specs.Prelude.{slice_index_or}
 use Rattle.uc_shelf.specs.Sights.{Sight}
 use Rattle.uc_machine.specs.declared.event.Event.{Event}
-use Rattle.uc_book.specs.declared.tasks.TaskRow.{TaskRow}
+use Rattle.uc_rows.specs.declared.tasks.TaskRow.{TaskRow}
 use Rattle.uc_machine.specs.Lists.{change}
 use Rattle.uc_machine.specs.Effects.{draw_event, one_drawn, unit_of}
-use Rattle.uc_book.specs.TaskRows.{out_of}
+use Rattle.uc_rows.specs.TaskRows.{out_of}
 use Rattle.uc_book.specs.Parts.{state_of}
 use Rattle.uc_book.proofs.Handing.{handed, out_more}
 use Rattle.uc_book.proofs.parts.Parts.hand_out.Goals as goal

@@ -11,9 +11,9 @@ use Rattle.uc_ledger.specs.declared.ledger.State.TheVariants.{Done}
 use Rattle.uc_machine.specs.declared.event.Happening.TheVariants.{CommitKept}
 use Rattle.uc_machine.specs.State.{State, Out}
 use Rattle.uc_machine.specs.Effects.{publishes, turns, accepts}
-use Rattle.uc_book.specs.declared.tasks.TaskRow.{TaskRow}
-use Rattle.uc_book.specs.RowViews.{FactsView}
-use Rattle.uc_book.specs.TaskRows.{StandsAt}
+use Rattle.uc_rows.specs.declared.tasks.TaskRow.{TaskRow}
+use Rattle.uc_rows.specs.RowViews.{FactsView}
+use Rattle.uc_rows.specs.TaskRows.{StandsAt}
 use Rattle.uc_book.specs.Parts.{state_of, IsSubjectOut}
 use Rattle.uc_book.proofs.Steady.{steady_fit, steady_room}
 use Rattle.uc_book.proofs.Standing.{can_accept, kept_fit, room_kept, steady_end, steady_stands, stands_before}

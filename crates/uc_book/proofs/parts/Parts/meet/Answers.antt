@@ -5,9 +5,9 @@ use Rattle.uc_machine.specs.declared.task.Finding.TheVariants.{Met}
 use Rattle.uc_book.specs.Openings.{opening_of}
 use Rattle.uc_book.specs.Parts.{state_of, Fit}
 use Rattle.uc_book.specs.Ending.{CanEnd}
-use Rattle.uc_book.specs.Committing.{AreRising, AreBelow}
-use Rattle.uc_book.specs.Deaths.{alive_of}
-use Rattle.uc_book.proofs.Items.{on_ok}
+use Rattle.uc_rows.specs.Rising.{AreRising, AreBelow}
+use Rattle.uc_rows.specs.Deaths.{alive_of}
+use Rattle.uc_rows.proofs.Items.{on_ok}
 use Rattle.uc_book.proofs.VisitEnds.{meeting_born, falls_rise, falls_below, EndsAs, CommitsAt, dead_at, met_at}
 use Rattle.uc_book.proofs.parts.Parts.meet.Goals as goal
 

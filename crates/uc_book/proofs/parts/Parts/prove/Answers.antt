@@ -3,7 +3,7 @@ use Rattle.uc_machine.specs.declared.event.Verdict.TheVariants.{Proved}
 use Rattle.uc_machine.specs.declared.event.Happening.{Happening}
 use Rattle.uc_machine.specs.State.{State, Out}
 use Rattle.uc_machine.specs.Effects.{closes, accepts}
-use Rattle.uc_book.specs.TaskRows.{out_of}
+use Rattle.uc_rows.specs.TaskRows.{out_of}
 use Rattle.uc_book.specs.Parts.{state_of}
 use Rattle.uc_book.proofs.Standing.{row_out}
 use Rattle.uc_book.proofs.parts.Parts.prove.Goals as goal

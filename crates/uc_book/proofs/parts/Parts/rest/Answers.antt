@@ -7,7 +7,7 @@ use Rattle.uc_machine.specs.Lists.{change}
 use Rattle.uc_machine.specs.State.{State, Target, Out}
 use Rattle.uc_machine.specs.Effects.{stages, accepts}
 use Rattle.uc_machine.specs.Commits.{end_word}
-use Rattle.uc_book.specs.TaskRows.{out_of}
+use Rattle.uc_rows.specs.TaskRows.{out_of}
 use Rattle.uc_book.specs.Committing.{stage_by, commit_word}
 use Rattle.uc_book.specs.Parts.{state_of}
 use Rattle.uc_book.proofs.Standing.{row_out}

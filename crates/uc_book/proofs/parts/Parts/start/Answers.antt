@@ -6,8 +6,8 @@ use Rattle.uc_machine.specs.State.{Opening}
 use Rattle.uc_machine.specs.Effects.{closes}
 use Rattle.uc_machine.specs.Runs.{Starts, axiom_pairs, opened}
 use Rattle.uc_book.specs.declared.parts.Parts.{Parts}
-use Rattle.uc_book.specs.declared.tasks.TaskRow.{TaskRow}
-use Rattle.uc_book.specs.RowViews.{FactsView, PairsView}
+use Rattle.uc_rows.specs.declared.tasks.TaskRow.{TaskRow}
+use Rattle.uc_rows.specs.RowViews.{FactsView, PairsView}
 use Rattle.uc_book.specs.Parts.{state_of, closings}
 use Rattle.uc_book.proofs.Standing.{closed_fit, closed_room}
 use Rattle.uc_book.proofs.Beginning.{started, started_out}

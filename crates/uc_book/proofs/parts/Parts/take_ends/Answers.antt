@@ -7,7 +7,7 @@ use Rattle.uc_machine.specs.declared.event.Verdict.TheVariants.{Proved}
 use Rattle.uc_machine.specs.declared.event.GoalEnd.TheVariants.{Met as EndsMet}
 use Rattle.uc_machine.specs.declared.task.Finding.{Finding}
 use Rattle.uc_machine.specs.declared.task.Job.{Job}
-use Rattle.uc_book.specs.RowViews.{FactsView, PairsView}
+use Rattle.uc_rows.specs.RowViews.{FactsView, PairsView}
 use Rattle.uc_machine.specs.State.{State, Target, Out}
 use Rattle.uc_machine.specs.Effects.{takes_ends}
 use Rattle.uc_machine.specs.Commits.{Commits, end_word, steps_of}

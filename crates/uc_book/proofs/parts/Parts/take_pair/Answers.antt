@@ -3,7 +3,7 @@ use Rattle.uc_machine.specs.declared.event.Happening.TheVariants.{CommitJoined}
 use Rattle.uc_machine.specs.declared.task.Finding.{Finding}
 use Rattle.uc_machine.specs.State.{Out}
 use Rattle.uc_machine.specs.Commits.{Commits}
-use Rattle.uc_book.specs.RowViews.{FactsView}
+use Rattle.uc_rows.specs.RowViews.{FactsView}
 use Rattle.uc_book.specs.Parts.{state_of}
 use Rattle.uc_book.proofs.Standing.{can_accept, joined_fit}
 use Rattle.uc_book.proofs.Fitting.{room_ended}

@@ -2,9 +2,9 @@ use Rattle.std.proofs.Common.{arith, ◌≡◌, ◌++◌, length, sym, ap, ◌�
 use Rattle.uc_shelf.specs.Entries.{born}
 use Rattle.uc_shelf.specs.Sights.{Sight}
 use Rattle.uc_machine.specs.Effects.{is_met}
-use Rattle.uc_book.specs.RowViews.{FactsView, PairsView}
-use Rattle.uc_book.specs.Committing.{AreBelow}
-use Rattle.uc_book.specs.Deaths.{deaths_by, visited}
+use Rattle.uc_rows.specs.RowViews.{FactsView, PairsView}
+use Rattle.uc_rows.specs.Rising.{AreBelow}
+use Rattle.uc_rows.specs.Deaths.{deaths_by, visited}
 use Rattle.uc_book.proofs.Taking.{taken_state}
 use Rattle.uc_book.proofs.parts.Parts.take_visit.Goals as goal
 

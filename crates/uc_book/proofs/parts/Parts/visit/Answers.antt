@@ -9,7 +9,7 @@ use Rattle.uc_machine.specs.Commits.{newly_waiting}
 use Rattle.uc_book.specs.declared.parts.Parts.{Parts}
 use Rattle.uc_book.specs.Parts.{state_of}
 use Rattle.uc_book.specs.Ending.{HasEnded}
-use Rattle.uc_book.specs.Deaths.{deaths_by, all_dead, visited}
+use Rattle.uc_rows.specs.Deaths.{deaths_by, all_dead, visited}
 use Rattle.uc_book.proofs.Standing.{can_accept, room_for_two}
 use Rattle.uc_book.proofs.Steady.{steady_fit, steady_room}
 use Rattle.uc_book.proofs.Taking.{reserved_state}

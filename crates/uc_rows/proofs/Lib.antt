@@ -1,0 +1,10 @@
+pub mod Items
+pub mod FactRows
+pub mod GoalRows
+pub mod PutBack
+pub mod PairRows
+pub mod PairChanges
+pub mod Deaths
+pub mod BuriedRows
+pub mod Ends
+pub mod Jobs

@@ -1,0 +1,35 @@
+use Rattle.std.proofs.Common.{rules, arith, refl, ◌≡◌, ◌<◌, length, get_or, sym, ◌∙◌, ap}
+use Rattle.std.proofs.lemmas.List.{length-set}
+use Rattle.uc_ledger.specs.declared.ledger.State.TheVariants.{Out as OutTo, Waiting}
+use Rattle.uc_machine.specs.State.{is_waiting}
+use Rattle.uc_rows.specs.declared.pairs.PairRow.{PairRow}
+use Rattle.uc_rows.proofs.PairChanges.{pair_in, row_inside, row_weight, out_new, turned, queue_again}
+use Rattle.uc_rows.proofs.pairs.Pairs.give_back.Goals as goal
+
+pub index-requires : goal.index-requires
+index-requires c =
+    let i = c.self.inside in
+    let p = pair_in i c.args.self.now c.args.number (OutTo c.args.worker) c.self.view_is c.requires.out in
+    let l : c.args.number < length i.rows.items = row_inside i c.args.number (OutTo c.args.worker) p in
+    omega (arith, i.rows.ok.0)
+
+pub back-requires-clause-new : goal.back-requires-clause-new
+back-requires-clause-new c = out_new c.self.inside c.args.number (OutTo c.args.worker) refl c.self.invariant (pair_in c.self.inside c.args.self.now c.args.number (OutTo c.args.worker) c.self.view_is c.requires.out)
+
+pub prove-unreachable-requires : goal.prove-unreachable-requires
+prove-unreachable-requires c = (let p = pair_in c.self.inside c.args.self.now c.args.number (OutTo c.args.worker) c.self.view_is c.requires.out in c.in-Err.ensures.other (c.in-Err.ensures.is ∙ p.state))
+
+pub invariant_of-self : goal.invariant_of-self
+invariant_of-self c =
+    let i = c.self.inside in
+    let p = pair_in i c.args.self.now c.args.number (OutTo c.args.worker) c.self.view_is c.requires.out in
+    let t = c.in-Ok.ensures in
+    let row = c.index.result in
+    let weight : row.weight ≡ p.pair.weight = row_weight i c.args.number (OutTo c.args.worker) row p c.index.ensures in
+    record {
+      as_many = ap length t.becomes ∙ length-set i.states.states c.args.number Waiting ∙ c.self.invariant.as_many;
+      queue = queue_again i.rows.items i.states.states c.give_back.new.self.states c.args.number row.weight p.pair i.queue.waiting c.back.new.self.waiting t.becomes p.at (ap is_waiting p.condition) weight c.self.invariant.queue c.back.ensures.added;
+    }
+
+pub returns-clause-pairs : goal.returns-clause-pairs
+returns-clause-pairs c = rw (← c.self.view_is) (turned c.self.inside.rows.items c.self.inside.states.states c.give_back.new.self.states c.args.number Waiting c.in-Ok.ensures.becomes)

@@ -1,0 +1,9 @@
+pub mod Bounds
+pub mod Rising
+pub mod RowViews
+pub mod Jobs
+pub mod GoalRows
+pub mod FactRows
+pub mod PairRows
+pub mod TaskRows
+pub mod Deaths
