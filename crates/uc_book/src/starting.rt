@@ -1,6 +1,6 @@
 //! The start of a book.
 
-ghost use Rattle.std.specs.Prelude.{◌≡◌, ℕ, ◌<◌, ◌^◌, length, None, IfOk};
+ghost use Rattle.std.specs.Prelude.{◌≡◌, ℕ, ◌<◌, ◌^◌, length, None, IfOk, OnOk};
 ghost use Rattle.boxcar.specs.Table.{Shelves};
 ghost use Rattle.uc_machine.specs.declared.event.Verdict.TheVariants as Verdict;
 ghost use Rattle.uc_machine.specs.State.{Opening};
@@ -14,6 +14,23 @@ use uc_ledger::State;
 use uc_machine::Verdict;
 use uc_problem::Encoded;
 use uc_rows::{Facts, Goals, Pairs, no_numbers};
+
+/// The most axioms, and the most goals, that a book may have: more need more memory than a book may have.
+const MAX_COUNT: usize = i32::MAX as usize;
+
+/// Refuses more axioms or goals than a book may have.
+fn check_counts(problem: &Encoded) -> Result<(), AllocError>
+    ensures axioms { OnOk result (length problem.now.axioms < 2 ^ 31) }
+    ensures goals { OnOk result (length problem.now.goals < 2 ^ 31) }
+{
+    if problem.axioms.len() > MAX_COUNT {
+        return Err(AllocError);
+    }
+    if problem.goals.len() > MAX_COUNT {
+        return Err(AllocError);
+    }
+    Ok(())
+}
 
 /// A pair for each axiom, which waits.
 fn axiom_pairs(alloc: Global, axioms: &[Equation]) -> Result<Pairs, AllocError>
@@ -33,14 +50,15 @@ fn axiom_pairs(alloc: Global, axioms: &[Equation]) -> Result<Pairs, AllocError>
 
 impl Parts {
     /// Each axiom is a pair that waits, and each goal is Due. Where there are more axioms than pairs may wait, the book is
-    /// closed, and none waits.
+    /// closed, and none waits. From 2^31 axioms or goals on it is refused: so many need more memory than a book may have.
     pub(crate) fn start(alloc: Global, problem: &Encoded, limit: u32) -> Result<Parts, AllocError>
-        requires axioms { length problem.now.axioms < 2 ^ 31 }
-        requires goals { length problem.now.goals < 2 ^ 31 }
+        ensures axioms { OnOk result (length problem.now.axioms < 2 ^ 31) }
+        ensures goals { OnOk result (length problem.now.goals < 2 ^ 31) }
         ensures starts { IfOk result (λ p. (budget : ℕ) → Starts (record { axioms = problem.now.axioms; goals = problem.now.goals; budget = budget; limit = limit }) (state_of p)) }
         ensures fit { IfOk result (λ p. (shelf : Shelves) → Fit shelf p) }
         ensures room { IfOk result HasRoom }
     {
+        check_counts(problem)?;
         let axioms = problem.axioms.as_slice();
         if axioms.len() > limit as usize {
             let mut parts = opened(alloc, problem, Pairs::new(alloc)?)?;
