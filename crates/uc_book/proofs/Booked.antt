@@ -41,11 +41,15 @@ at_ticket n (u ∷ ts) t e = elim (cases_Bool (u.ticket == n)) [
 pub at_own : (n : ℕ) (ts : List Out) (t : Out) → out_at n ts ≡ Some t → out_at t.ticket ts ≡ Some t
 at_own n ts t e = subst (λ k. out_at k ts ≡ Some t) (sym (at_ticket n ts t e)) e
 
+-- the parts of a book are those of a book again where they fit together, have room and a run leads to their state
+pub next_book : (m : Meaning) (o : Opened) (p q : Parts) → IsBook m o p → Fit o.shelf q → HasRoom q → Reaches m (opening_of o) (state_of q) → IsBook m o q
+next_book m o p q b f r reaches = record { fit = f; room = r; reaches = reaches; budget = b.budget; few_axioms = b.few_axioms; few_goals = b.few_goals }
+
 pub same_book : (m : Meaning) (o : Opened) (p q : Parts) → IsBook m o p → state_of q ≡ state_of p → Fit o.shelf q → HasRoom q → IsBook m o q
-same_book m o p q b e f r = record { fit = f; room = r; reaches = subst (Reaches m (opening_of o)) (sym e) b.reaches; budget = b.budget }
+same_book m o p q b e f r = next_book m o p q b f r (subst (Reaches m (opening_of o)) (sym e) b.reaches)
 
 pub drawn_book : {E : Type 0} (m : Meaning) (o : Opened) (w : ℕ) (p q : Parts) (r : Result Drawn E) → w < 65 → IsBook m o p → IfOk r (λ d. Draws (opening_of o) w (state_of p) (reply_of w d) (state_of q)) → OnErr r (state_of q ≡ state_of p) → Fit o.shelf q → HasRoom q → IsBook m o q
-drawn_book m o w p q (Ok d) l b a e f r = record { fit = f; room = r; reaches = draws_on w l b.reaches a; budget = b.budget }
+drawn_book m o w p q (Ok d) l b a e f r = next_book m o p q b f r (draws_on w l b.reaches a)
 drawn_book m o w p q (Err x) l b a e f r = same_book m o p q b e f r
 
 pub reclaimed_reaches : (m : Meaning) (o : Opening) (w n : ℕ) (s u : State) → Reaches m o s → IsReclaimed s w n u → Reaches m o u
@@ -71,15 +75,15 @@ task_known m b w u (Ok DrawnDrained) reaches known of same a h = tt
 task_known m b w u (Ok (DrawnClosed v)) reaches known of same a h = tt
 
 pub reclaimed_book : {E : Type 0} (m : Meaning) (o : Opened) (w n : ℕ) (p q : Parts) (r : Result (Unit {0}) E) → IsBook m o p → IfOk r (λ _. IsReclaimed (state_of p) w n (state_of q)) → OnErr r (q ≡ p) → Fit o.shelf q → HasRoom q → IsBook m o q
-reclaimed_book m o w n p q (Ok x) b a e f r = record { fit = f; room = r; reaches = reclaimed_reaches m (opening_of o) w n (state_of p) (state_of q) b.reaches a; budget = b.budget }
+reclaimed_book m o w n p q (Ok x) b a e f r = next_book m o p q b f r (reclaimed_reaches m (opening_of o) w n (state_of p) (state_of q) b.reaches a)
 reclaimed_book m o w n p q (Err x) b a e f r = same_book m o p q b (ap state_of e) f r
 
 pub committed_book : {E : Type 0} (m : Meaning) (o : Opened) (w : ℕ) (d : Done) (p q : Parts) (r : Result Receipt E) → IsBook m o p → IsRight m d → d.opening ≡ o → IfOk r (λ receipt. IsCommitted (opening_of o) (state_of p) w d receipt (state_of q)) → OnErr r ((state_of q ≡ state_of p) × (q.facts.front ≡ p.facts.front)) → Fit o.shelf q → HasRoom q → IsBook m o q
-committed_book m o w d p q (Ok x) b right of a e f r = record { fit = f; room = r; reaches = committed_reaches m o w d x (state_of p) (state_of q) b.reaches right of a; budget = b.budget }
+committed_book m o w d p q (Ok x) b right of a e f r = next_book m o p q b f r (committed_reaches m o w d x (state_of p) (state_of q) b.reaches right of a)
 committed_book m o w d p q (Err x) b right of a e f r = same_book m o p q b e.0 f r
 
 pub audited_book : {E : Type 0} (m : Meaning) (o : Opened) (missing : Missing) (p q : Parts) (r : Result Audited E) → IsBook m o p → MayAudit m (opening_of o) (state_of p) missing → IfOk r (λ a. Audits (opening_of o) missing.fact (state_of p) (audit_reply_of a) (state_of q)) → OnErr r ((state_of q ≡ state_of p) × (q.facts.front ≡ p.facts.front)) → Fit o.shelf q → HasRoom q → IsBook m o q
-audited_book m o missing p q (Ok x) b may a e f r = record { fit = f; room = r; reaches = audits_on missing may b.reaches a; budget = b.budget }
+audited_book m o missing p q (Ok x) b may a e f r = next_book m o p q b f r (audits_on missing may b.reaches a)
 audited_book m o missing p q (Err x) b may a e f r = same_book m o p q b e.0 f r
 
 -- the verdict of a close is that of its outcome

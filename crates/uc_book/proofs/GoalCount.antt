@@ -1,5 +1,7 @@
 -- There are always as many goals as the problem has.
-use Rattle.std.proofs.Common.{◌≡◌, ℕ, List, [], ◌∷◌, length, Bool, true, false, cond, refl, ap, sym, ◌∙◌, map, inl, inr, subst}
+use Rattle.std.proofs.Common.{◌≡◌, ℕ, List, [], ◌∷◌, ◌<◌, ◌^◌, length, Bool, true, false, cond, refl, ap, sym, ◌∙◌, map, inl, inr, arith, subst}
+use Rattle.std.specs.Prelude.{Result, Ok, Err, IfOk, Vec}
+use Rattle.std.specs.declared.alloc.Global.{Global}
 use Rattle.std.proofs.lemmas.Bool.{cases_Bool}
 use Rattle.std.proofs.lemmas.List.{length-map}
 use Rattle.uc_term.specs.declared.equation.Equation.{Equation}
@@ -12,6 +14,7 @@ use Rattle.uc_shelf.specs.Entries.{is_dead}
 use Rattle.uc_machine.specs.declared.event.GoalEnd.{GoalEnd}
 use Rattle.uc_machine.specs.declared.event.Happening.{Happening}
 use Rattle.uc_machine.specs.declared.event.Verdict.{Verdict}
+use Rattle.uc_machine.specs.declared.state.Stage.{Stage}
 use Rattle.uc_machine.specs.declared.task.Finding.{Finding}
 use Rattle.uc_machine.specs.declared.task.Outcome.{Outcome}
 use Rattle.uc_machine.specs.declared.task.Job.{Job}
@@ -102,3 +105,8 @@ as_many_goals m o _ (reclaims_on {s = s} t at a) = put_back t s ∙ as_many_goal
 as_many_goals m o _ (recalls_on {s = s} a) = all_put_back s.out s ∙ as_many_goals m o s a
 as_many_goals m o u (audits_on {s = s} {answer = r} x may a b) = audits_keep o x.fact s r u b ∙ as_many_goals m o s a
 as_many_goals m o u (closes_on {s = s} {outcome = outcome} {v = v} d f a c) = closes_keep s outcome v u c ∙ as_many_goals m o s a
+
+-- as many stages as goals
+pub few_stages : {E : Type 0} (r : Result (Vec Stage Global) E) (gs : List Target) → IfOk r (λ (v : Vec Stage Global). v.items ≡ map (λ (g : Target). g.stage) gs) → length gs < 2 ^ 31 → IfOk r (λ (v : Vec Stage Global). length v.items < 2 ^ 31)
+few_stages (Ok v) gs e l = (let n : length v.items ≡ length gs = ap length e ∙ length-map gs (λ (g : Target). g.stage) in omega arith)
+few_stages (Err x) gs e l = tt

@@ -58,12 +58,14 @@ pub record HasRoom (p : Parts) : Type 0 where
   pub waiting : count_by (λ (t : TaskRow). is_join t.job) p.tasks.items ≤ p.pairs.spare
 
 -- the parts of a book that stands on this shelf and has this opening: they fit together, have room, and a run leads to their
--- state
+-- state; the numbers of axioms and goals are in their types
 pub record IsBook (m : Meaning) (o : Opened) (p : Parts) : Type 0 where
   pub fit : Fit o.shelf p
   pub room : HasRoom p
   pub reaches : Reaches m (opening_of o) (state_of p)
   pub budget : o.budget ≤ 10000000
+  pub few_axioms : length o.problem.axioms < 2 ^ 31
+  pub few_goals : length o.problem.goals < 2 ^ 31
 
 -- facts, pairs and goals are as they were
 pub record SameSubjects (p q : Parts) : Type 0 where

@@ -19,7 +19,7 @@ use crate::token::{Done, Pass};
 use std::alloc::{AllocError, Global};
 use std::marker::Model;
 use std::sync::Wait;
-use uc_fact::Chain;
+use uc_fact::{Chain, Equation};
 use uc_machine::{Event, Missing, Outcome, Stage, Verdict};
 use uc_order::Order;
 use uc_problem::Encoded;
@@ -66,7 +66,8 @@ impl<'a, O: Order> Model for Book<'a, O> {
 
 impl<'a, O: Order> Book<'a, O> {
     /// A book in which each axiom is a pair that waits and each goal is to be normalised. Where there are more axioms than the
-    /// limit on pairs, it is closed at once.
+    /// limit on pairs, it is closed at once. Axioms and goals have numbers below 2^31; a problem with more of either is refused
+    /// as one for which there is no memory.
     pub fn start(
         alloc: Global,
         problem: &'a Encoded,
@@ -77,8 +78,6 @@ impl<'a, O: Order> Book<'a, O> {
     ) -> Result<Book<'a, O>, AllocError>
         requires budget { budget ≤ MAX_BUDGET }
         requires pairs { pairs ≤ MAX_LIMIT }
-        requires axioms { length problem.now.axioms < 2 ^ 31 }
-        requires goals { length problem.now.goals < 2 ^ 31 }
         ensures opening { IfOk result (λ b. b.opening ≡ record { problem = problem.entry.now; shelf = shelf.entry.now; budget = budget; limit = pairs }) }
         ensures order { IfOk result (λ b. b.order ≡ order.entry.now) }
         ensures starts { IfOk result (λ b. Starts (opening_of b.opening) b.state) }
@@ -118,6 +117,7 @@ impl<'a, O: Order> Book<'a, O> {
         ensures drawn { IfOk result (λ d. Draws (opening_of self.old.opening) pass.old.worker self.old.state (reply_of pass.old.worker d) self.new.state) }
         ensures task { IfOk result (λ d. IfTask d (IsTaskOf (O.meaning self.old.order) self.old)) }
         ensures book { IsSameBook self.old self.new }
+        ensures front { self.new.front ≡ self.old.front }
         ensures pass { pass.new ≡ pass.old }
         ensures err { OnErr result (self.new ≡ self.old) }
     {
@@ -162,6 +162,7 @@ impl<'a, O: Order> Book<'a, O> {
         requires opening { pass.old.opening ≡ self.old.opening }
         ensures reclaimed { IfOk result (λ _. IsReclaimed self.old.state pass.old.worker ticket self.new.state) }
         ensures book { IsSameBook self.old self.new }
+        ensures front { self.new.front ≡ self.old.front }
         ensures pass { pass.new ≡ pass.old }
         ensures refused { IfErr result (IsNotOutTo self.old.state pass.old.worker ticket) }
         ensures err { OnErr result (self.new ≡ self.old) }
@@ -175,6 +176,7 @@ impl<'a, O: Order> Book<'a, O> {
         ensures state { self.new.state ≡ recalls self.old.state }
         ensures none { self.new.state.out ≡ [] }
         ensures book { IsSameBook self.old self.new }
+        ensures front { self.new.front ≡ self.old.front }
     {
         'tasks: while self.has_task_out() {
             self.put_first_back();
@@ -206,6 +208,7 @@ impl<'a, O: Order> Book<'a, O> {
         requires end { IsAnEnd outcome.now }
         ensures closed { Closes self.old.state outcome.now result self.new.state }
         ensures book { IsSameBook self.old self.new }
+        ensures front { self.new.front ≡ self.old.front }
     {
         let verdict = verdict_of(outcome);
         self.parts.close(0, verdict);
@@ -243,9 +246,18 @@ impl<'a, O: Order> Book<'a, O> {
         self.parts.facts.front()
     }
 
+    /// The axioms of the problem.
+    pub fn axioms(&self) -> &[Equation]
+        ensures axioms { result.now ≡ self.now.opening.problem.axioms }
+        ensures few { length result.now < 2 ^ 31 }
+    {
+        self.problem.axioms.as_slice()
+    }
+
     /// What is to be done for each goal, by number.
     pub fn stages(&self, alloc: Global) -> Result<Vec<Stage>, AllocError>
-        ensures { IfOk result (λ v. v.items ≡ map (λ (g : Target). g.stage) self.now.state.goals) }
+        ensures stages { IfOk result (λ v. v.items ≡ map (λ (g : Target). g.stage) self.now.state.goals) }
+        ensures few { IfOk result (λ v. length v.items < 2 ^ 31) }
     {
         self.parts.goals.stages(alloc)
     }
@@ -288,6 +300,7 @@ impl<'a, O: Order> Book<'a, O> {
         ensures state { recalls self.new.state ≡ recalls self.old.state }
         ensures fewer { length self.new.state.out + 1 ≡ length self.old.state.out }
         ensures book { IsSameBook self.old self.new }
+        ensures front { self.new.front ≡ self.old.front }
     {
         self.parts.put_back(0);
     }

@@ -22,3 +22,12 @@ commit-requires g c =
       of = subst (λ (x : Opened). IsOf x.shelf d.front) (sym is) of;
       found = result_for (g.O.Order.meaning b.order.now) d.opening.problem.axioms d.front.entries d.job d.found right;
     }
+
+pub invariant_of-self : goal.invariant_of-self
+invariant_of-self g c =
+    let b = c.self.inside in
+    let o : Opened = record { problem = b.problem.now; shelf = b.shelf.now; budget = b.budget; limit = b.limit } in
+    let is = rw (← c.self.view_is) at c.opening-opening.ensures in
+    let of = rw (← c.self.view_is) at c.requires.opening in
+    let right = rw (← c.self.view_is) at c.requires.right in
+    committed_book (g.O.Order.meaning b.order.now) o c.worker.result c.args.done b.parts c.commit.new.self c.commit.result c.self.invariant right of (rw is at c.commit.ensures.committed) c.commit.ensures.err (rw is at c.commit.ensures.fit) c.commit.ensures.room

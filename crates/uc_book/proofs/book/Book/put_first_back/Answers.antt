@@ -8,6 +8,7 @@ use Rattle.uc_rows.proofs.PutBack.{some_first, recall_stands}
 use Rattle.uc_book.proofs.Sound.{book_can_end}
 use Rattle.uc_book.proofs.Standing.{can_return, returned_fit}
 use Rattle.uc_book.proofs.Fitting.{room_ended}
+use Rattle.uc_book.proofs.Booked.{next_book}
 use Rattle.uc_rows.proofs.Items.{length-remove}
 use Rattle.uc_book.proofs.book.Book.put_first_back.Goals as goal
 
@@ -29,12 +30,12 @@ invariant_of-self g c =
     let l = rw (← c.self.view_is) at c.requires in
     let f = some_first p.tasks.items (omega (arith, l, length-map p.tasks.items out_of)) in
     let state = c.put_back.ensures.state f.0 f.1 in
-    record {
-      fit = returned_fit b.shelf.now p q 0 f.0 c.self.invariant.fit f.1 state c.put_back.ensures.rest c.put_back.ensures.front;
-      room = room_ended p q 0 f.0 c.self.invariant.room f.1 c.put_back.ensures.rest (c.put_back.ensures.spare f.0 f.1);
-      reaches = subst (Reaches (g.O.Order.meaning b.order.now) (opening_of (record { problem = b.problem.now; shelf = b.shelf.now; budget = b.budget; limit = b.limit }))) (sym state) (reclaims_on f.0 f.1.found c.self.invariant.reaches);
-      budget = c.self.invariant.budget;
-    }
+    let m = g.O.Order.meaning b.order.now in
+    let o : Opened = record { problem = b.problem.now; shelf = b.shelf.now; budget = b.budget; limit = b.limit } in
+    next_book m o p q c.self.invariant
+    (returned_fit b.shelf.now p q 0 f.0 c.self.invariant.fit f.1 state c.put_back.ensures.rest c.put_back.ensures.front)
+    (room_ended p q 0 f.0 c.self.invariant.room f.1 c.put_back.ensures.rest (c.put_back.ensures.spare f.0 f.1))
+    (subst (Reaches m (opening_of o)) (sym state) (reclaims_on f.0 f.1.found c.self.invariant.reaches))
 
 pub returns-clause-state : goal.returns-clause-state
 returns-clause-state g c =

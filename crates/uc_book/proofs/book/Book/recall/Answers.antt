@@ -5,7 +5,7 @@ use Rattle.uc_book.proofs.Booked.{none_left}
 use Rattle.uc_book.proofs.book.Book.recall.Goals as goal
 
 pub tasks-init : goal.tasks-init
-tasks-init g c = record { state = refl; book = record { opening = refl; order = refl; enrolled = refl } }
+tasks-init g c = record { state = refl; book = record { opening = refl; order = refl; enrolled = refl }; front = refl }
 
 pub tasks-preserved : goal.tasks-preserved
 tasks-preserved g c = record {
@@ -15,6 +15,7 @@ tasks-preserved g c = record {
     order = c.put_first_back.ensures.book.order ∙ c.tasks.invariant.book.order;
     enrolled = c.put_first_back.ensures.book.enrolled ∙ c.tasks.invariant.book.enrolled;
   };
+  front = c.put_first_back.ensures.front ∙ c.tasks.invariant.front;
 }
 
 pub tasks-smaller : goal.tasks-smaller
@@ -30,4 +31,5 @@ returns g c =
       state = sym (recall_none c.tasks.self.state none) ∙ c.tasks.invariant.state;
       none = none;
       book = c.tasks.invariant.book;
+      front = c.tasks.invariant.front;
     }

@@ -7,6 +7,7 @@ abbrev pub invariant-tasks : goal.invariant-tasks
 invariant-tasks g l = record {
   state : recalls l.self.state ≡ recalls l.initial.self.state;
   book : IsSameBook l.initial.self l.self;
+  front : l.self.front ≡ l.initial.self.front;
 }
 
 abbrev pub decreases-tasks : goal.decreases-tasks

@@ -8,6 +8,8 @@ invariant_of-result g c = record {
   room = c.in_ok-parts.ensures.room;
   reaches = starts (c.in_ok-parts.ensures.starts c.args.budget);
   budget = omega arith;
+  few_axioms = c.in_ok-parts.ensures.axioms;
+  few_goals = c.in_ok-parts.ensures.goals;
 }
 
 pub returns-clause-starts : goal.returns-clause-starts
