@@ -24,7 +24,7 @@ use Rattle.uc_book.specs.declared.parts.Parts.{Parts}
 use Rattle.uc_rows.specs.declared.tasks.TaskRow.{TaskRow}
 use Rattle.uc_rows.specs.TaskRows.{is_join, unit_if_join, StandsAt}
 use Rattle.uc_rows.specs.RowViews.{PairsView}
-use Rattle.uc_book.specs.Parts.{state_of, closings, Fit, HasRoom, IsSubjectOut}
+use Rattle.uc_book.specs.Parts.{state_of, closings, Fit, HasRoom, IsSubjectOut, IsSteady}
 use Rattle.uc_book.specs.Ending.{CanEnd, HasEnded}
 use Rattle.uc_rows.specs.Rising.{AreRising, AreBelow}
 use Rattle.uc_rows.specs.Deaths.{alive_of, all_dead, visited, deaths_by}
@@ -33,7 +33,6 @@ use Rattle.uc_rows.proofs.Items.{length-remove}
 use Rattle.uc_book.proofs.Fitting.{joins, fit_ended}
 use Rattle.uc_rows.proofs.PutBack.{joins_left}
 use Rattle.uc_book.proofs.Standing.{accepted_fit}
-use Rattle.uc_book.proofs.Steady.{IsSteady}
 use Rattle.uc_book.proofs.Taking.{reserved_state}
 use Rattle.uc_book.proofs.RisingNumbers.{filter_rises, filter_below, below_more}
 use Rattle.uc_book.proofs.NewPairs.{waiting_more, deaths_more}
