@@ -54,7 +54,7 @@ pub last_of_both : (t : Tree) (xs ys : List Step) → last_term t (xs ++ ys) ≡
 last_of_both t [] ys = refl
 last_of_both t (x ∷ xs) ys = last_of_both x.to xs ys
 
-end_followed : (c d : Chain) (l : Tree) → end_of c ≡ l → end_of (followed_by c d) ≡ last_term l d.steps
+pub end_followed : (c d : Chain) (l : Tree) → end_of c ≡ l → end_of (followed_by c d) ≡ last_term l d.steps
 end_followed c d l e = last_of_both c.start c.steps d.steps ∙ ap (λ z. last_term z d.steps) e
 
 -- the ends of a task's goal are the goal's present ends
@@ -81,7 +81,7 @@ job_ends_stage c gs k (More g l r) a = has_ends_stage c gs k g l r a
 job_ends_stage c gs k (Meet i) a = tt
 job_ends_stage c gs k (Join p o) a = tt
 
-get_woken : (gs : List Target) (g : ℕ) (y : Target) → slice_get (map wakes gs) g ≡ Some y → (x : Target) × (slice_get gs g ≡ Some x) × (y ≡ wakes x)
+pub get_woken : (gs : List Target) (g : ℕ) (y : Target) → slice_get (map wakes gs) g ≡ Some y → (x : Target) × (slice_get gs g ≡ Some x) × (y ≡ wakes x)
 get_woken [] g y e = absurd (cc)
 get_woken (x ∷ gs) zero y e = (x, refl, (cc))
 get_woken (x ∷ gs) (suc g) y e = get_woken gs g y e

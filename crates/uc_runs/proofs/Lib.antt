@@ -9,3 +9,10 @@ pub mod Whole
 pub mod OneResult
 pub mod Continuing
 pub mod Origins
+pub mod OverTerms
+pub mod OverUnifiers
+pub mod OverFound
+pub mod OverRuns
+pub mod OpenGoals
+pub mod Saturating
+pub mod GoalsApart

@@ -1,8 +1,13 @@
 //! What every run of the machine keeps, each the contract of a function that does nothing.
 
-ghost use Rattle.std.specs.Prelude.{◌≡◌, List};
+ghost use Rattle.std.specs.Prelude.{◌≡◌, List, Some};
 ghost use Rattle.uc_term.specs.declared.equation.Equation.{Equation as AnyEquation};
+ghost use Rattle.uc_order.specs.Laws.{HasSym};
+ghost use Rattle.uc_fact.specs.Ground.{AreOfSignature};
+ghost use Rattle.uc_fact.specs.Live.{equations_of};
 ghost use Rattle.uc_shelf.specs.declared.entry.Entry.{Entry as AnyEntry};
+ghost use Rattle.uc_shelf.specs.Entries.{live};
+ghost use Rattle.uc_machine.specs.declared.event.Verdict.TheVariants.{Saturated};
 ghost use Rattle.uc_machine.specs.declared.task.Finding.{Finding as AnyFinding};
 ghost use Rattle.uc_machine.specs.declared.task.Job.{Job as AnyJob};
 ghost use Rattle.uc_machine.specs.declared.task.Outcome.{Outcome as AnyOutcome};
@@ -12,6 +17,9 @@ ghost use Rattle.uc_machine.specs.Finals.{IsFinal};
 ghost use Rattle.uc_machine.specs.Runs.{Reaches};
 ghost use Rattle.uc_machine.specs.Promises.{FrontsAreEarlier, GoalsAtRest, ChainsReplay, MeetingsAreWhole, MoresGoOn};
 ghost use Rattle.uc_machine.specs.Origins.{OriginsAreKnown};
+ghost use Rattle.uc_decide.specs.Deciding.{AreAllApart};
+ghost use Rattle.uc_runs.specs.Signatures.{OpensOver, IsOver, AreGroundEquations, EndsAreGround};
+ghost use Rattle.uc_runs.specs.Saturated.{IsSaturated};
 
 use uc_order::Order;
 
@@ -59,4 +67,31 @@ pub fn one_result<O: Order>(order: &O)
 /// What the final pass answers is a function of the axioms, the book's state and the order.
 pub fn one_final<O: Order>(order: &O)
     ensures { (axioms : List AnyEquation) (s : State) (a b : AnyOutcome) → IsFinal (O.meaning order.now) axioms s a → IsFinal (O.meaning order.now) axioms s b → a ≡ b }
+{}
+
+/// The facts and the chains of every run are over the order's signature, where the axioms and the goals are.
+pub fn stays_over_signature<O: Order>(order: &O)
+    ensures { (o : Opening) (s : State) → OpensOver (O.meaning order.now) o → Reaches (O.meaning order.now) o s → IsOver (O.meaning order.now) s }
+{}
+
+/// So are the facts that live.
+pub fn live_over_signature<O: Order>(order: &O)
+    ensures { (o : Opening) (s : State) → OpensOver (O.meaning order.now) o → Reaches (O.meaning order.now) o s → AreOfSignature (HasSym (O.meaning order.now)) (O.meaning order.now).arity (equations_of (live s.entries)) }
+{}
+
+/// The present ends of the goals are ground, over the order's signature, where the goals are.
+pub fn ends_stay_ground<O: Order>(order: &O)
+    ensures { (o : Opening) (s : State) → OpensOver (O.meaning order.now) o → AreGroundEquations (O.meaning order.now) o.goals → Reaches (O.meaning order.now) o s → EndsAreGround (O.meaning order.now) s }
+{}
+
+/// A run whose verdict is `Saturated` was closed over a drained state, where the final pass answers `Convergent` and each goal is
+/// `Settled`, with two different ends from which no ordered step by the facts that live leads on; since then nothing came.
+pub fn saturated_by_final_pass<O: Order>(order: &O)
+    ensures { (o : Opening) (s : State) → Reaches (O.meaning order.now) o s → s.verdict ≡ Some Saturated → IsSaturated (O.meaning order.now) o s }
+{}
+
+/// There the axioms make the two sides of each goal equal to two different ground terms, from which no ordered step by the facts
+/// that live leads on, where the goals are ground.
+pub fn goals_are_apart<O: Order>(order: &O)
+    ensures { (o : Opening) (s : State) → OpensOver (O.meaning order.now) o → AreGroundEquations (O.meaning order.now) o.goals → Reaches (O.meaning order.now) o s → s.verdict ≡ Some Saturated → AreAllApart (O.meaning order.now) (equations_of (live s.entries)) o.axioms o.goals }
 {}

@@ -5,6 +5,7 @@
 mod laws;
 
 pub use laws::{
-    chains_replay, fronts_are_earlier, goals_at_rest, meetings_are_whole, mores_go_on, one_final,
-    one_result, origins_known,
+    chains_replay, ends_stay_ground, fronts_are_earlier, goals_are_apart, goals_at_rest,
+    live_over_signature, meetings_are_whole, mores_go_on, one_final, one_result, origins_known,
+    saturated_by_final_pass, stays_over_signature,
 };

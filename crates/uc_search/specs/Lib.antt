@@ -2,4 +2,3 @@ pub mod Working
 pub mod Searching
 pub mod Causes
 pub mod Bounds
-pub mod Signatures

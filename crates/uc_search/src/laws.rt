@@ -7,7 +7,6 @@ ghost use Rattle.uc_machine.specs.Runs.{Reaches};
 ghost use Rattle.uc_search.specs.Searching.{IsSearched};
 ghost use Rattle.uc_search.specs.Causes.{HasCauseIfStopped};
 ghost use Rattle.uc_search.specs.Bounds.{rounds_in, IsBounded};
-ghost use Rattle.uc_search.specs.Signatures.{OpensOver, IsOver};
 
 use uc_order::Order;
 
@@ -21,11 +20,6 @@ pub fn search_is_a_run<O: Order>(order: &O)
 /// With one opening, one order and one worker there is one search: one verdict, and one state with one history.
 pub fn one_search<O: Order>(order: &O)
     ensures { (o : Opening) (w : ℕ) (a b : AnyVerdict) (s t : State) → IsSearched (O.meaning order.now) o w a s → IsSearched (O.meaning order.now) o w b t → (a ≡ b) × (s ≡ t) }
-{}
-
-/// The facts and the chains of every run are over the order's signature, where the axioms and the goals are.
-pub fn stays_over_signature<O: Order>(order: &O)
-    ensures { (o : Opening) (s : State) → OpensOver (O.meaning order.now) o → Reaches (O.meaning order.now) o s → IsOver (O.meaning order.now) s }
 {}
 
 /// A search that ends at a limit has its cause.

@@ -10,8 +10,6 @@ mod working;
 
 pub use computing::compute;
 pub use facts::{all_facts, live_system};
-pub use laws::{
-    limits_have_causes, one_search, search_is_a_run, searches_are_bounded, stays_over_signature,
-};
+pub use laws::{limits_have_causes, one_search, search_is_a_run, searches_are_bounded};
 pub use rounds::search_alone;
 pub use working::{Ended, work_alone};

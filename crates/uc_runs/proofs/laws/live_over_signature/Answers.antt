@@ -1,0 +1,5 @@
+use Rattle.uc_runs.proofs.OverRuns.{facts_stay_over}
+use Rattle.uc_runs.proofs.laws.live_over_signature.Goals as goal
+
+pub returns : goal.returns
+returns g c = λ o s over r. facts_stay_over (g.O.Order.meaning c.args.order.now) (g.met.O.Order.laws c.args.order.now) o over s r
