@@ -1,0 +1,123 @@
+//! The calls of one worker, each made on the book and on the machine, whose answers are compared.
+
+ghost use Rattle.std.specs.Prelude.{◌≡◌, OnOk, IfOk, IsTrue};
+ghost use Rattle.uc_machine.specs.Runs.{IsDrained};
+ghost use Rattle.uc_book.specs.Answers.{IsSameBook};
+ghost use Rattle.trial_book.specs.Hands.{IsHandOf};
+
+use crate::images::{found_of, is_drawn, lines_of, work_of};
+use crate::machine::Machine;
+use crate::trouble::{Trouble, check};
+use std::alloc::Global;
+use std::sync::Wait;
+use uc_book::{Book, CommitFault, Drawn, Pass, Receipt, Task};
+use uc_order::Order;
+use uc_problem::Encoded;
+use uc_search::compute;
+use uc_shelf::Shelf;
+
+/// A worker: its pass, and the task that it drew last, which may have been put back meanwhile.
+#[derive(Drop)]
+pub struct Hand {
+    pub pass: Pass,
+    pub task: Option<Task>,
+}
+
+/// The worker draws. True where the answer is that the book is drained.
+pub fn draw<O: Order>(
+    alloc: Global,
+    book: &mut Book<O>,
+    shelf: &Shelf,
+    machine: &mut Machine,
+    hand: &mut Hand,
+) -> Result<bool, Trouble>
+    requires hand { IsHandOf (O.meaning book.old.order) book.old hand.old }
+    requires shelf { book.old.opening.shelf ≡ shelf.now }
+    ensures drained { IfOk result (λ is_drained. IsTrue is_drained → IsDrained book.new.state) }
+    ensures book { OnOk result (IsSameBook book.old book.new) }
+    ensures hand { OnOk result (IsHandOf (O.meaning book.new.order) book.new hand.new) }
+{
+    let drawn = book.draw(alloc, &mut hand.pass)?;
+    let answer = machine.draw(hand.pass.worker())?;
+    check(is_drawn(shelf, machine, &answer, &drawn), "a draw")?;
+    match drawn {
+        Drawn::Task(task) => {
+            hand.task = Some(task);
+            Ok(false)
+        }
+        Drawn::Drained => Ok(true),
+        Drawn::Idle(_) | Drawn::Closed(_) => Ok(false),
+    }
+}
+
+/// The worker commits the result of the task that it drew last, whether it is out or not.
+pub fn commit<R: Wait, O: Order>(
+    rt: &R,
+    alloc: Global,
+    book: &mut Book<O>,
+    shelf: &Shelf,
+    problem: &Encoded,
+    order: &O,
+    machine: &mut Machine,
+    hand: &mut Hand,
+) -> Result<(), Trouble>
+    requires hand { IsHandOf (O.meaning book.old.order) book.old hand.old }
+    requires problem { book.old.opening.problem ≡ problem.now }
+    requires shelf { book.old.opening.shelf ≡ shelf.now }
+    requires order { book.old.order ≡ order.now }
+    ensures book { OnOk result (IsSameBook book.old book.new) }
+    ensures hand { OnOk result (IsHandOf (O.meaning book.new.order) book.new hand.new) }
+{
+    let Some(task) = hand.task.take() else {
+        return Ok(());
+    };
+    let done = compute(alloc, &task, shelf, problem, order)?;
+    let (ticket, work) = (done.ticket, work_of(&done.job));
+    let lines = lines_of(alloc, shelf, &done.front)?;
+    let found = found_of(alloc, &done.found)?;
+    let worker = hand.pass.worker();
+    let event = machine.commit(alloc, worker, ticket, work, &lines, &found)?;
+    match book.commit(rt, alloc, &mut hand.pass, done) {
+        Ok(receipt) => is_event(&receipt, event),
+        Err((_, CommitFault::NotOut(other))) => {
+            check(event.is_none() && other == ticket, "a result refused")
+        }
+        Err((_, CommitFault::NoMemory)) => Err(Trouble::NoMemory),
+    }
+}
+
+// Whether the receipt is for the event of this number.
+fn is_event(receipt: &Receipt, event: Option<usize>) -> Result<(), Trouble> {
+    match event {
+        Some(number) => check(receipt.event == number as u64, "a receipt"),
+        None => check(false, "a result taken"),
+    }
+}
+
+/// The worker puts the task back that it drew last, whether it is out or not, and keeps it in hand.
+pub fn put_back<O: Order>(
+    book: &mut Book<O>,
+    machine: &mut Machine,
+    hand: &mut Hand,
+) -> Result<(), Trouble>
+    requires hand { IsHandOf (O.meaning book.old.order) book.old hand.old }
+    ensures book { OnOk result (IsSameBook book.old book.new) }
+    ensures hand { OnOk result (IsHandOf (O.meaning book.new.order) book.new hand.new) }
+{
+    let Some(ticket) = ticket_of(&hand.task) else {
+        return Ok(());
+    };
+    let is_out = machine.reclaim(hand.pass.worker(), ticket)?;
+    match book.reclaim(&mut hand.pass, ticket) {
+        Ok(()) => check(is_out, "a task put back"),
+        Err(CommitFault::NotOut(other)) => check(!is_out && other == ticket, "a ticket refused"),
+        Err(CommitFault::NoMemory) => check(false, "a task put back"),
+    }
+}
+
+fn ticket_of(task: &Option<Task>) -> Option<u64> {
+    match task {
+        Some(task) => Some(task.ticket),
+        None => None,
+    }
+}

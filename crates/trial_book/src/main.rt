@@ -1,0 +1,40 @@
+//! Runs a book beside the machine as a plain slow program: forty word problems by chance, two hundred calls of three workers
+//! on each, and after each call the two are compared in all that the book tells. Prints each difference, and how many runs
+//! there were.
+#![tactic(auto)]
+
+mod agreeing;
+mod hand;
+mod images;
+mod machine;
+mod order;
+mod problems;
+mod rest;
+mod runs;
+mod taking;
+mod trouble;
+
+use order::default_order;
+use runs::run;
+use std::io;
+use std::io::Print;
+use std::sync::Wait;
+
+const RUNS: u32 = 40;
+
+const CALLS: u32 = 200;
+
+fn main(rt: HostRuntime) -> io::Result<()> {
+    let alloc = rt.alloc();
+    let Some(order) = default_order(alloc) else {
+        return println!(rt; "no memory");
+    };
+    let mut events: usize = 0;
+    for seed in 1..=RUNS {
+        match run(&rt, alloc, &order, seed, CALLS) {
+            Ok(more) => events = events.saturating_add(more),
+            Err(trouble) => println!(rt; "seed {seed}: {trouble:?}")?,
+        }
+    }
+    println!(rt; "{RUNS} runs, {events} events")
+}

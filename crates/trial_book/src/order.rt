@@ -1,0 +1,50 @@
+//! The Knuth-Bendix order of a constant and two letters, in which all weighs 1.
+
+ghost use Rattle.std.specs.Prelude.{IsTrue};
+ghost use Rattle.uc_term.specs.Table.{Has};
+ghost use Rattle.uc_order.specs.Members.{Each};
+ghost use Rattle.uc_kbo.specs.Faults.{HasConstant};
+
+use std::alloc::Global;
+use uc_kbo::Kbo;
+use uc_term::{Sym, Symbols};
+
+const PRECEDENCE: [Sym; 3] = [Sym(0), Sym(1), Sym(2)];
+
+// Whether the table has all symbols of the list.
+fn are_known(symbols: &Symbols, list: &[Sym]) -> bool
+    ensures { IsTrue result → Each (Has symbols.now) list.now }
+{
+    for f in list {
+        if f.0 as usize >= symbols.len() {
+            return false;
+        }
+    }
+    true
+}
+
+// Whether one of the symbols is a constant.
+fn has_constant(symbols: &Symbols, list: &[Sym]) -> bool
+    requires { Each (Has symbols.now) list.now }
+    ensures { IsTrue result → HasConstant symbols.now list.now }
+{
+    for f in list {
+        if symbols.arity(*f) == 0 {
+            return true;
+        }
+    }
+    false
+}
+
+/// The order, if there is memory.
+pub fn default_order(alloc: Global) -> Option<Kbo> {
+    let mut symbols = Symbols::new(alloc);
+    symbols.intern(alloc, b"a", 0).ok()?;
+    symbols.intern(alloc, b"g", 1).ok()?;
+    symbols.intern(alloc, b"i", 1).ok()?;
+    let signature = PRECEDENCE;
+    if !are_known(&symbols, &signature) || !has_constant(&symbols, &signature) {
+        return None;
+    }
+    Kbo::new(alloc, &signature, &symbols, 1, &[1, 1, 1], &signature).ok()
+}

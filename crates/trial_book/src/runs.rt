@@ -1,0 +1,174 @@
+//! Runs of a book beside the machine: calls of three workers by chance, with the results of their tasks, and after each call
+//! the two are compared.
+
+ghost use Rattle.std.specs.Prelude.{◌≡◌, [], OnOk, IfOk};
+ghost use Rattle.uc_book.specs.Answers.{IsSameBook};
+ghost use Rattle.trial_book.specs.Hands.{IsHandOf};
+ghost use Rattle.trial_book.specs.Teams.{IsTeamOf, IsSameOpening};
+
+use crate::agreeing::agree;
+use crate::hand::{Hand, commit, draw, put_back};
+use crate::machine::{Machine, start};
+use crate::problems::{Generator, marks, weights};
+use crate::rest::end_round;
+use crate::trouble::Trouble;
+use std::alloc::Global;
+use std::sync::Wait;
+use uc_book::Book;
+use uc_order::Order;
+use uc_problem::Encoded;
+use uc_shelf::Shelf;
+
+/// The workers of a run.
+#[derive(Drop)]
+struct Team {
+    one: Hand,
+    other: Hand,
+    last: Hand,
+}
+
+/// A run of so many calls over a problem by chance. The answer is how many events there are.
+pub fn run<R: Wait, O: Order>(
+    rt: &R,
+    alloc: Global,
+    order: &O,
+    seed: u32,
+    calls: u32,
+) -> Result<usize, Trouble> {
+    let mut chance = Generator::from(seed);
+    let problem = chance.problem(alloc)?;
+    let (budget, limit) = (chance.often_large(), chance.often_large());
+    let shelf = Shelf::new(alloc)?;
+    let weights = weights(alloc, problem.axioms.as_slice())?;
+    let marks = marks(alloc, problem.goals.as_slice())?;
+    let mut machine = start(alloc, &weights, &marks, budget, limit)?;
+    let mut book = Book::start(alloc, &problem, order, &shelf, budget, limit)?;
+    let mut team = enrolled(alloc, &mut book)?;
+    for _ in 0..calls {
+        call(
+            rt,
+            alloc,
+            &mut book,
+            &shelf,
+            &problem,
+            order,
+            &mut machine,
+            &mut team,
+            &mut chance,
+        )?;
+        agree(alloc, &book, &shelf, &problem, &machine)?;
+    }
+    Ok(machine.history.len())
+}
+
+// Three workers, with nothing in their hands.
+fn enrolled<O: Order>(alloc: Global, book: &mut Book<O>) -> Result<Team, Trouble>
+    requires none { book.old.enrolled ≡ [] }
+    ensures book { OnOk result (IsSameOpening book.old book.new) }
+    ensures team { IfOk result (IsTeamOf (O.meaning book.new.order) book.new) }
+{
+    Ok(Team {
+        one: Hand {
+            pass: book.enroll(alloc, 0)?,
+            task: None,
+        },
+        other: Hand {
+            pass: book.enroll(alloc, 1)?,
+            task: None,
+        },
+        last: Hand {
+            pass: book.enroll(alloc, 64)?,
+            task: None,
+        },
+    })
+}
+
+// A call of one of the workers.
+fn call<R: Wait, O: Order>(
+    rt: &R,
+    alloc: Global,
+    book: &mut Book<O>,
+    shelf: &Shelf,
+    problem: &Encoded,
+    order: &O,
+    machine: &mut Machine,
+    team: &mut Team,
+    chance: &mut Generator,
+) -> Result<(), Trouble>
+    requires team { IsTeamOf (O.meaning book.old.order) book.old team.old }
+    requires problem { book.old.opening.problem ≡ problem.now }
+    requires shelf { book.old.opening.shelf ≡ shelf.now }
+    requires order { book.old.order ≡ order.now }
+    ensures book { OnOk result (IsSameBook book.old book.new) }
+    ensures team { OnOk result (IsTeamOf (O.meaning book.new.order) book.new team.new) }
+{
+    let hand = match chance.below(3) {
+        0 => &mut team.one,
+        1 => &mut team.other,
+        _ => &mut team.last,
+    };
+    turn(
+        rt, alloc, book, shelf, problem, order, machine, hand, chance,
+    )
+}
+
+// A call of this worker.
+fn turn<R: Wait, O: Order>(
+    rt: &R,
+    alloc: Global,
+    book: &mut Book<O>,
+    shelf: &Shelf,
+    problem: &Encoded,
+    order: &O,
+    machine: &mut Machine,
+    hand: &mut Hand,
+    chance: &mut Generator,
+) -> Result<(), Trouble>
+    requires hand { IsHandOf (O.meaning book.old.order) book.old hand.old }
+    requires problem { book.old.opening.problem ≡ problem.now }
+    requires shelf { book.old.opening.shelf ≡ shelf.now }
+    requires order { book.old.order ≡ order.now }
+    ensures book { OnOk result (IsSameBook book.old book.new) }
+    ensures hand { OnOk result (IsHandOf (O.meaning book.new.order) book.new hand.new) }
+{
+    match chance.below(16) {
+        0..=6 => go_on(rt, alloc, book, shelf, problem, order, machine, hand),
+        7..=13 => commit(rt, alloc, book, shelf, problem, order, machine, hand),
+        14 => put_back(book, machine, hand),
+        _ => recall(book, machine),
+    }
+}
+
+// A draw, and where the book is drained what ends its round.
+fn go_on<R: Wait, O: Order>(
+    rt: &R,
+    alloc: Global,
+    book: &mut Book<O>,
+    shelf: &Shelf,
+    problem: &Encoded,
+    order: &O,
+    machine: &mut Machine,
+    hand: &mut Hand,
+) -> Result<(), Trouble>
+    requires hand { IsHandOf (O.meaning book.old.order) book.old hand.old }
+    requires problem { book.old.opening.problem ≡ problem.now }
+    requires shelf { book.old.opening.shelf ≡ shelf.now }
+    requires order { book.old.order ≡ order.now }
+    ensures book { OnOk result (IsSameBook book.old book.new) }
+    ensures hand { OnOk result (IsHandOf (O.meaning book.new.order) book.new hand.new) }
+{
+    if draw(alloc, book, shelf, machine, hand)? {
+        end_round(rt, alloc, book, shelf, problem, order, machine)
+    } else {
+        Ok(())
+    }
+}
+
+// All tasks are put back.
+fn recall<O: Order>(book: &mut Book<O>, machine: &mut Machine) -> Result<(), Trouble>
+    ensures book { OnOk result (IsSameBook book.old book.new) }
+{
+    book.recall();
+    machine.recall()?;
+    Ok(())
+}
