@@ -1,11 +1,13 @@
 -- How one worker computes tasks, and how it works alone.
 use Rattle.std.specs.Prelude.{◌≡◌, ℕ, length, take}
 use Rattle.uc_order.specs.Laws.{Meaning}
+use Rattle.uc_shelf.specs.Fronts.{IsOf}
 use Rattle.uc_machine.specs.declared.event.Verdict.{Verdict}
 use Rattle.uc_machine.specs.declared.task.Finding.{Finding}
 use Rattle.uc_machine.specs.State.{Opening, State, Out}
 use Rattle.uc_machine.specs.Events.{commits_by}
-use Rattle.uc_book.specs.Openings.{PassView}
+use Rattle.uc_machine.specs.Origins.{CanCompute}
+use Rattle.uc_book.specs.Openings.{Opened, PassView, opening_of}
 use Rattle.uc_book.specs.declared.token.Task.{Task}
 use Rattle.uc_book.specs.declared.token.Done.{Done}
 use Rattle.uc_machine.specs.Effects.{reclaims}
@@ -23,6 +25,12 @@ pub record IsDoneFor (t : Task) (d : Done) : Type 0 where
   pub job : d.job ≡ t.job
   pub front : d.front ≡ t.front
   pub opening : d.opening ≡ t.opening
+
+-- the task has this opening, its front is of that shelf, and what its job names is there
+pub record IsToCompute (m : Meaning) (o : Opened) (t : Task) : Type 0 where
+  pub opening : t.opening ≡ o
+  pub of : IsOf o.shelf t.front
+  pub can : CanCompute m (opening_of o) t.front.entries t.job
 
 -- the task, as it is out to this worker
 abbrev pub task_out : ℕ → Task → Out

@@ -4,6 +4,7 @@
 
 mod computing;
 mod facts;
+mod histories;
 mod laws;
 mod rounds;
 mod working;

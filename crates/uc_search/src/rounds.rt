@@ -1,14 +1,16 @@
 //! The rounds of a search.
 
-ghost use Rattle.std.specs.Prelude.{◌≡◌, ◌<◌, ◌^◌, [], length, Some, IfOk};
+ghost use Rattle.std.specs.Prelude.{◌≡◌, ◌<◌, ◌^◌, ℕ, [], length, Some, IfOk};
 ghost use Rattle.uc_book.specs.Openings.{opening_of};
 ghost use Rattle.uc_book.specs.Answers.{IsSameBook};
+ghost use Rattle.uc_machine.specs.Events.{commits_by};
 ghost use Rattle.uc_machine.specs.Finals.{IsFinal};
 ghost use Rattle.uc_machine.specs.Runs.{IsDrained};
 ghost use Rattle.uc_machine.specs.declared.task.Outcome.TheVariants.{Missing as Lacks};
 ghost use Rattle.uc_search.specs.Working.{CountsCommits, IsSamePass};
 ghost use Rattle.uc_search.specs.Searching.{AuditsAll, EndsRound, Rounds, Searches};
 
+use crate::histories::has_all_goals;
 use crate::working::{Ended, work_alone};
 use std::alloc::{AllocError, Global};
 use std::sync::Wait;
@@ -106,8 +108,10 @@ fn end_round<R: Wait, O: Order>(
     ensures ends { IfOk result (λ verdict. EndsRound (O.meaning book.old.order) (opening_of book.old.opening) book.old.state verdict book.new.state) }
     ensures verdict { IfOk result (λ verdict. book.new.state.verdict ≡ verdict) }
     ensures out { book.new.state.out ≡ book.old.state.out }
+    ensures commits { (w : ℕ) → commits_by w book.new.state.history ≡ commits_by w book.old.state.history }
     ensures book { IsSameBook book.old book.new }
 {
+    has_all_goals(book);
     let stages = book.stages(alloc)?;
     let axioms = problem.axioms.as_slice();
     let outcome = final_pass(alloc, shelf, book.front(), axioms, stages.as_slice(), order)?;
@@ -129,6 +133,7 @@ fn audit_all<R: Wait, O: Order>(
     ensures audited { IfOk result (λ verdict. AuditsAll (opening_of book.old.opening) all book.old.state verdict book.new.state) }
     ensures verdict { IfOk result (λ verdict. book.new.state.verdict ≡ verdict) }
     ensures out { book.new.state.out ≡ book.old.state.out }
+    ensures commits { (w : ℕ) → commits_by w book.new.state.history ≡ commits_by w book.old.state.history }
     ensures book { IsSameBook book.old book.new }
 {
     for missing in all.into_vec() {

@@ -2,12 +2,13 @@
 
 ghost use Rattle.std.specs.Prelude.{◌≡◌, [], ◌∷◌, OnOk, OnErr};
 ghost use Rattle.uc_book.specs.Openings.{opening_of};
-ghost use Rattle.uc_book.specs.Answers.{IsSameBook, IsTaskOf};
+ghost use Rattle.uc_book.specs.Answers.{IsSameBook};
 ghost use Rattle.uc_machine.specs.Effects.{reclaims};
 ghost use Rattle.uc_machine.specs.State.{Out};
-ghost use Rattle.uc_search.specs.Working.{CountsCommits, IsSamePass, EndsAlone, EndsTask, TurnsTo, task_out, CommitsResult};
+ghost use Rattle.uc_search.specs.Working.{CountsCommits, IsSamePass, IsToCompute, EndsAlone, EndsTask, TurnsTo, task_out, CommitsResult};
 
 use crate::computing::compute;
+use crate::histories::has_few_events;
 use std::alloc::{AllocError, Global};
 use std::sync::Wait;
 use uc_book::{Book, Drawn, Pass, Task};
@@ -114,7 +115,7 @@ fn end_task<R: Wait, O: Order>(
     requires shelf { book.old.opening.shelf ≡ shelf.now }
     requires order { book.old.order ≡ order.now }
     requires count { CountsCommits pass.old book.old.state }
-    requires task { IsTaskOf (O.meaning book.old.order) book.old task.now }
+    requires task { IsToCompute (O.meaning book.old.order) book.old.opening task.now }
     requires out { book.old.state.out ≡ task_out pass.old.worker task.now ∷ [] }
     ensures turned { EndsTask (O.meaning book.old.order) (opening_of book.old.opening) (task_out pass.old.worker task.now) book.old.state result book.new.state }
     ensures none_out { book.new.state.out ≡ [] }
@@ -147,7 +148,7 @@ fn finish<R: Wait, O: Order>(
     requires shelf { book.old.opening.shelf ≡ shelf.now }
     requires order { book.old.order ≡ order.now }
     requires count { CountsCommits pass.old book.old.state }
-    requires task { IsTaskOf (O.meaning book.old.order) book.old task.now }
+    requires task { IsToCompute (O.meaning book.old.order) book.old.opening task.now }
     requires out { book.old.state.out ≡ task_out pass.old.worker task.now ∷ [] }
     ensures commits { OnOk result (CommitsResult (O.meaning book.old.order) (opening_of book.old.opening) (task_out pass.old.worker task.now) book.old.state book.new.state) }
     ensures none_out { OnOk result (book.new.state.out ≡ []) }
@@ -158,7 +159,10 @@ fn finish<R: Wait, O: Order>(
 {
     let done = compute(alloc, task, shelf, problem, order)?;
     match book.commit(rt, alloc, pass, done) {
-        Ok(_) => Ok(()),
+        Ok(_) => {
+            has_few_events(book);
+            Ok(())
+        }
         Err(_) => Err(AllocError),
     }
 }
