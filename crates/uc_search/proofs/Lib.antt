@@ -1,0 +1,9 @@
+pub mod Turns
+pub mod Alone
+pub mod Rests
+pub mod OneSearch
+pub mod Caused
+pub mod Distinct
+pub mod Loads
+pub mod Fits
+pub mod Bounded

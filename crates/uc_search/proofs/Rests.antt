@@ -45,6 +45,12 @@ audits_end o _ s _ _ e all_are_kept = e
 audits_end o _ s v t e (one_is_kept {x = x} {xs = xs} {u = u} {n = n} a rest) = audits_end o xs u v t (audit_leaves o x s u (KeptAs n) a) rest
 audits_end o _ s _ _ e (book_is_closed {x = x} {u = u} {v = v} a) = audit_leaves o x s u (ClosedBy v) a
 
+-- audits leave what is out
+pub audits_none : (o : Opening) (xs : List Missing) (s : State) (v : Option Verdict) (u : State) → AuditsAll o xs s v u → u.out ≡ s.out
+audits_none o _ s _ _ all_are_kept = refl
+audits_none o _ s v t (one_is_kept {x = x} {xs = xs} {u = u} {n = n} a rest) = audits_none o xs u v t rest ∙ audit_out o x s u (KeptAs n) a
+audits_none o _ s _ _ (book_is_closed {x = x} {u = u} {v = v} a) = audit_out o x s u (ClosedBy v) a
+
 start_out : (o : Opening) (s : State) → Starts o s → s.out ≡ []
 start_out o _ (axioms_wait l) = refl
 start_out o _ (too_many_axioms l) = refl
@@ -89,6 +95,10 @@ module _ (m : Meaning) (o : Opening) where
   end_verdict d _ u i (is_closed_by {outcome = outcome} {v = v} f c) = close_verdict d u outcome v c
   end_verdict d v u i (audits_missing {missing = xs} f a) = audits_end o xs d v u i.none_unmet.none_due.open_ a
 
+  end_none : (drained : State) (v : Option Verdict) (u : State) → drained.out ≡ [] → EndsRound m o drained v u → u.out ≡ []
+  end_none d _ u e (is_closed_by {outcome = outcome} {v = v} f c) = close_out d u outcome v c ∙ e
+  end_none d v u e (audits_missing {missing = xs} f a) = audits_none o xs d v u a ∙ e
+
   module _ (w : ℕ) where
     -- the draw of a turn, where no task is out before it
     pub record DrawsOne (s : State) (t : Out) (drawn : State) : Type 0 where
@@ -131,6 +141,22 @@ module _ (m : Meaning) (o : Opening) where
 
       pub searched_rests : (v : Verdict) (s : State) → IsSearched m o w v s → Rests s
       searched_rests v s a = search_rests a.start v s (start_rests a.start a.starts) a.searches
+
+    -- no task is out, whoever the worker is
+    works_none : (s u : State) → s.out ≡ [] → Works m o w s u → u.out ≡ []
+    works_none s _ e no_turn = e
+    works_none s v e (one_more_turn {u = u} a t) = one_commits o t.task t.commits.finding t.drawn v (draws_one u v (works_none s u e a) t).out t.commits.commits
+
+    round_none : (s : State) (v : Option Verdict) (u : State) → s.out ≡ [] → Rounds m o w s v u → u.out ≡ []
+    round_none s _ u e (gets_verdict {v = v} a) = (leaves o w a.last (Closed v) u a.draws).out ∙ works_none s a.last e a.works
+    round_none s v u e (gets_drained {drained = d} a b) = end_none d v u (leaves o w a.last Drained d a.draws).none_out b
+
+    search_none : (s : State) (v : Verdict) (u : State) → s.out ≡ [] → Searches m o w s v u → u.out ≡ []
+    search_none s v u e (last_round a) = round_none s (Some v) u e a
+    search_none s v t e (next_round {u = u} a rest) = search_none u v t (round_none s None u e a) rest
+
+    pub searched_none : (v : Verdict) (s : State) → IsSearched m o w v s → s.out ≡ []
+    searched_none v s a = search_none a.start v s (start_out o a.start a.starts) a.searches
 
     pub round_verdict : (s : State) (v : Option Verdict) (u : State) → Rounds m o w s v u → u.verdict ≡ v
     round_verdict s _ u (gets_verdict {v = v} a) = (leaves o w a.last (Closed v) u a.draws).verdict

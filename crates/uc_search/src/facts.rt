@@ -1,6 +1,6 @@
 //! The facts of a front.
 
-ghost use Rattle.std.specs.Prelude.{◌≡◌, map, IfOk};
+ghost use Rattle.std.specs.Prelude.{◌≡◌, ◌++◌, ◌∷◌, [], map, IfOk, OnOk};
 ghost use Rattle.uc_fact.specs.Live.{equations_of};
 ghost use Rattle.uc_shelf.specs.Entries.{born, live};
 ghost use Rattle.uc_shelf.specs.Fronts.{IsOf};
@@ -22,11 +22,22 @@ pub fn all_facts<'a>(
 {
     let mut facts = Vec::new(alloc);
     for k in 0..front.len() {
-        if let Entry::Born(fact) = shelf.read(front, k) {
-            facts.push(fact)?;
-        }
+        add_if_born(&mut facts, shelf.read(front, k))?;
     }
     Ok(facts)
+}
+
+/// Puts the fact that is born in an entry, if one is, at the end of the list.
+fn add_if_born<'a>(facts: &mut Vec<&'a Fact>, entry: &'a Entry) -> Result<(), AllocError>
+    ensures { OnOk result (map (λ f. f.now) facts.new.items ≡ map (λ f. f.now) facts.old.items ++ born (entry.now ∷ [])) }
+{
+    match entry {
+        Entry::Born(fact) => {
+            facts.push(fact)?;
+            Ok(())
+        }
+        Entry::Dies { .. } => Ok(()),
+    }
 }
 
 /// The facts that live in a front, by number.

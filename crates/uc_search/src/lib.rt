@@ -4,7 +4,6 @@
 
 mod computing;
 mod facts;
-mod histories;
 mod laws;
 mod rounds;
 mod working;

@@ -1,6 +1,6 @@
 //! The rounds of a search.
 
-ghost use Rattle.std.specs.Prelude.{◌≡◌, ◌<◌, ◌^◌, ℕ, [], length, Some, IfOk};
+ghost use Rattle.std.specs.Prelude.{◌≡◌, ℕ, [], Some, IfOk};
 ghost use Rattle.uc_book.specs.Openings.{opening_of};
 ghost use Rattle.uc_book.specs.Answers.{IsSameBook};
 ghost use Rattle.uc_machine.specs.Events.{commits_by};
@@ -10,7 +10,6 @@ ghost use Rattle.uc_machine.specs.declared.task.Outcome.TheVariants.{Missing as 
 ghost use Rattle.uc_search.specs.Working.{CountsCommits, IsSamePass};
 ghost use Rattle.uc_search.specs.Searching.{AuditsAll, EndsRound, Rounds, Searches};
 
-use crate::histories::has_all_goals;
 use crate::working::{Ended, work_alone};
 use std::alloc::{AllocError, Global};
 use std::sync::Wait;
@@ -39,8 +38,6 @@ pub fn search_alone<R: Wait, O: Order>(
     requires order { book.old.order ≡ order.now }
     requires count { CountsCommits pass.old book.old.state }
     requires none_out { book.old.state.out ≡ [] }
-    requires few_axioms { length problem.now.axioms < 2 ^ 31 }
-    requires few_goals { length problem.now.goals < 2 ^ 31 }
     ensures searched { IfOk result (λ verdict. Searches (O.meaning book.old.order) (opening_of book.old.opening) pass.old.worker book.old.state verdict book.new.state) }
     ensures verdict { IfOk result (λ verdict. book.new.state.verdict ≡ Some verdict) }
     ensures none_out { IfOk result (λ _. book.new.state.out ≡ []) }
@@ -74,8 +71,6 @@ fn round<R: Wait, O: Order>(
     requires order { book.old.order ≡ order.now }
     requires count { CountsCommits pass.old book.old.state }
     requires none_out { book.old.state.out ≡ [] }
-    requires few_axioms { length problem.now.axioms < 2 ^ 31 }
-    requires few_goals { length problem.now.goals < 2 ^ 31 }
     ensures round { IfOk result (λ verdict. Rounds (O.meaning book.old.order) (opening_of book.old.opening) pass.old.worker book.old.state verdict book.new.state) }
     ensures verdict { IfOk result (λ verdict. book.new.state.verdict ≡ verdict) }
     ensures none_out { IfOk result (λ _. book.new.state.out ≡ []) }
@@ -84,7 +79,7 @@ fn round<R: Wait, O: Order>(
     ensures count { CountsCommits pass.new book.new.state }
 {
     match work_alone(rt, alloc, book, shelf, problem, order, pass) {
-        Ended::Drained => end_round(rt, alloc, book, shelf, problem, order),
+        Ended::Drained => end_round(rt, alloc, book, shelf, order),
         Ended::Closed => Ok(book.verdict().copied()),
         Ended::NoMemory => Err(AllocError),
     }
@@ -96,25 +91,20 @@ fn end_round<R: Wait, O: Order>(
     alloc: Global,
     book: &mut Book<O>,
     shelf: &Shelf,
-    problem: &Encoded,
     order: &O,
 ) -> Result<Option<Verdict>, AllocError>
-    requires problem { book.old.opening.problem ≡ problem.now }
     requires shelf { book.old.opening.shelf ≡ shelf.now }
     requires order { book.old.order ≡ order.now }
     requires drained { IsDrained book.old.state }
-    requires few_axioms { length problem.now.axioms < 2 ^ 31 }
-    requires few_goals { length problem.now.goals < 2 ^ 31 }
     ensures ends { IfOk result (λ verdict. EndsRound (O.meaning book.old.order) (opening_of book.old.opening) book.old.state verdict book.new.state) }
     ensures verdict { IfOk result (λ verdict. book.new.state.verdict ≡ verdict) }
     ensures out { book.new.state.out ≡ book.old.state.out }
     ensures commits { (w : ℕ) → commits_by w book.new.state.history ≡ commits_by w book.old.state.history }
     ensures book { IsSameBook book.old book.new }
 {
-    has_all_goals(book);
     let stages = book.stages(alloc)?;
-    let axioms = problem.axioms.as_slice();
-    let outcome = final_pass(alloc, shelf, book.front(), axioms, stages.as_slice(), order)?;
+    let (front, axioms) = (book.front(), book.axioms());
+    let outcome = final_pass(alloc, shelf, front, axioms, stages.as_slice(), order)?;
     match outcome {
         Outcome::Missing(all) => audit_all(rt, alloc, book, all),
         _ => Ok(Some(book.close(&outcome))),

@@ -1,14 +1,14 @@
 //! One worker alone.
 
-ghost use Rattle.std.specs.Prelude.{◌≡◌, [], ◌∷◌, OnOk, OnErr};
+ghost use Rattle.std.specs.Prelude.{◌≡◌, ◌<◌, ◌^◌, ℕ, [], ◌∷◌, OnOk, OnErr};
 ghost use Rattle.uc_book.specs.Openings.{opening_of};
 ghost use Rattle.uc_book.specs.Answers.{IsSameBook};
 ghost use Rattle.uc_machine.specs.Effects.{reclaims};
+ghost use Rattle.uc_machine.specs.Events.{commits_by};
 ghost use Rattle.uc_machine.specs.State.{Out};
 ghost use Rattle.uc_search.specs.Working.{CountsCommits, IsSamePass, IsToCompute, EndsAlone, EndsTask, TurnsTo, task_out, CommitsResult};
 
 use crate::computing::compute;
-use crate::histories::has_few_events;
 use std::alloc::{AllocError, Global};
 use std::sync::Wait;
 use uc_book::{Book, Drawn, Pass, Task};
@@ -165,6 +165,13 @@ fn finish<R: Wait, O: Order>(
         }
         Err(_) => Err(AllocError),
     }
+}
+
+/// There are fewer commits than a count of them can tell, since the history has a length.
+fn has_few_events<O: Order>(book: &Book<O>)
+    ensures { (w : ℕ) → commits_by w book.now.state.history < 2 ^ 64 }
+{
+    let _events = book.history().len();
 }
 
 /// Lets the task that is out wait again.
