@@ -5,7 +5,7 @@ use Rattle.uc_machine.specs.Lists.{Each}
 use Rattle.uc_machine.proofs.Kept.{NotIn, Distinct}
 
 -- the list without a number
-less : ℕ → List ℕ → List ℕ
+abbrev less : ℕ → List ℕ → List ℕ
 less n [] = []
 less n (m ∷ ms) = cond (m == n) (less n ms) (m ∷ less n ms)
 

@@ -1,5 +1,7 @@
 pub mod Turns
+pub mod Counting
 pub mod Alone
+pub mod Moved
 pub mod Rests
 pub mod OneSearch
 pub mod Caused
