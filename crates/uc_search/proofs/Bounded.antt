@@ -127,7 +127,7 @@ module _ (m : Meaning) (o : Opening) where
     more_round_fits a s u r (gets_drained {drained = d} b e) f = more_ends_fit a d u e (draws_fit a o w b.last Drained d b.draws (works_fit a s b.last r b.works f))
 
     -- each round but the last keeps an audit
-    rounds_fit : (a : ℕ) (s : State) (v : Verdict) (u : State) → Rests m o s → (x : Searches m o w s v u) → Fits a s → (n : ℕ) × (rounds_in x ≡ n + 1) × Fits (a + n) u
+    rounds_fit : (a : ℕ) (s : State) (v : Verdict) (u : State) → Rests m o s → (x : Searches m o w s v u) → Fits a s → (n : ℕ) × (rounds_in x ≡ suc n) × Fits (a + n) u
     rounds_fit a s v u r (last_round b) f = (0, refl, subst (λ k. Fits k u) (let e : a ≡ a + 0 = omega arith in e) (round_fits a s (Some v) u r b f))
     rounds_fit a s v t r (next_round {u = u} b rest) f =
         let h = rounds_fit (a + 1) u v t (round_rests m o w few s None u r b) rest (more_round_fits a s u r b f) in
@@ -144,5 +144,5 @@ module _ (m : Meaning) (o : Opening) where
         let h = rounds_fit 0 x.start v s (start_rests m o x.start x.starts) x.searches (start_fits o x.start x.starts) in
         let b : audits_in s.history ≤ o.budget = (searched_bounded v s x).audits in
         let l : 0 + h.0 ≤ audits_in s.history = h.2.least in
-        let n : rounds_in x.searches ≡ h.0 + 1 = h.1 in
+        let n : rounds_in x.searches ≡ suc h.0 = h.1 in
         omega arith
