@@ -2,6 +2,8 @@ pub mod Turns
 pub mod Counting
 pub mod Alone
 pub mod Moved
+pub mod Finishing
+pub mod Auditing
 pub mod Rests
 pub mod OneSearch
 pub mod Caused

@@ -8,8 +8,8 @@ ghost use Rattle.uc_shelf.specs.Fronts.{IsOf};
 use std::alloc::{AllocError, Global};
 use uc_fact::{Fact, System};
 use uc_shelf::{Entry, Front, Shelf};
-use uc_term::Seq;
 use uc_task::live_facts;
+use uc_term::Seq;
 
 /// All facts that are born in a front, by number.
 pub fn all_facts<'a>(

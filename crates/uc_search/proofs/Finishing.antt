@@ -1,0 +1,57 @@
+-- The end of a task that is out alone.
+use Rattle.std.proofs.Common.{◌≡◌, ℕ, ◌+◌, ◌-◌, ◌^◌, ◌<◌, List, [], ◌∷◌, length, take, min, Some, sym, ap, ◌∙◌, subst}
+use Rattle.uc_order.specs.Laws.{Meaning}
+use Rattle.uc_term.specs.declared.equation.Equation.{Equation}
+use Rattle.uc_shelf.specs.declared.entry.Entry.{Entry}
+use Rattle.uc_machine.specs.declared.task.Finding.{Finding}
+use Rattle.uc_machine.specs.declared.task.Job.{Job}
+use Rattle.uc_machine.specs.State.{Opening, State, Out, out_at}
+use Rattle.uc_machine.specs.Effects.{reclaims}
+use Rattle.uc_machine.specs.Events.{commits_by}
+use Rattle.uc_machine.specs.Commits.{Commits}
+use Rattle.uc_machine.specs.Results.{IsResult}
+use Rattle.uc_book.specs.declared.token.Task.{Task}
+use Rattle.uc_book.specs.declared.token.Done.{Done}
+use Rattle.uc_book.specs.declared.answer.Receipt.{Receipt}
+use Rattle.uc_book.specs.declared.answer.CommitFault.{CommitFault}
+use Rattle.uc_book.specs.declared.answer.CommitFault.TheVariants.{NotOut, NoMemory}
+use Rattle.uc_book.specs.Openings.{PassView}
+use Rattle.uc_book.specs.Answers.{IsRight, IsCommitted, IsReclaimed, IsNotOutTo}
+use Rattle.uc_search.specs.Working.{IsDoneFor, task_out, CountsCommits, CommitsResult}
+use Rattle.uc_search.proofs.Turns.{at_one, only_one}
+use Rattle.uc_search.proofs.Counting.{commit_commits, counts_on}
+
+-- the task that the result was committed for is the one that is out
+pub committed_is : (o : Opening) (w : ℕ) (t : Task) (d : Done) (s u : State) (receipt : Receipt) → s.out ≡ task_out w t ∷ [] → (c : IsCommitted o s w d receipt u) → c.task ≡ task_out w t
+committed_is o w t d s u receipt e c = only_one (task_out w t) c.task s.out d.ticket e c.out.at
+
+-- its result is committed
+pub finished : (m : Meaning) (o : Opening) (w : ℕ) (t : Task) (d : Done) (s u : State) (receipt : Receipt) → s.out ≡ task_out w t ∷ [] → IsDoneFor t d → d.opening.problem.axioms ≡ o.axioms → IsRight m d → IsCommitted o s w d receipt u → CommitsResult m o (task_out w t) s u
+finished m o w t d s u receipt e is axioms right c =
+    let same = committed_is o w t d s u receipt e c in
+    let front : take (length t.front.entries) s.entries ≡ d.front.entries = subst (λ (x : Out). take x.front s.entries ≡ d.front.entries) same c.out.front_is in
+    record {
+      finding = d.found;
+      is_result =
+          subst (λ (es : List Equation). IsResult m es (take (length t.front.entries) s.entries) t.job d.found) axioms
+          (subst (λ (j : Job). IsResult m d.opening.problem.axioms (take (length t.front.entries) s.entries) j d.found) is.job
+          (subst (λ (es : List Entry). IsResult m d.opening.problem.axioms es d.job d.found) (sym front) right));
+      commits = subst (λ (x : Out). Commits o x d.found s u) same c.commits;
+    }
+
+-- the pass counts it
+pub counted : (o : Opening) (w : ℕ) (t : Task) (d : Done) (s u : State) (receipt : Receipt) (old new : PassView) → s.out ≡ task_out w t ∷ [] → w ≡ old.worker → new ≡ record old { commits = min (old.commits + 1) (2 ^ 64 - 1) } → CountsCommits old s → IsCommitted o s w d receipt u
+    → ((v : ℕ) → commits_by v u.history < 2 ^ 64) → CountsCommits new u
+counted o w t d s u receipt old new e same is h c few =
+    let worker : c.task.worker ≡ old.worker = ap (λ (x : Out). x.worker) (committed_is o w t d s u receipt e c) ∙ same in
+    let more : commits_by old.worker u.history ≡ commits_by old.worker s.history + 1 = subst (λ v. commits_by v u.history ≡ commits_by v s.history + 1) worker (commit_commits o c.task d.found s u c.commits) in
+    subst (λ (p : PassView). CountsCommits p u) (sym is) (counts_on old.commits (commits_by old.worker s.history) (commits_by old.worker u.history) h more (few old.worker))
+
+-- the only task that is out is put back
+pub put_back_is : (s u : State) (w ticket : ℕ) (t : Out) → s.out ≡ t ∷ [] → IsReclaimed s w ticket u → u ≡ reclaims t s
+put_back_is s u w ticket t e r = r.is ∙ ap (λ (x : Out). reclaims x s) (only_one t r.task s.out ticket e r.at)
+
+-- it is out
+pub is_out_alone : {A : Type 0} (s : State) (w ticket : ℕ) (t : Out) (fault : CommitFault) → s.out ≡ t ∷ [] → t.ticket ≡ ticket → t.worker ≡ w → IsNotOutTo s w ticket fault → A
+is_out_alone s w ticket t (NotOut n) e is worker h = absurd (h.1 t (subst (λ k. out_at k s.out ≡ Some t) is (at_one t s.out e)) worker)
+is_out_alone s w ticket t NoMemory e is worker h = absurd h
