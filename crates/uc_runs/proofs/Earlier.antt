@@ -27,7 +27,7 @@ use Rattle.uc_machine.proofs.Grows.{same, further, audits_grew, reclaim_same, re
 use Rattle.uc_runs.proofs.Fronts.{EarlierIn, earlier_born, earlier_dies, kept_by_join, kept_by_audit}
 use Rattle.uc_machine.proofs.Runs.{kept_reaches}
 
-draws_same : (o : Opening) (w : ℕ) (s : State) (r : Reply) (u : State) → Draws o w s r u → u.entries ≡ s.entries
+pub draws_same : (o : Opening) (w : ℕ) (s : State) (r : Reply) (u : State) → Draws o w s r u → u.entries ≡ s.entries
 draws_same o w s _ _ (verdict_stands v e) = refl
 draws_same o w s _ _ (goal_is_due g e f) = refl
 draws_same o w s _ _ (fact_is_unmet i n f) = refl
@@ -39,12 +39,12 @@ draws_same o w s _ _ (budget_is_spent l a b c) = refl
 draws_same o w s _ _ (all_is_out l a b) = refl
 draws_same o w s _ _ (all_is_done l a b) = refl
 
-closes_same : (s u : State) (outcome : Outcome) (v : Verdict) → Closes s outcome v u → u.entries ≡ s.entries
+pub closes_same : (s u : State) (outcome : Outcome) (v : Verdict) → Closes s outcome v u → u.entries ≡ s.entries
 closes_same s _ _ _ converges = refl
 closes_same s _ _ _ has_large = refl
 closes_same s _ _ _ has_stuck = refl
 
-goal_same : (kind : ℕ → ℕ → GoalEnd → Happening) (t : Out) (g : ℕ) (l r : Chain) (stop : Stop) (s u : State) → GoalEnds kind t g l r stop s u → u.entries ≡ s.entries
+pub goal_same : (kind : ℕ → ℕ → GoalEnd → Happening) (t : Out) (g : ℕ) (l r : Chain) (stop : Stop) (s u : State) → GoalEnds kind t g l r stop s u → u.entries ≡ s.entries
 goal_same kind t g l r stop s _ (ends_meet e) = refl
 goal_same kind t g l r stop s _ (ends_differ c e a) = refl
 

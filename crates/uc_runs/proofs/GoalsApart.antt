@@ -22,7 +22,7 @@ use Rattle.uc_decide.specs.Deciding.{AreApart, AreAllApart}
 use Rattle.uc_decide.proofs.Derived.{facts_follow}
 use Rattle.uc_runs.specs.Signatures.{OpensOver, AreGroundEquations}
 use Rattle.uc_runs.specs.Saturated.{EndsDiffer}
-use Rattle.uc_runs.proofs.OverFound.{each_get}
+use Rattle.uc_runs.proofs.EachFact.{each_get}
 use Rattle.uc_runs.proofs.OverRuns.{ends_stay_ground}
 use Rattle.uc_runs.proofs.Replaying.{chains_replay}
 use Rattle.uc_runs.proofs.Saturating.{saturated}

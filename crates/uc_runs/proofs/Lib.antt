@@ -9,6 +9,7 @@ pub mod Whole
 pub mod OneResult
 pub mod Continuing
 pub mod Origins
+pub mod EachFact
 pub mod OverTerms
 pub mod OverUnifiers
 pub mod OverFound
@@ -16,3 +17,4 @@ pub mod OverRuns
 pub mod OpenGoals
 pub mod Saturating
 pub mod GoalsApart
+pub mod WrittenFacts

@@ -1,6 +1,6 @@
 -- While no verdict stands, the task of a goal that is Busy is out, and the ends of a goal that is Settled differ.
 use Rattle.std.proofs.Common.{◌≡◌, ℕ, zero, suc, ◌-◌, List, [], ◌∷◌, ◌++◌, length, true, false, ◌==◌, Some, None, refl, ap, sym, ◌∙◌, inl, inr, subst, map, take, slice_get}
-use Rattle.std.specs.Prelude.{◌⊎◌}
+use Rattle.std.specs.Prelude.{◌⊎◌, cond}
 use Rattle.std.proofs.lemmas.Bool.{cases_Bool, eq-eqb}
 use Rattle.uc_term.specs.Tree.{Tree}
 use Rattle.uc_term.specs.declared.equation.Equation.{Equation}
@@ -60,19 +60,19 @@ same_out n t u e h = let q : t ≡ u = cc in subst (λ (v : Out). IsTaskOf n v.j
 
 -- a task ends: it is that of the goal, or that of the goal is still out
 out_without : (n k : ℕ) (ts : List Out) (t : Out) → out_at k ts ≡ Some t → IsOut n ts → IsTaskOf n t.job ⊎ IsOut n (without k ts)
-out_without n k [] t at h = absurd h
-out_without n k (u ∷ ts) t at h = elim (cases_Bool (u.ticket == k)) [
-  | inl e ↦ rw e (here (rw e at at) h)
-  | inr e ↦ rw e (later (rw e at at) h)
+out_without n k [] t there h = absurd h
+out_without n k (u ∷ ts) t there h = elim (cases_Bool (u.ticket == k)) as (λ _. IsTaskOf n t.job ⊎ IsOut n (cond (u.ticket == k) ts (u ∷ without k ts))) [
+  | inl e ↦ rw e (let q : Some u ≡ Some t = rw e at there in here q h)
+  | inr e ↦ rw e (let q : out_at k ts ≡ Some t = rw e at there in later (out_without n k ts t q) h)
 ]
   where
     here : Some u ≡ Some t → IsTaskOf n u.job ⊎ IsOut n ts → IsTaskOf n t.job ⊎ IsOut n ts
     here q (inl a) = inl (same_out n u t q a)
     here q (inr b) = inr b
 
-    later : out_at k ts ≡ Some t → IsTaskOf n u.job ⊎ IsOut n ts → IsTaskOf n t.job ⊎ (IsTaskOf n u.job ⊎ IsOut n (without k ts))
+    later : (IsOut n ts → IsTaskOf n t.job ⊎ IsOut n (without k ts)) → IsTaskOf n u.job ⊎ IsOut n ts → IsTaskOf n t.job ⊎ (IsTaskOf n u.job ⊎ IsOut n (without k ts))
     later q (inl a) = inr (inl a)
-    later q (inr b) = elim (out_without n k ts t q b) [
+    later q (inr b) = elim (q b) [
       | inl c ↦ inl c
       | inr c ↦ inr (inr c)
     ]

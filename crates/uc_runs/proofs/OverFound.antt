@@ -8,7 +8,6 @@ use Rattle.uc_term.specs.Equations.{side_of, other_side_of}
 use Rattle.uc_term.specs.Tree.{Tree, var, apply, subterm, put}
 use Rattle.uc_term.specs.Variables.{place_of, renumbered_by}
 use Rattle.uc_order.specs.Laws.{Meaning, Laws, HasSym, least_term}
-use Rattle.uc_order.specs.Members.{In, in_front, in_rest}
 use Rattle.uc_fact.specs.declared.chain.By.TheVariants.{Axiom as ByAxiom, Fact as ByFact}
 use Rattle.uc_fact.specs.declared.chain.Chain.{Chain}
 use Rattle.uc_fact.specs.declared.chain.Step.{Step}
@@ -27,34 +26,14 @@ use Rattle.uc_pair.specs.Overlapping.{Overlapping, shifted, peak, left_of, right
 use Rattle.uc_pair.specs.Pairs.{IsPairBy, IsPairOf, forms_none, forms_pair, names_of as pair_names}
 use Rattle.uc_shelf.specs.declared.entry.Entry.{Entry}
 use Rattle.uc_shelf.specs.Entries.{born, is_dead, equations, live}
-use Rattle.uc_machine.specs.declared.task.Finding.{Finding}
-use Rattle.uc_machine.specs.declared.task.Finding.TheVariants.{Kept as KeptFact}
-use Rattle.uc_machine.specs.declared.task.Job.{Job}
-use Rattle.uc_machine.specs.declared.task.Missing.{Missing}
-use Rattle.uc_machine.specs.declared.task.Outcome.{Outcome}
-use Rattle.uc_machine.specs.declared.task.Outcome.TheVariants.{Missing as Lacks}
-use Rattle.uc_machine.specs.Finals.{Tests, all_tested, is_joined, is_missing, IsFinal, some_missing, some_large, some_stuck, all_converges}
 use Rattle.uc_machine.specs.Lists.{Each}
-use Rattle.uc_machine.specs.Results.{Trial, way, names_of, made, IsPair, of_axiom, of_overlap, of_dead, IsTrial, GivesFact, left_is_greater, right_is_greater, none_is_greater, IsResult, goal_comes_to, more_comes_to, pair_is_joined, pair_is_kept, fact_is_stale, fact_meets}
-use Rattle.uc_machine.specs.State.{State}
+use Rattle.uc_machine.specs.Results.{Trial, way, names_of, made, IsPair, of_axiom, of_overlap, of_dead, IsTrial, GivesFact, left_is_greater, right_is_greater, none_is_greater}
 use Rattle.uc_machine.proofs.Lists.{Each-map}
 use Rattle.uc_machine.proofs.Meetings.{Each-append, Each-filter}
 use Rattle.uc_runs.specs.Signatures.{IsChainOver}
+use Rattle.uc_runs.proofs.EachFact.{each_get, live_each}
 use Rattle.uc_runs.proofs.OverTerms.{Over, part_over, put_over, instance_over, normal_over}
 use Rattle.uc_runs.proofs.OverUnifiers.{is_symbol, unifier_over}
-
-pub each_get : {A : Type 0} (P : A → Type 0) (xs : List A) → Each P xs → (n : ℕ) (x : A) → slice_get xs n ≡ Some x → P x
-each_get P [] a n x e = absurd (cc)
-each_get P (y ∷ xs) a zero x e = let p : y ≡ x = cc in subst P p a.0
-each_get P (y ∷ xs) a (suc n) x e = each_get P xs a.1 n x e
-
-numbered_each : (P : Equation → Type 0) (es : List Equation) (n : ℕ) → Each P es → Each (λ (f : Live). P f.equation) (numbered_from n es)
-numbered_each P [] n a = tt
-numbered_each P (e ∷ es) n a = (a.0, numbered_each P es (n + 1) a.1)
-
-unnumbered_each : (P : Equation → Type 0) (fs : List Live) → Each (λ (f : Live). P f.equation) fs → Each P (equations_of fs)
-unnumbered_each P [] a = tt
-unnumbered_each P (f ∷ fs) a = (a.0, unnumbered_each P fs a.1)
 
 -- chains of terms with these variables
 
@@ -105,14 +84,8 @@ module _ (m : Meaning) where
   abbrev pub IsFactOver : Fact → Type 0
   IsFactOver f = IsEquationOver (equation_of f) × ChainHas m Any f.chain
 
-  pub facts_over : (fs : List Fact) → Each IsFactOver fs → Each IsEquationOver (map equation_of fs)
-  facts_over [] a = tt
-  facts_over (f ∷ fs) a = (a.0.0, facts_over fs a.1)
-
   pub live_over : (es : List Entry) → Each IsFactOver (born es) → AreOfSignature (HasSym m) m.arity (equations_of (live es))
-  live_over es a =
-      let numbers = numbered_each IsEquationOver (equations es) 0 (facts_over (born es) a) in
-      each_get IsEquationOver (equations_of (live es)) (unnumbered_each IsEquationOver (live es) (Each-filter (λ (f : Live). IsEquationOver f.equation) (λ (f : Live). not (is_dead es f.number)) (numbered_from 0 (equations es)) numbers))
+  live_over es a = live_each IsEquationOver es (Each-map {P = IsFactOver} {Q = λ (f : Fact). IsEquationOver (equation_of f)} (λ f k. k.0) (born es) a)
 
   renamed_over : (f : ℕ → ℕ) (t : Tree) → IsTermOf t → IsTermOf (apply (λ x. var (f x)) t)
   renamed_over f t a = instance_over (HasSym m) m.arity Any (λ x. var (f x)) t a (λ x o. tt)
@@ -183,36 +156,7 @@ module _ (m : Meaning) where
         let on = followed_has m Any t.chain t.right.chain p.1 r.0.1 in
         (l.1, r.1, followed_has m Any (reversed t.left.chain) (followed_by t.chain t.right.chain) (reversed_has m Any t.left.chain l.0) on.1)
 
-    fact_over : (origin : Origin) (front : ℕ) (t : Trial) (f : Fact) → IsTrial m axioms es origin t → GivesFact m origin front t f → IsFactOver f
+    pub fact_over : (origin : Origin) (front : ℕ) (t : Trial) (f : Fact) → IsTrial m axioms es origin t → GivesFact m origin front t f → IsFactOver f
     fact_over origin front t _ i (left_is_greater q) = let a = trial_over origin t i in made_over true origin front t.left.term t.right.term (way t) t.left.stop t.right.stop a.0 a.1 a.2
     fact_over origin front t _ i (right_is_greater q) = let a = trial_over origin t i in made_over true origin front t.right.term t.left.term (reversed (way t)) t.right.stop t.left.stop a.1 a.0 (reversed_has m Any (way t) a.2)
     fact_over origin front t _ i (none_is_greater p q) = let a = trial_over origin t i in made_over false origin front t.left.term t.right.term (way t) t.left.stop t.right.stop a.0 a.1 a.2
-
-    -- what a Join that keeps a fact publishes, and what an audit publishes
-
-    result_over : (j : Job) (f : Fact) (found : Finding) → IsResult m axioms es j found → found ≡ KeptFact f → IsFactOver f
-    result_over j f _ (pair_is_kept {origin = origin} {t = t} {f = g} trial apart gives) e = let same : g ≡ f = cc in subst IsFactOver same (fact_over origin (length es) t g trial gives)
-    result_over j f _ (goal_comes_to a) e = absurd (cc)
-    result_over j f _ (more_comes_to a) e = absurd (cc)
-    result_over j f _ (pair_is_joined a b) e = absurd (cc)
-    result_over j f _ (fact_is_stale a b) e = absurd (cc)
-    result_over j f _ (fact_meets a b c d) e = absurd (cc)
-
-    pub kept_over : (j : Job) (f : Fact) → IsResult m axioms es j (KeptFact f) → IsFactOver f
-    kept_over j f r = result_over j f (KeptFact f) r refl
-
-    pub tested_over : (os : List Origin) (ms : List Missing) → Tests m axioms es os ms → (x : Missing) → In ms x → IsFactOver x.fact
-    tested_over _ _ all_tested x i = elim i [ ]
-    tested_over _ ms (is_joined {os = os} t a b rest) x i = tested_over os ms rest x i
-    tested_over _ _ (is_missing {o = o} {os = os} {ms = ms} {f = f} t a b g rest) x in_front = fact_over o (length es) t f a g
-    tested_over _ _ (is_missing {o = o} {os = os} {ms = ms} {f = f} t a b g rest) x (in_rest i) = tested_over os ms rest x i
-
-  module _ (laws : Laws m) (axioms : List Equation) (axioms_over : AreOfSignature (HasSym m) m.arity axioms) (s : State) (born_over : Each IsFactOver (born s.entries)) where
-    final_over : (ms : List Missing) (outcome : Outcome) → IsFinal m axioms s outcome → outcome ≡ Lacks ms → (x : Missing) → In ms x → IsFactOver x.fact
-    final_over ms _ (some_missing {ms = ns} a tests ne) e x i = (let same : ns ≡ ms = cc in tested_over laws axioms axioms_over s.entries born_over _ ns tests x (subst (λ (z : List Missing). In z x) (sym same) i))
-    final_over ms _ (some_large a b c) e x i = absurd (cc)
-    final_over ms _ (some_stuck g a b c d) e x i = absurd (cc)
-    final_over ms _ (all_converges a b c d) e x i = absurd (cc)
-
-    pub missing_over : (ms : List Missing) → IsFinal m axioms s (Lacks ms) → (x : Missing) → In ms x → IsFactOver x.fact
-    missing_over ms f x i = final_over ms (Lacks ms) f refl x i

@@ -1,7 +1,6 @@
 -- A run whose verdict is Saturated was closed over a drained state, since when nothing came; there the ends of each goal differ,
 -- and no step leads on from them.
 use Rattle.std.proofs.Common.{◌≡◌, ℕ, zero, suc, List, [], ◌∷◌, Bool, false, Option, Some, None, refl, ap, sym, ◌∙◌, inl, inr, subst, slice_get}
-use Rattle.std.specs.Prelude.{cond}
 use Rattle.std.proofs.lemmas.Bool.{cases_Bool}
 use Rattle.uc_term.specs.declared.equation.Equation.{Equation}
 use Rattle.uc_order.specs.Laws.{Meaning}
@@ -35,7 +34,7 @@ use Rattle.uc_machine.specs.State.{Opening, State, Target, Out, is_due, is_conti
 use Rattle.uc_runs.specs.Saturated.{EndsDiffer, IsSaturated}
 use Rattle.uc_runs.proofs.AtRest.{goals_at_rest}
 use Rattle.uc_runs.proofs.OpenGoals.{IsOut, held_reaches}
-use Rattle.uc_runs.proofs.OverFound.{each_get}
+use Rattle.uc_runs.proofs.EachFact.{each_get}
 
 -- which calls leave the verdict
 
@@ -110,19 +109,16 @@ none_at n (u ∷ out) t e at = absurd (cc)
 
 -- the stages of goals
 
+not_later : {A : Type 0} (r : Option (At A)) → later r ≡ None → r ≡ None
+not_later None e = refl
+not_later (Some f) e = absurd (cc)
+
 none_first : {A : Type 0} (p : A → Bool) (xs : List A) → first p xs ≡ None → Each (λ (x : A). p x ≡ false) xs
 none_first p [] e = tt
-none_first {A} p (x ∷ xs) e = elim (cases_Bool (p x)) [
-  | inl b ↦ absurd (let q : cond (p x) (Some (record { number = 0; here = x })) (later (first p xs)) ≡ None = e in found (rw b at q))
+none_first {A = A} p (x ∷ xs) e = elim (cases_Bool (p x)) [
+  | inl b ↦ (let q : Some (let g : At A = record { number = 0; here = x } in g) ≡ None = rw b at e in absurd (cc))
   | inr b ↦ (b, none_first p xs (not_later (first p xs) (rw b at e)))
 ]
-  where
-    found : {y : At A} → Some y ≡ None → ⊥
-    found q = cc
-
-    not_later : (r : Option (At A)) → later r ≡ None → r ≡ None
-    not_later None q = refl
-    not_later (Some y) q = absurd (cc)
 
 is_settled : (c : Stage) → is_due c ≡ false → is_continued c ≡ false → is_stuck c ≡ false → (c ≡ Busy → ⊥) → c ≡ Settled
 is_settled Due a b d k = absurd (cc)

@@ -20,6 +20,7 @@ ghost use Rattle.uc_machine.specs.Origins.{OriginsAreKnown};
 ghost use Rattle.uc_decide.specs.Deciding.{AreAllApart};
 ghost use Rattle.uc_runs.specs.Signatures.{OpensOver, IsOver, AreGroundEquations, EndsAreGround};
 ghost use Rattle.uc_runs.specs.Saturated.{IsSaturated};
+ghost use Rattle.uc_runs.specs.Written.{AreNumbered, AreSmall};
 
 use uc_order::Order;
 
@@ -94,4 +95,14 @@ pub fn saturated_by_final_pass<O: Order>(order: &O)
 /// that live leads on, where the goals are ground.
 pub fn goals_are_apart<O: Order>(order: &O)
     ensures { (o : Opening) (s : State) → OpensOver (O.meaning order.now) o → AreGroundEquations (O.meaning order.now) o.goals → Reaches (O.meaning order.now) o s → s.verdict ≡ Some Saturated → AreAllApart (O.meaning order.now) (equations_of (live s.entries)) o.axioms o.goals }
+{}
+
+/// The variables of each fact that lives are numbered by first occurrence, left side first.
+pub fn facts_are_numbered<O: Order>(order: &O)
+    ensures { (o : Opening) (s : State) → Reaches (O.meaning order.now) o s → AreNumbered (equations_of (live s.entries)) }
+{}
+
+/// No side of a fact that lives has more than 4,096 nodes, where no axiom's has.
+pub fn facts_are_small<O: Order>(order: &O)
+    ensures { (o : Opening) (s : State) → AreSmall o.axioms → Reaches (O.meaning order.now) o s → AreSmall (equations_of (live s.entries)) }
 {}
