@@ -10,11 +10,8 @@ use Rattle.uc_fact.specs.declared.fact.Fact.{Fact}
 use Rattle.uc_fact.specs.declared.fact.Origin.{Origin}
 use Rattle.uc_fact.specs.Live.{Live, numbered_from, equation_of, equations_of}
 use Rattle.uc_shelf.specs.declared.entry.Entry.{Entry}
-use Rattle.uc_shelf.specs.declared.entry.Entry.TheVariants.{Born, Dies}
+use Rattle.uc_shelf.specs.declared.entry.Entry.TheVariants.{Born}
 use Rattle.uc_shelf.specs.Entries.{born, is_dead, equations, live}
-use Rattle.uc_machine.specs.declared.event.Verdict.{Verdict}
-use Rattle.uc_machine.specs.declared.event.GoalEnd.{GoalEnd}
-use Rattle.uc_machine.specs.declared.event.Happening.{Happening}
 use Rattle.uc_machine.specs.declared.event.Happening.TheVariants.{CommitGoal, CommitMore}
 use Rattle.uc_machine.specs.declared.task.Finding.{Finding}
 use Rattle.uc_machine.specs.declared.task.Finding.TheVariants.{Kept as KeptFact}

@@ -18,7 +18,7 @@ use Rattle.uc_machine.specs.declared.event.Verdict.TheVariants.{Saturated}
 use Rattle.uc_machine.specs.Runs.{Reaches}
 use Rattle.uc_machine.specs.State.{Opening, State, Target}
 use Rattle.uc_decide.specs.Converging.{FollowFrom}
-use Rattle.uc_decide.specs.Deciding.{AreApart, AreAllApart}
+use Rattle.uc_decide.specs.Deciding.{AreAllApart}
 use Rattle.uc_decide.proofs.Derived.{facts_follow}
 use Rattle.uc_runs.specs.Signatures.{OpensOver, AreGroundEquations}
 use Rattle.uc_runs.specs.Saturated.{EndsDiffer}

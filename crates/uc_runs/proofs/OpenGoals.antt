@@ -1,5 +1,5 @@
 -- While no verdict stands, the task of a goal that is Busy is out, and the ends of a goal that is Settled differ.
-use Rattle.std.proofs.Common.{◌≡◌, ℕ, zero, suc, ◌-◌, List, [], ◌∷◌, ◌++◌, length, true, false, ◌==◌, Some, None, refl, ap, sym, ◌∙◌, inl, inr, subst, map, take, slice_get}
+use Rattle.std.proofs.Common.{◌≡◌, ℕ, zero, suc, List, [], ◌∷◌, ◌++◌, true, ◌==◌, Some, None, refl, ap, sym, ◌∙◌, inl, inr, subst, map, take, slice_get}
 use Rattle.std.specs.Prelude.{◌⊎◌, cond}
 use Rattle.std.proofs.lemmas.Bool.{cases_Bool, eq-eqb}
 use Rattle.uc_term.specs.Tree.{Tree}
@@ -9,9 +9,7 @@ use Rattle.uc_fact.specs.declared.chain.Chain.{Chain}
 use Rattle.uc_fact.specs.declared.fact.Fact.{Fact}
 use Rattle.uc_fact.specs.declared.fact.Stop.{Stop}
 use Rattle.uc_fact.specs.Chains.{last_term, end_of, followed_by}
-use Rattle.uc_shelf.specs.declared.entry.Entry.{Entry}
-use Rattle.uc_shelf.specs.declared.entry.Entry.TheVariants.{Born, Dies}
-use Rattle.uc_shelf.specs.Entries.{born, is_dead}
+use Rattle.uc_shelf.specs.Entries.{is_dead}
 use Rattle.uc_machine.specs.declared.state.Stage.{Stage}
 use Rattle.uc_machine.specs.declared.state.Stage.TheVariants.{Due, Busy, Continued, Settled, Stuck}
 use Rattle.uc_machine.specs.declared.event.Verdict.{Verdict}

@@ -1,6 +1,5 @@
 -- What tasks find over facts of a signature is over it: chains, normal forms, pairs, and the facts that they give.
-use Rattle.std.proofs.Common.{◌≡◌, ℕ, zero, suc, ◌+◌, List, [], ◌∷◌, length, Bool, true, false, Some, refl, sym, subst, map, slice_get}
-use Rattle.std.specs.Prelude.{not}
+use Rattle.std.proofs.Common.{◌≡◌, ℕ, ◌+◌, List, [], ◌∷◌, Bool, true, false, sym, subst, map}
 use Rattle.uc_term.specs.declared.equation.Equation.{Equation}
 use Rattle.uc_term.specs.declared.equation.Side.{Side}
 use Rattle.uc_term.specs.declared.equation.Side.TheVariants.{Left, Right}
@@ -8,29 +7,27 @@ use Rattle.uc_term.specs.Equations.{side_of, other_side_of}
 use Rattle.uc_term.specs.Tree.{Tree, var, apply, subterm, put}
 use Rattle.uc_term.specs.Variables.{place_of, renumbered_by}
 use Rattle.uc_order.specs.Laws.{Meaning, Laws, HasSym, least_term}
-use Rattle.uc_fact.specs.declared.chain.By.TheVariants.{Axiom as ByAxiom, Fact as ByFact}
 use Rattle.uc_fact.specs.declared.chain.Chain.{Chain}
 use Rattle.uc_fact.specs.declared.chain.Step.{Step}
 use Rattle.uc_fact.specs.declared.fact.Fact.{Fact}
 use Rattle.uc_fact.specs.declared.fact.Origin.{Origin}
 use Rattle.uc_fact.specs.declared.fact.Overlap.{Overlap}
 use Rattle.uc_fact.specs.declared.fact.Stop.{Stop}
-use Rattle.uc_fact.specs.Chains.{last_term, end_of, followed_by, step_back, steps_back, reversed, renumbered_step, renumbered_chain}
-use Rattle.uc_fact.specs.Live.{Live, Rule, numbered_from, equation_of, equations_of}
+use Rattle.uc_fact.specs.Chains.{last_term, end_of, followed_by, step_back, steps_back, reversed, renumbered_step}
+use Rattle.uc_fact.specs.Live.{Live, Rule, equation_of, equations_of}
 use Rattle.uc_fact.specs.Ground.{AreOfSignature}
 use Rattle.uc_rewrite.specs.declared.normal.Normal.{Normal}
 use Rattle.uc_rewrite.specs.Normalising.{IsNormalOf}
 use Rattle.uc_pair.specs.declared.formation.Formation.{Formation}
 use Rattle.uc_pair.specs.declared.formation.Formation.TheVariants.{Pair as Forms, TooLarge}
-use Rattle.uc_pair.specs.Overlapping.{Overlapping, shifted, peak, left_of, right_of, overlap_at, read_from}
-use Rattle.uc_pair.specs.Pairs.{IsPairBy, IsPairOf, forms_none, forms_pair, names_of as pair_names}
+use Rattle.uc_pair.specs.Overlapping.{Overlapping, shifted, peak, left_of, right_of, read_from}
+use Rattle.uc_pair.specs.Pairs.{IsPairBy, IsPairOf, forms_pair, names_of as pair_names}
 use Rattle.uc_shelf.specs.declared.entry.Entry.{Entry}
-use Rattle.uc_shelf.specs.Entries.{born, is_dead, equations, live}
+use Rattle.uc_shelf.specs.Entries.{born, live}
 use Rattle.uc_machine.specs.Lists.{Each}
 use Rattle.uc_machine.specs.Results.{Trial, way, names_of, made, IsPair, of_axiom, of_overlap, of_dead, IsTrial, GivesFact, left_is_greater, right_is_greater, none_is_greater}
 use Rattle.uc_machine.proofs.Lists.{Each-map}
-use Rattle.uc_machine.proofs.Meetings.{Each-append, Each-filter}
-use Rattle.uc_runs.specs.Signatures.{IsChainOver}
+use Rattle.uc_machine.proofs.Meetings.{Each-append}
 use Rattle.uc_runs.proofs.EachFact.{each_get, live_each}
 use Rattle.uc_runs.proofs.OverTerms.{Over, part_over, put_over, instance_over, normal_over}
 use Rattle.uc_runs.proofs.OverUnifiers.{is_symbol, unifier_over}

@@ -5,7 +5,7 @@ use Rattle.uc_term.specs.declared.equation.Equation.{Equation}
 use Rattle.uc_term.specs.Tree.{Tree, var, app, Trees, none, more, count, apply, apply_all, nodes, subterms, subterms_all, subterm, put, put_all}
 use Rattle.uc_term.specs.Over.{IsOver, AreOver, IsTerm}
 use Rattle.uc_term.specs.Variables.{Occurs, is_itself, in_args, OccursIn, in_first, in_later}
-use Rattle.uc_term.specs.Within.{Within, at_root, under, WithinOne, at_first, at_later}
+use Rattle.uc_term.specs.Within.{at_root, under, WithinOne, at_first, at_later}
 use Rattle.uc_fact.specs.declared.chain.Step.{Step}
 use Rattle.uc_fact.specs.declared.fact.Stop.{Stop}
 use Rattle.uc_fact.specs.Live.{Live, equations_of}

@@ -2,15 +2,12 @@
 -- and no step leads on from them.
 use Rattle.std.proofs.Common.{◌≡◌, ℕ, zero, suc, List, [], ◌∷◌, Bool, false, Option, Some, None, refl, ap, sym, ◌∙◌, inl, inr, subst, slice_get}
 use Rattle.std.proofs.lemmas.Bool.{cases_Bool}
-use Rattle.uc_term.specs.declared.equation.Equation.{Equation}
 use Rattle.uc_order.specs.Laws.{Meaning}
 use Rattle.uc_fact.specs.declared.chain.Chain.{Chain}
 use Rattle.uc_fact.specs.declared.fact.Fact.{Fact}
 use Rattle.uc_fact.specs.declared.fact.Stop.{Stop}
 use Rattle.uc_fact.specs.declared.fact.System.{System}
-use Rattle.uc_fact.specs.Chains.{end_of}
 use Rattle.uc_fact.specs.Live.{equations_of}
-use Rattle.uc_pair.specs.declared.formed.Formed.{Formed}
 use Rattle.uc_shelf.specs.Entries.{is_dead, live}
 use Rattle.uc_machine.specs.declared.state.Stage.{Stage}
 use Rattle.uc_machine.specs.declared.state.Stage.TheVariants.{Due, Busy, Continued, Settled, Stuck}

@@ -1,12 +1,12 @@
 -- The facts of a run have their variables numbered by first occurrence, and sides of at most 4,096 nodes.
-use Rattle.std.proofs.Common.{◌≡◌, ℕ, ◌+◌, ◌≤◌, ◌==◌, Bool, true, false, List, [], ◌∷◌, ◌++◌, Some, refl, sym, ap, ◌∙◌, subst, arith, append_assoc, append-nil, slice_get}
+use Rattle.std.proofs.Common.{◌≡◌, ℕ, ◌+◌, ◌≤◌, ◌==◌, Bool, true, false, List, [], ◌∷◌, ◌++◌, refl, sym, ap, ◌∙◌, subst, arith, append_assoc, append-nil}
 use Rattle.std.specs.Prelude.{◌||◌, if◌then◌else◌}
 use Rattle.std.proofs.lemmas.Bool.{eqb-true}
 use Rattle.uc_term.specs.declared.equation.Equation.{Equation}
 use Rattle.uc_term.specs.Tree.{Tree, var, apply, nodes}
-use Rattle.uc_term.specs.Variables.{Occurs, variables, is_among, firsts_after, firsts, place_of, renumbered_by}
+use Rattle.uc_term.specs.Variables.{variables, is_among, firsts_after, firsts, place_of, renumbered_by}
 use Rattle.uc_term.proofs.Agree.{same_if}
-use Rattle.uc_term.proofs.Firsts.{is_among-append, firsts-append}
+use Rattle.uc_term.proofs.Firsts.{firsts-append}
 use Rattle.uc_order.specs.Laws.{Meaning}
 use Rattle.uc_fact.specs.declared.chain.Chain.{Chain}
 use Rattle.uc_fact.specs.declared.chain.Step.{Step}
@@ -21,7 +21,7 @@ use Rattle.uc_rewrite.specs.Normalising.{Normalises, is_full, is_spent, is_large
 use Rattle.uc_pair.specs.declared.formation.Formation.{Formation}
 use Rattle.uc_pair.specs.declared.formation.Formation.TheVariants.{Pair as Forms, TooLarge}
 use Rattle.uc_pair.specs.Overlapping.{peak, left_of, right_of}
-use Rattle.uc_pair.specs.Pairs.{IsPairOf, forms_none, forms_pair, names_of as pair_names}
+use Rattle.uc_pair.specs.Pairs.{IsPairOf, forms_pair, names_of as pair_names}
 use Rattle.uc_pair.proofs.Names.{renamed_nodes}
 use Rattle.uc_pair.proofs.Renumbering.{same_numbered}
 use Rattle.uc_shelf.specs.declared.entry.Entry.{Entry}

@@ -1,5 +1,5 @@
 -- What a run comes to whose verdict is Saturated.
-use Rattle.std.specs.Prelude.{ℕ, ◌≡◌, ◌≢◌, List}
+use Rattle.std.specs.Prelude.{◌≡◌, ◌≢◌, List}
 use Rattle.uc_order.specs.Laws.{Meaning}
 use Rattle.uc_fact.specs.Live.{equations_of}
 use Rattle.uc_fact.specs.Chains.{end_of}
