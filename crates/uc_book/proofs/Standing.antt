@@ -183,7 +183,7 @@ not_there s w d e = λ t h. (let f : None ≡ Some t = sym e ∙ h.at in absurd 
 
 -- the task of the ticket isn't that of the result
 pub not_same : (s : State) (w : ℕ) (d : DoneTask) (t : Out) → out_at d.ticket s.out ≡ Some t → ((t.worker ≡ w) → (t.job ≡ d.job) → (take t.front s.entries ≡ d.front.entries) → ⊥) → IsNotOut s w d
-not_same s w d t e no = λ u h. (let f : Some t ≡ Some u = sym e ∙ h.at in let is : t ≡ u = cc in no (ap (λ (x : Out). x.worker) is ∙ h.worker) (ap (λ (x : Out). x.job) is ∙ h.job_is) (ap (λ (x : Out). take x.front s.entries) is ∙ h.front_is))
+not_same s w d t e differ = λ u h. (let f : Some t ≡ Some u = sym e ∙ h.at in let is : t ≡ u = cc in differ (ap (λ (x : Out). x.worker) is ∙ h.worker) (ap (λ (x : Out). x.job) is ∙ h.job_is) (ap (λ (x : Out). take x.front s.entries) is ∙ h.front_is))
 
 -- ends stay possible as long as the state does
 pub steady_end : (shelf : Shelves) (o : Opening) (p q : Parts) → IsSteady p q → CanEnd shelf o p → CanEnd shelf o q

@@ -1,4 +1,4 @@
-use Rattle.std.proofs.Common.{rules, arith, ◌≡◌, ◌<◌, length, get_or, sym, ap, ◌∙◌}
+use Rattle.std.proofs.Common.{arith, ◌≡◌, ◌<◌, length, sym, ap, ◌∙◌}
 use Rattle.uc_machine.specs.declared.event.Verdict.TheVariants.{PairsOut}
 use Rattle.uc_machine.specs.declared.event.Happening.TheVariants.{CommitMeet}
 use Rattle.uc_machine.specs.State.{State, Out}
@@ -23,8 +23,7 @@ close-requires c = omega (arith, c.accept.ensures.rest.history, c.accept.ensures
 pub returns-clause-state : goal.returns-clause-state
 returns-clause-state c = λ t s. (let p = c.args.self.now in
     let row = c.index.result.now in
-    let at : row ≡ get_or p.tasks.items c.args.at row = search (rules, c.index.ensures) in
-    let worker : row.worker ≡ t.worker = ap (λ (u : Out). u.worker) (row_out p.tasks.items c.args.at t row s at) in
+    let worker : row.worker ≡ t.worker = ap (λ (u : Out). u.worker) (row_out p.tasks.items c.args.at t row s c.index.ensures) in
     let met : State = is_met c.args.fact (accepts t (CommitMeet c.args.fact 0 0) (state_of p)) in
     c.close.ensures.state
     ∙ ap (λ x. closes row.worker (PairsOut c.args.waiting c.args.new) x) (settled_state c.accept.new.self c.settle.new.self c.args.fact c.settle.ensures ∙ ap (is_met c.args.fact) (c.accept.ensures.state t s))
