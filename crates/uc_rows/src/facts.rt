@@ -1,6 +1,6 @@
 //! The facts: the front of the entries, and for each fact what the front says of it and whether its meeting is to come.
 
-ghost use Rattle.std.specs.Prelude.{◌≡◌, ℕ, ◌+◌, ◌<◌, ◌≤◌, ◌^◌, ◌++◌, ◌∷◌, [], length, cond, true, false, Some, slice_get, slice_index_or, vec_capacity, OnOk};
+ghost use Rattle.std.specs.Prelude.{◌≡◌, ℕ, ◌+◌, ◌<◌, ◌≤◌, ◌^◌, ◌++◌, ◌∷◌, [], length, cond, true, false, Some, slice_get, slice_index_or, vec_capacity, OnOk, OnErr};
 ghost use Rattle.uc_shelf.specs.Entries.{born, is_dead};
 ghost use Rattle.uc_rows.specs.declared.facts.FactRow.{FactRow as AnyRow};
 ghost use Rattle.uc_machine.specs.declared.state.Meeting.{Meeting as AnyMeeting};
@@ -185,12 +185,14 @@ impl Facts {
         self.settle(fact, meeting);
     }
 
-    /// Makes room for so many more facts.
+    /// Makes room for so many more facts. It answers want of memory only where there is less room, and the facts are then as
+    /// before.
     pub fn reserve(&mut self, more: usize) -> Result<(), AllocError>
         ensures front { self.new.front ≡ self.old.front }
         ensures meetings { self.new.meetings ≡ self.old.meetings }
         ensures room { OnOk result (more ≤ self.new.room) }
         ensures kept { self.old.room ≤ self.new.room }
+        ensures refused { OnErr result (self.old.room < more) }
     {
         self.rows.reserve(more)
     }

@@ -1,6 +1,6 @@
 //! The pairs: what each comes from, the one state that it is in, and those that wait.
 
-ghost use Rattle.std.specs.Prelude.{◌≡◌, ℕ, ◌+◌, ◌<◌, ◌≤◌, ◌++◌, ◌∷◌, [], cond, length, Some, None, slice_get, IfOk, OnOk, MatchOption, option_map};
+ghost use Rattle.std.specs.Prelude.{◌≡◌, ℕ, ◌+◌, ◌<◌, ◌≤◌, ◌++◌, ◌∷◌, [], cond, length, min, Some, None, slice_get, IfOk, OnOk, OnErr, MatchOption, option_map};
 ghost use Rattle.uc_queue.specs.declared.entry.Entry.{Entry as Place};
 ghost use Rattle.uc_ledger.specs.declared.ledger.State.TheVariants.{Waiting, Out as OutTo, Done, Orphan};
 ghost use Rattle.uc_machine.specs.Lists.{change, map_option};
@@ -83,13 +83,16 @@ impl Pairs {
         })
     }
 
-    /// Makes room for so many more pairs, and for as many to wait.
+    /// Makes room for so many more pairs, and for as many to wait. It answers want of memory only where there is less room,
+    /// and the pairs are then as before.
     pub fn reserve(&mut self, alloc: Global, more: u32) -> Result<(), AllocError>
         ensures pairs { self.new.pairs ≡ self.old.pairs }
         ensures draws { self.new.draws ≡ self.old.draws }
         ensures room { OnOk result (more ≤ self.new.room) }
         ensures spare { OnOk result (more ≤ self.new.spare) }
         ensures kept { self.old.spare ≤ self.new.spare }
+        ensures kept_room { self.old.room ≤ self.new.room }
+        ensures refused { OnErr result (min self.old.room self.old.spare < more) }
     {
         self.rows.reserve(more as usize)?;
         self.states.reserve(alloc, more)?;
