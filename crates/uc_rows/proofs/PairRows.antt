@@ -50,6 +50,20 @@ row_at (r ∷ rs) [] n p d e = absurd (cc)
 row_at (r ∷ rs) (c ∷ cs) zero p d e = let h : pair_of r c ≡ p = cc in (omega arith, ap (λ (z : Pair). z.origin) h, ap (λ (z : Pair). z.weight) h)
 row_at (r ∷ rs) (c ∷ cs) (suc n) p d e = let h = row_at rs cs n p d e in (omega (arith, h.0), h.1, h.2)
 
+-- a pair is its row with its state
+pub pair_at : (rs : List PairRow) (cs : List Condition) (n : ℕ) (r : PairRow) (c : Condition) → n < length rs → r ≡ get_or rs n r → slice_get cs n ≡ Some c → slice_get (pairs_of rs cs) n ≡ Some (pair_of r c)
+pair_at [] cs n r c l e s = absurd (omega (arith, l))
+pair_at (x ∷ rs) [] n r c l e s = absurd (cc)
+pair_at (x ∷ rs) (d ∷ cs) zero r c l e s = (let f : d ≡ c = cc in ap (λ z. Some (pair_of z d)) (sym e) ∙ ap (λ z. Some (pair_of r z)) f)
+pair_at (x ∷ rs) (d ∷ cs) (suc n) r c l e s = pair_at rs cs n r c (omega (arith, l)) e s
+
+-- a number without a state has no pair
+pub no_pair : (rs : List PairRow) (cs : List Condition) (n : ℕ) → slice_get cs n ≡ None → slice_get (pairs_of rs cs) n ≡ None
+no_pair [] cs n e = refl
+no_pair (r ∷ rs) [] n e = refl
+no_pair (r ∷ rs) (c ∷ cs) zero e = absurd (cc)
+no_pair (r ∷ rs) (c ∷ cs) (suc n) e = no_pair rs cs n e
+
 -- THE QUEUE
 
 abbrev pub place_of : Pair → ℕ → Place

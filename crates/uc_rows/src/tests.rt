@@ -90,7 +90,7 @@ fn pairs_are_drawn(rt: HostRuntime) -> Result<(), Fail> {
     assert!(rt; pairs.row(1) == Some((Origin::Axiom(1), 3, State::Done)));
     assert!(rt; drop_head(&mut pairs)? == 0 && pairs.waiting() == 0);
     assert!(rt; pairs.row(0) == Some((Origin::Axiom(0), 5, State::Orphan)));
-    assert!(rt; pairs.head() == None && pairs.row(3) == None);
+    assert!(rt; pairs.head().is_none() && pairs.row(3).is_none());
     Ok(())
 }
 
@@ -341,8 +341,8 @@ fn numbers(alloc: Global) -> Result<Vec<Numbers>, AllocError>
 }
 
 fn are(numbers: &[Numbers], worker: usize, drawn: u64, commits: u64, reclaims: u64) -> bool {
-    numbers.get(worker)
-        == Some(&Numbers {
+    numbers.get(worker).copied()
+        == Some(Numbers {
             drawn,
             commits,
             reclaims,
