@@ -1,5 +1,5 @@
 -- The rows of facts that die.
-use Rattle.std.proofs.Common.{◌≡◌, ℕ, zero, suc, ◌+◌, ◌<◌, ◌≤◌, List, [], ◌∷◌, ◌++◌, length, Bool, true, false, ◌==◌, Option, Some, None, refl, ap, sym, ◌∙◌, arith, inl, inr, append_assoc, subst, slice_get, slice_index_or}
+use Rattle.std.proofs.Common.{◌≡◌, ℕ, zero, suc, ◌<◌, List, [], ◌∷◌, ◌++◌, length, Bool, true, false, ◌==◌, Some, refl, ap, sym, ◌∙◌, arith, inl, inr, append_assoc, subst, slice_get, slice_index_or}
 use Rattle.std.specs.Prelude.{◌||◌}
 use Rattle.std.proofs.lemmas.Bool.{cases_Bool, eqb-true, eqb-false}
 use Rattle.std.proofs.lemmas.List.{append-nil}
@@ -9,7 +9,7 @@ use Rattle.uc_shelf.specs.Entries.{born, is_dead}
 use Rattle.uc_machine.specs.declared.state.Meeting.{Meeting}
 use Rattle.uc_machine.specs.declared.state.Meeting.TheVariants.{Unmet, Visiting, Met}
 use Rattle.uc_rows.specs.declared.facts.FactRow.{FactRow}
-use Rattle.uc_machine.specs.Lists.{change, each}
+use Rattle.uc_machine.specs.Lists.{change}
 use Rattle.uc_machine.specs.State.{is_unmet}
 use Rattle.uc_machine.specs.Effects.{meets_unmet, sides_weight}
 use Rattle.uc_rows.specs.Rising.{AreBelow}

@@ -1,19 +1,18 @@
 -- Facts that die one after the other, taken together.
-use Rattle.std.proofs.Common.{◌≡◌, ℕ, zero, suc, ◌+◌, ◌<◌, ◌≤◌, List, [], ◌∷◌, ◌++◌, length, Bool, true, false, cond, ◌==◌, refl, ap, sym, ◌∙◌, arith, inl, inr, append_assoc, subst, map, slice_get}
-use Rattle.std.specs.Prelude.{◌||◌, not, filter}
+use Rattle.std.proofs.Common.{◌≡◌, ℕ, List, [], ◌∷◌, ◌++◌, Bool, true, false, ◌==◌, refl, ap, sym, ◌∙◌, inl, inr, append_assoc, map, slice_get}
+use Rattle.std.specs.Prelude.{◌||◌}
 use Rattle.std.proofs.lemmas.Bool.{cases_Bool, ne_eqb}
 use Rattle.std.proofs.lemmas.List.{append-nil}
 use Rattle.uc_fact.specs.declared.fact.Origin.TheVariants.{Revived}
 use Rattle.uc_ledger.specs.declared.ledger.State.TheVariants.{Waiting}
 use Rattle.uc_shelf.specs.declared.entry.Entry.{Entry}
 use Rattle.uc_shelf.specs.declared.entry.Entry.TheVariants.{Born, Dies}
-use Rattle.uc_shelf.specs.Entries.{born, is_dead}
+use Rattle.uc_shelf.specs.Entries.{is_dead}
 use Rattle.uc_machine.specs.declared.state.Stage.{Stage}
 use Rattle.uc_machine.specs.declared.state.Stage.TheVariants.{Due, Busy, Continued, Settled, Stuck}
-use Rattle.uc_machine.specs.declared.state.Meeting.{Meeting}
-use Rattle.uc_machine.specs.Lists.{change, each}
-use Rattle.uc_machine.specs.State.{State, Pair, Target}
-use Rattle.uc_machine.specs.Effects.{wakes, wakes_stage, kills, dies, meets_unmet, sides_weight}
+use Rattle.uc_machine.specs.Lists.{each}
+use Rattle.uc_machine.specs.State.{State, Target}
+use Rattle.uc_machine.specs.Effects.{wakes, wakes_stage, kills, dies, sides_weight}
 use Rattle.uc_rows.specs.Deaths.{alive_of, deaths_by, revived, met_by, woken_by, with_facts, all_dead}
 use Rattle.uc_machine.proofs.Kept.{NotIn, Distinct}
 use Rattle.uc_machine.proofs.Blocks.{born-dies}

@@ -1,5 +1,5 @@
 -- Lists as code has them, by index, and as the machine has them.
-use Rattle.std.proofs.Common.{◌≡◌, ℕ, zero, suc, ◌+◌, ◌-◌, ◌<◌, ◌≤◌, List, [], ◌∷◌, ◌++◌, length, get_or, set, take, drop, Bool, true, false, cond, Option, Some, None, refl, ap, sym, ◌∙◌, arith, subst, map, slice_get}
+use Rattle.std.proofs.Common.{◌≡◌, ℕ, zero, suc, ◌+◌, ◌<◌, ◌≤◌, List, [], ◌∷◌, length, get_or, set, Bool, true, false, cond, Option, Some, None, refl, ap, sym, arith, map, slice_get}
 use Rattle.std.specs.Prelude.{remove, min, Result, Ok, Err, OnOk}
 use Rattle.uc_machine.specs.Lists.{At, first, later, change, map_option, Each}
 

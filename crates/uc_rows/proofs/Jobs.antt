@@ -1,5 +1,5 @@
 -- The jobs about the goal that a search found.
-use Rattle.std.proofs.Common.{◌≡◌, ℕ, ◌<◌, List, length, slice_get, Option, Some, Bool, refl, ap, sym, ◌∙◌}
+use Rattle.std.proofs.Common.{◌≡◌, ℕ, ◌<◌, List, length, slice_get, Some, Bool, ap, sym, ◌∙◌}
 use Rattle.uc_term.specs.Tree.{Tree}
 use Rattle.uc_machine.specs.declared.task.Job.{Job}
 use Rattle.uc_machine.specs.Lists.{At, first, map_option}

@@ -1,8 +1,7 @@
 -- Tasks that are put back: at a place, by ticket, and all of them.
-use Rattle.std.proofs.Common.{◌≡◌, ℕ, zero, suc, ◌+◌, ◌-◌, ◌<◌, ◌≤◌, List, [], ◌∷◌, length, get_or, map, Bool, true, false, cond, ◌==◌, Option, Some, None, refl, ap, sym, ◌∙◌, arith, inl, inr, subst}
+use Rattle.std.proofs.Common.{◌≡◌, ℕ, zero, suc, ◌+◌, ◌<◌, List, [], ◌∷◌, length, get_or, map, true, false, cond, ◌==◌, None, refl, ap, sym, ◌∙◌, arith}
 use Rattle.std.specs.Prelude.{remove, count_by}
 use Rattle.std.proofs.lemmas.Bool.{eq-eqb, ne_eqb}
-use Rattle.std.proofs.lemmas.List.{length-map}
 use Rattle.std.proofs.lemmas.List.Sums.{sum_by-remove}
 use Rattle.uc_rows.specs.declared.tasks.TaskRow.{TaskRow}
 use Rattle.uc_machine.specs.declared.task.Job.{Job}
@@ -11,7 +10,6 @@ use Rattle.uc_machine.specs.Lists.{each}
 use Rattle.uc_machine.specs.State.{State, Out, out_at, without}
 use Rattle.uc_machine.specs.Effects.{reclaims, recalls}
 use Rattle.uc_rows.specs.TaskRows.{out_of, is_join, unit_if_join, StandsAt}
-use Rattle.uc_rows.proofs.Items.{length-remove}
 
 -- the task of a ticket, by index
 pub stands-at : (ts : List TaskRow) (n i : ℕ) (d : TaskRow) → i < length ts → ((e : TaskRow) → (get_or ts i e).ticket ≡ n) → ((k : ℕ) (e : TaskRow) → k < i → (get_or ts k e).ticket ≡ n → ⊥) → StandsAt ts i (out_of (get_or ts i d))

@@ -1,7 +1,7 @@
 -- The entries and the facts as the code holds them.
-use Rattle.std.specs.Prelude.{◌≡◌, ℕ, ◌+◌, ◌<◌, ◌≤◌, ◌^◌, ◌-◌, List, [], ◌∷◌, ◌++◌, Bool, false, map, length, cond, Option, Some, None, slice_get, slice_index_or, vec_len, vec_capacity}
+use Rattle.std.specs.Prelude.{◌≡◌, ℕ, ◌+◌, ◌<◌, ◌≤◌, ◌^◌, ◌-◌, List, [], ◌∷◌, ◌++◌, Bool, false, map, length, Option, Some, None, slice_get, slice_index_or, vec_len, vec_capacity}
 use Rattle.uc_shelf.specs.declared.entry.Entry.{Entry}
-use Rattle.uc_shelf.specs.declared.entry.Entry.TheVariants.{Born, Dies}
+use Rattle.uc_shelf.specs.declared.entry.Entry.TheVariants.{Born}
 use Rattle.uc_term.specs.Tree.{nodes}
 use Rattle.uc_fact.specs.declared.fact.Fact.{Fact}
 use Rattle.uc_shelf.specs.Entries.{born, is_dead}

@@ -1,5 +1,5 @@
 -- The pairs as the code holds them: what each comes from, its state, and those that wait.
-use Rattle.std.specs.Prelude.{◌≡◌, ℕ, ◌-◌, List, [], ◌∷◌, Option, Some, None, length, min, slice_get, vec_len, vec_capacity}
+use Rattle.std.specs.Prelude.{◌≡◌, ℕ, ◌-◌, List, [], ◌∷◌, Option, Some, length, min, slice_get, vec_len, vec_capacity}
 use Rattle.uc_fact.specs.declared.fact.Origin.{Origin}
 use Rattle.uc_queue.specs.declared.entry.Entry.{Entry as Place}
 use Rattle.uc_queue.specs.Queue.{next}

@@ -204,7 +204,9 @@ fn jobs_are_about_goals(rt: HostRuntime) -> Result<(), Fail> {
     let mut goals = two_goals(alloc)?;
     goals.turn(0, Stage::Continued);
     let due = next_job(alloc, &mut goals)?;
-    assert!(rt; draw_event(&due, 5) == Happening::DrawGoal { goal: 1, front: 5 } && units(&due) == 0);
+    assert!(rt;
+        draw_event(&due, 5) == Happening::DrawGoal { goal: 1, front: 5 } && units(&due) == 0
+    );
     goals.turn(1, Stage::Settled);
     let more = next_job(alloc, &mut goals)?;
     assert!(rt; reclaim_event(&more) == Happening::ReclaimMore { goal: 0 } && units(&more) == 1);

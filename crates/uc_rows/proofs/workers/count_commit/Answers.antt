@@ -1,4 +1,4 @@
-use Rattle.std.proofs.Common.{rules, arith, ◌<◌, ◌≤◌, length, sym}
+use Rattle.std.proofs.Common.{rules, arith, sym}
 use Rattle.uc_machine.specs.Effects.{one_commit}
 use Rattle.uc_rows.proofs.Items.{change-read, change-past}
 use Rattle.uc_rows.proofs.workers.count_commit.Goals as goal

@@ -1,4 +1,4 @@
-use Rattle.std.proofs.Common.{arith, ◌≡◌, ◌<◌, ◌≤◌, ◌++◌, length, get_or, take, sym, ap, ◌∙◌, subst}
+use Rattle.std.proofs.Common.{arith, ◌≡◌, ◌<◌, ◌++◌, length, get_or, take, sym, ap, ◌∙◌, subst}
 use Rattle.std.proofs.lemmas.List.{take_more, take_all}
 use Rattle.uc_machine.specs.Lists.{change}
 use Rattle.uc_rows.specs.RowViews.{FactsView}

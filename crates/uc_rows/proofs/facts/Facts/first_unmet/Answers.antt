@@ -1,4 +1,4 @@
-use Rattle.std.proofs.Common.{arith, ◌≡◌, ℕ, ◌<◌, ◌≤◌, length, sym, subst, ap, Some, None}
+use Rattle.std.proofs.Common.{arith, ◌≡◌, ◌<◌, length, sym, subst, Some, None}
 use Rattle.uc_machine.specs.declared.state.Meeting.{Meeting}
 use Rattle.uc_machine.specs.Lists.{At, first, map_option}
 use Rattle.uc_machine.specs.State.{is_unmet}

@@ -1,8 +1,7 @@
-use Rattle.std.proofs.Common.{rules, arith, refl, ◌≡◌, ℕ, ◌-◌, ◌<◌, ◌≤◌, length, get_or, ◌^◌, sym, ap, ◌∙◌}
+use Rattle.std.proofs.Common.{rules, arith, refl, ◌≡◌, ◌-◌, ◌<◌, ◌≤◌, length, get_or, ◌^◌, sym, ap, ◌∙◌}
 use Rattle.std.specs.Prelude.{vec_len, vec_capacity}
 use Rattle.std.proofs.lemmas.List.{length-map, length-set, get_or_read}
 use Rattle.uc_rows.specs.declared.facts.FactRow.{FactRow}
-use Rattle.uc_machine.specs.State.{is_unmet}
 use Rattle.uc_rows.specs.RowViews.{FactsView}
 use Rattle.uc_rows.specs.FactRows.{meetings_of}
 use Rattle.uc_rows.proofs.Items.{change-set, change-past, back-le, back-at}

@@ -1,6 +1,6 @@
 use Rattle.std.proofs.Common.{◌≡◌, ◌<◌, length, Some, sym, ap, ◌∙◌, subst, List, slice_get}
 use Rattle.uc_machine.specs.declared.task.Job.TheVariants.{More}
-use Rattle.uc_machine.specs.Lists.{At, first, map_option}
+use Rattle.uc_machine.specs.Lists.{map_option}
 use Rattle.uc_fact.specs.Chains.{end_of}
 use Rattle.uc_machine.specs.State.{Target, is_continued}
 use Rattle.uc_rows.proofs.Jobs.{found_below, jobs_are}

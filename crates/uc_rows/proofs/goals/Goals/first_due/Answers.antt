@@ -1,5 +1,4 @@
-use Rattle.std.proofs.Common.{arith, ◌≡◌, ℕ, ◌<◌, ◌≤◌, length, sym, subst, List, Some, None}
-use Rattle.uc_rows.specs.declared.goals.GoalRow.{GoalRow}
+use Rattle.std.proofs.Common.{arith, ◌≡◌, ◌<◌, length, sym, subst, List, Some, None}
 use Rattle.uc_machine.specs.Lists.{At, first, map_option}
 use Rattle.uc_machine.specs.State.{Target, is_due}
 use Rattle.uc_rows.specs.GoalRows.{NoneBelow}

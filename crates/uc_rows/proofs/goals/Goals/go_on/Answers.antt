@@ -1,4 +1,4 @@
-use Rattle.std.proofs.Common.{arith, ◌≡◌, ◌<◌, length, get_or, ap, ◌∙◌}
+use Rattle.std.proofs.Common.{arith, ◌≡◌, ◌<◌, length, ap, ◌∙◌}
 use Rattle.std.proofs.lemmas.List.{length-map, get_or_read}
 use Rattle.uc_rows.specs.declared.goals.GoalRow.{GoalRow}
 use Rattle.uc_machine.specs.Effects.{goes_on}

@@ -1,4 +1,4 @@
-use Rattle.std.proofs.Common.{rules, arith, ◌≡◌, ℕ, ◌+◌, ◌<◌, ◌≤◌, length, get_or, sym, ap, ◌∙◌}
+use Rattle.std.proofs.Common.{rules, arith, ◌≡◌, ◌<◌, length, get_or, sym, ap, ◌∙◌}
 use Rattle.std.proofs.lemmas.List.{length-set, get_or_read}
 use Rattle.uc_rows.specs.declared.goals.GoalRow.{GoalRow}
 use Rattle.uc_machine.specs.State.{is_continued}

@@ -1,4 +1,4 @@
-use Rattle.std.proofs.Common.{arith, ◌≡◌, length, sym, ◌∙◌, ap}
+use Rattle.std.proofs.Common.{arith, ◌≡◌, length, ap}
 use Rattle.uc_rows.specs.RowViews.{PairsView}
 use Rattle.uc_rows.specs.PairRows.{pairs_of}
 use Rattle.uc_rows.proofs.PairRows.{length-pairs_of}

@@ -1,10 +1,10 @@
-use Rattle.std.proofs.Common.{rules, arith, refl, ◌≡◌, ◌<◌, length, get_or, sym, ◌∙◌, ap}
+use Rattle.std.proofs.Common.{rules, arith, refl, ◌≡◌, ◌<◌, length, get_or, ◌∙◌, ap}
 use Rattle.std.proofs.lemmas.List.{length-set}
 use Rattle.uc_ledger.specs.declared.ledger.State.TheVariants.{Out as OutTo, Waiting}
 use Rattle.uc_machine.specs.State.{is_waiting}
-use Rattle.uc_rows.specs.declared.pairs.PairRow.{PairRow}
 use Rattle.uc_rows.proofs.PairChanges.{pair_in, row_inside, row_weight, out_new, turned, queue_again}
 use Rattle.uc_rows.proofs.pairs.Pairs.give_back.Goals as goal
+use Rattle.uc_rows.proofs.pairs.Pairs.give_back.Goals.{in-Ok, in-Err+else-prove}
 
 pub index-requires : goal.index-requires
 index-requires c =
@@ -23,13 +23,23 @@ pub invariant_of-self : goal.invariant_of-self
 invariant_of-self c =
     let i = c.self.inside in
     let p = pair_in i c.args.self.now c.args.number (OutTo c.args.worker) c.self.view_is c.requires.out in
-    let t = c.in-Ok.ensures in
-    let row = c.index.result in
-    let weight : row.weight ≡ p.pair.weight = row_weight i c.args.number (OutTo c.args.worker) row p c.index.ensures in
-    record {
-      as_many = ap length t.becomes ∙ length-set i.states.states c.args.number Waiting ∙ c.self.invariant.as_many;
-      queue = queue_again i.rows.items i.states.states c.give_back.new.self.states c.args.number row.weight p.pair i.queue.waiting c.back.new.self.waiting t.becomes p.at (ap is_waiting p.condition) weight c.self.invariant.queue c.back.ensures.added;
-    }
+    let row = c.index.result.now in
+    let at : row ≡ get_or i.rows.items c.args.number row = search (rules, c.index.ensures) in
+    let weight : row.weight ≡ p.pair.weight = row_weight i c.args.number (OutTo c.args.worker) row p at in
+    elim c.match-give_back.branch [
+      | in-Ok w ↦
+          let t = w.in-Ok.ensures in
+          record {
+            as_many = ap length t.becomes ∙ length-set i.states.states c.args.number Waiting ∙ c.self.invariant.as_many;
+            queue = queue_again i.rows.items i.states.states c.give_back.new.self.states c.args.number row.weight p.pair i.queue.waiting c.back.new.self.waiting t.becomes p.at (ap is_waiting p.condition) weight c.self.invariant.queue c.back.ensures.added;
+          }
+      | in-Err+else-prove w ↦ absurd (w.in-Err.ensures.other (w.in-Err.ensures.is ∙ p.state))
+    ]
 
 pub returns-clause-pairs : goal.returns-clause-pairs
-returns-clause-pairs c = rw (← c.self.view_is) (turned c.self.inside.rows.items c.self.inside.states.states c.give_back.new.self.states c.args.number Waiting c.in-Ok.ensures.becomes)
+returns-clause-pairs c =
+    let p = pair_in c.self.inside c.args.self.now c.args.number (OutTo c.args.worker) c.self.view_is c.requires.out in
+    elim c.match-give_back.branch [
+      | in-Ok w ↦ rw (← c.self.view_is) (turned c.self.inside.rows.items c.self.inside.states.states c.give_back.new.self.states c.args.number Waiting w.in-Ok.ensures.becomes)
+      | in-Err+else-prove w ↦ absurd (w.in-Err.ensures.other (w.in-Err.ensures.is ∙ p.state))
+    ]
