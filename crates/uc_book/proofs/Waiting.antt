@@ -1,7 +1,7 @@
 -- What waits, and the draws that give no task.
 use Rattle.std.proofs.Common.{◌≡◌, ℕ, ◌+◌, ◌<◌, ◌≤◌, ◌==◌, List, [], ◌∷◌, length, map, Bool, true, false, Option, Some, None, refl, ap, sym, ◌∙◌, arith, subst}
 use Rattle.std.specs.Prelude.{MatchOption, is_some, not, ◌↔◌, ◌≢◌}
-use Rattle.std.proofs.lemmas.Bool.{false≢true, eqb-true, eqb-false}
+use Rattle.std.proofs.lemmas.Bool.{false≢true, ne_eqb}
 use Rattle.std.proofs.lemmas.List.{length-map}
 use Rattle.uc_fact.specs.declared.fact.Origin.{Origin}
 use Rattle.uc_queue.specs.declared.entry.Entry.{Entry as Place}
@@ -65,4 +65,4 @@ module _ (o : Opening) (w : ℕ) (p : Parts) (late : IsLate (state_of p)) where
 -- some task is out, as the test of the list says it
 pub has_some : (ts : List TaskRow) (b : Bool) → b ≡ (length ts == 0) → (not b ≡ true) ↔ (0 < length (map out_of ts))
 has_some [] b e = (λ h. absurd (false≢true (ap not (sym e) ∙ h)), λ l. absurd (omega (arith, l)))
-has_some (t ∷ ts) b e = (λ h. omega arith, λ l. ap not e)
+has_some (t ∷ ts) b e = (λ h. omega arith, λ l. ap not (e ∙ ne_eqb (length (t ∷ ts)) 0 (λ z. absurd (omega (arith, z)))))
