@@ -38,6 +38,16 @@ each_get P [] a n x e = absurd (cc)
 each_get P (y ∷ xs) a zero x e = let p : y ≡ x = cc in subst P p a.0
 each_get P (y ∷ xs) a (suc n) x e = each_get P xs a.1 n x e
 
+-- of two lists of one length, the one has an item where the other has
+pub get_there : {A B : Type 0} (xs : List A) (ys : List B) (n : ℕ) (y : B) → length xs ≡ length ys → slice_get ys n ≡ Some y → (x : A) × (slice_get xs n ≡ Some x)
+get_there xs [] n y e at = absurd (cc)
+get_there [] (z ∷ ys) n y e at = absurd (cc)
+get_there (x ∷ xs) (z ∷ ys) zero y e at = (x, refl)
+get_there (x ∷ xs) (z ∷ ys) (suc n) y e at = get_there xs ys n y (suc_same e) at
+  where
+    suc_same : {a b : ℕ} → suc a ≡ suc b → a ≡ b
+    suc_same q = cc
+
 -- the equations of facts that are born, and of those that live
 
 pub equations_each : (P : Equation → Type 0) (fs : List Fact) → Each (λ (f : Fact). P (equation_of f)) fs → Each P (map equation_of fs)

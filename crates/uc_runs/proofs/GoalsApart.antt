@@ -1,6 +1,6 @@
 -- In a run whose verdict is Saturated the axioms make the sides of each goal equal to two different terms, from which no ordered
 -- step leads on.
-use Rattle.std.proofs.Common.{◌≡◌, ℕ, zero, suc, List, [], ◌∷◌, ◌++◌, length, Some, refl, subst, map, slice_get}
+use Rattle.std.proofs.Common.{◌≡◌, ℕ, zero, suc, List, [], ◌∷◌, ◌++◌, Some, subst, map, slice_get}
 use Rattle.uc_term.specs.declared.equation.Equation.{Equation}
 use Rattle.uc_term.specs.Tree.{Tree, var, apply}
 use Rattle.uc_term.specs.Conversion.{Conv}
@@ -22,7 +22,7 @@ use Rattle.uc_decide.specs.Deciding.{AreAllApart}
 use Rattle.uc_decide.proofs.Derived.{facts_follow}
 use Rattle.uc_runs.specs.Signatures.{OpensOver, AreGroundEquations}
 use Rattle.uc_runs.specs.Saturated.{EndsDiffer}
-use Rattle.uc_runs.proofs.EachFact.{each_get}
+use Rattle.uc_runs.proofs.EachFact.{each_get, get_there}
 use Rattle.uc_runs.proofs.OverRuns.{ends_stay_ground}
 use Rattle.uc_runs.proofs.Replaying.{chains_replay}
 use Rattle.uc_runs.proofs.Saturating.{saturated}
@@ -42,15 +42,6 @@ leads_convert axioms facts replays c u v l =
     let by_all : Conv (equations axioms facts) c.start (last_term c.start c.steps) = replacements_convert axioms facts c.start c.steps l.replays in
     let whole : Conv axioms c.start (last_term c.start c.steps) = Conv-follows (equations axioms facts) axioms all by_all in
     subst (λ (z : Tree). Conv axioms u z) l.end_is (subst (λ (z : Tree). Conv axioms z (last_term c.start c.steps)) l.start_is whole)
-
-get_there : {A B : Type 0} (xs : List A) (ys : List B) (n : ℕ) (y : B) → length xs ≡ length ys → slice_get ys n ≡ Some y → (x : A) × (slice_get xs n ≡ Some x)
-get_there xs [] n y e at = absurd (cc)
-get_there [] (z ∷ ys) n y e at = absurd (cc)
-get_there (x ∷ xs) (z ∷ ys) zero y e at = (x, refl)
-get_there (x ∷ xs) (z ∷ ys) (suc n) y e at = get_there xs ys n y (suc_same e) at
-  where
-    suc_same : {a b : ℕ} → suc a ≡ suc b → a ≡ b
-    suc_same q = cc
 
 module _ (m : Meaning) (laws : Laws m) (o : Opening) (over : OpensOver m o) (ground : AreGroundEquations m o.goals) where
   pub goals_apart : (s : State) → Reaches m o s → s.verdict ≡ Some Saturated → AreAllApart m (equations_of (live s.entries)) o.axioms o.goals

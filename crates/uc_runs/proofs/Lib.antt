@@ -15,6 +15,10 @@ pub mod OverUnifiers
 pub mod OverFound
 pub mod OverRuns
 pub mod OpenGoals
+pub mod Verdicts
 pub mod Saturating
 pub mod GoalsApart
 pub mod WrittenFacts
+pub mod ProvedGoals
+pub mod FewFacts
+pub mod LargeOverlaps

@@ -9,6 +9,7 @@ use Rattle.uc_fact.specs.declared.chain.Chain.{Chain}
 use Rattle.uc_fact.specs.declared.fact.Fact.{Fact}
 use Rattle.uc_fact.specs.declared.fact.Stop.{Stop}
 use Rattle.uc_fact.specs.Chains.{last_term, end_of, followed_by}
+use Rattle.uc_shelf.specs.declared.entry.Entry.{Entry}
 use Rattle.uc_shelf.specs.Entries.{is_dead}
 use Rattle.uc_machine.specs.declared.state.Stage.{Stage}
 use Rattle.uc_machine.specs.declared.state.Stage.TheVariants.{Due, Busy, Continued, Settled, Stuck}
@@ -192,6 +193,15 @@ held_meets : (o : Opening) (t : Out) (i pairs : ℕ) (does : State → State) (s
 held_meets o t i pairs does s _ at is g (within_limit died b c) a = g _ (λ v. ends_other s.goals s.out t.ticket t at (free_join t (Meet i) is (λ n q. q)) (a v))
 held_meets o t i pairs does s _ at is g (past_limit more b c) a = λ v. absurd (cc)
 
+-- the ends of a goal that goes on are those of its result
+pub new_ends : (m : Meaning) (gs : List Target) (es : List Entry) (g : ℕ) (l r : Tree) (c d : Chain) (stop : Stop) → HasEnds gs g l r → GoalResult m es l r c d stop → (y : Target) → slice_get gs g ≡ Some y → (end_of (followed_by y.left c) ≡ end_of c) × (end_of (followed_by y.right d) ≡ end_of d)
+new_ends m gs es g l r c d stop has q y at =
+    let left_start : c.start ≡ l = sym (ap (λ (z : Chain). z.start) q.left_is) ∙ q.both.left_is.start in
+    let right_start : d.start ≡ r = sym (ap (λ (z : Chain). z.start) q.right_is) ∙ q.both.right_is.start in (
+      end_followed y.left c l (has y at).0 ∙ ap (λ (z : Tree). last_term z c.steps) (sym left_start),
+      end_followed y.right d r (has y at).1 ∙ ap (λ (z : Tree). last_term z d.steps) (sym right_start),
+    )
+
 module _ (m : Meaning) (o : Opening) where
   -- a goal's task ends
   goal_held : (s : State) (kind : ℕ → ℕ → GoalEnd → Happening) (t : Out) (g : ℕ) (l r : Tree) (c d : Chain) (stop : Stop) (u : State)
@@ -201,14 +211,8 @@ module _ (m : Meaning) (o : Opening) where
       subst (λ (gs : List Target). Holds gs (without t.ticket s.out)) (sym (change_twice (λ (y : Target). record y { stage = x }) (goes_on c d) s.goals g))
       (holds_changed (λ (y : Target). record (goes_on c d y) { stage = x }) s.goals g s.out (without t.ticket s.out) (λ y k b. absurd (not_busy t s stop x after b)) apart_ gone (a v))
     where
-      left_end : (y : Target) → slice_get s.goals g ≡ Some y → end_of (followed_by y.left c) ≡ end_of c
-      left_end y k = end_followed y.left c l (has y k).0 ∙ ap (λ (z : Tree). last_term z c.steps) (sym (sym (ap (λ (z : Chain). z.start) q.left_is) ∙ q.both.left_is.start))
-
-      right_end : (y : Target) → slice_get s.goals g ≡ Some y → end_of (followed_by y.right d) ≡ end_of d
-      right_end y k = end_followed y.right d r (has y k).1 ∙ ap (λ (z : Tree). last_term z d.steps) (sym (sym (ap (λ (z : Chain). z.start) q.right_is) ∙ q.both.right_is.start))
-
       apart_ : (y : Target) → slice_get s.goals g ≡ Some y → x ≡ Settled → end_of (followed_by y.left c) ≡ end_of (followed_by y.right d) → ⊥
-      apart_ y k b same = e (sym (left_end y k) ∙ same ∙ right_end y k)
+      apart_ y k b same = let ends = new_ends m s.goals (take t.front s.entries) g l r c d stop has q y k in e (sym ends.0 ∙ same ∙ ends.1)
 
       gone : (n : ℕ) → IsOut n s.out → (g ≡ n) ⊎ IsOut n (without t.ticket s.out)
       gone n k = elim (out_without n t.ticket s.out t at k) [

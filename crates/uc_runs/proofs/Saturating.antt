@@ -4,11 +4,10 @@ use Rattle.std.proofs.Common.{◌≡◌, ℕ, zero, suc, List, [], ◌∷◌, Bo
 use Rattle.std.proofs.lemmas.Bool.{cases_Bool}
 use Rattle.uc_order.specs.Laws.{Meaning}
 use Rattle.uc_fact.specs.declared.chain.Chain.{Chain}
-use Rattle.uc_fact.specs.declared.fact.Fact.{Fact}
 use Rattle.uc_fact.specs.declared.fact.Stop.{Stop}
 use Rattle.uc_fact.specs.declared.fact.System.{System}
 use Rattle.uc_fact.specs.Live.{equations_of}
-use Rattle.uc_shelf.specs.Entries.{is_dead, live}
+use Rattle.uc_shelf.specs.Entries.{live}
 use Rattle.uc_machine.specs.declared.state.Stage.{Stage}
 use Rattle.uc_machine.specs.declared.state.Stage.TheVariants.{Due, Busy, Continued, Settled, Stuck}
 use Rattle.uc_machine.specs.declared.event.Verdict.{Verdict}
@@ -16,52 +15,23 @@ use Rattle.uc_machine.specs.declared.event.Verdict.TheVariants.{Saturated}
 use Rattle.uc_machine.specs.declared.event.GoalEnd.{GoalEnd}
 use Rattle.uc_machine.specs.declared.event.Happening.{Happening}
 use Rattle.uc_machine.specs.declared.task.Finding.{Finding}
-use Rattle.uc_machine.specs.declared.task.Job.{Job}
-use Rattle.uc_machine.specs.declared.task.Job.TheVariants.{Goal, More, Meet, Join}
 use Rattle.uc_machine.specs.declared.task.Outcome.{Outcome}
 use Rattle.uc_machine.specs.declared.task.Outcome.TheVariants.{Convergent}
 use Rattle.uc_machine.specs.Commits.{GoalEnds, ends_meet, ends_differ, Meets, within_limit, past_limit, newly_waiting, stays, Commits, is_late, goal_ends, more_ends, pair_joins, fact_is_kept, fact_is_stale, fact_is_dead, fact_meets}
-use Rattle.uc_machine.specs.Draws.{Reply, Draws, verdict_stands, goal_is_due, fact_is_unmet, orphan_is_dropped, goal_is_continued, pair_is_drawn, budget_is_out, budget_is_spent, all_is_out, all_is_done}
-use Rattle.uc_machine.specs.Effects.{closes, kills, visits, drops, reclaims, recalls}
+use Rattle.uc_machine.specs.Effects.{closes, kills, visits, reclaims, recalls}
 use Rattle.uc_machine.specs.Finals.{IsFinal, some_missing, some_large, some_stuck, all_converges, is_stuck, first_stuck}
 use Rattle.uc_machine.specs.Lists.{At, first, later, each, Each}
 use Rattle.uc_machine.specs.Promises.{StaysAtRest}
-use Rattle.uc_machine.specs.Runs.{Starts, axioms_wait, too_many_axioms, AuditReply, Audits, is_closed, is_spent, is_kept, Closes, converges, has_large, has_stuck, IsDrained, Reaches, starts, draws_on, commits_on, reclaims_on, recalls_on, audits_on, closes_on}
+use Rattle.uc_machine.specs.Runs.{Starts, axioms_wait, too_many_axioms, Closes, converges, has_large, has_stuck, IsDrained, Reaches, starts, draws_on, commits_on, reclaims_on, recalls_on, audits_on, closes_on}
 use Rattle.uc_machine.specs.State.{Opening, State, Target, Out, is_due, is_continued, out_at}
 use Rattle.uc_runs.specs.Saturated.{EndsDiffer, IsSaturated}
 use Rattle.uc_runs.proofs.AtRest.{goals_at_rest}
 use Rattle.uc_runs.proofs.OpenGoals.{IsOut, held_reaches}
+use Rattle.uc_runs.proofs.Verdicts.{draws_nothing, audits_nothing, kills_verdict, each_verdict, restored_verdict, recalled_verdict}
 use Rattle.uc_runs.proofs.EachFact.{each_get}
-
--- which calls leave the verdict
 
 abbrev Ends : State → Type 0
 Ends s = s.verdict ≡ Some Saturated
-
-still_open : {A : Type 0} (s : State) → s.verdict ≡ None → Ends s → A
-still_open s e h = let q : None ≡ Some Saturated = sym e ∙ h in absurd (cc)
-
-draws_nothing : (o : Opening) (w : ℕ) (s : State) (r : Reply) (u : State) → Draws o w s r u → Ends u → u ≡ s
-draws_nothing o w s _ _ (verdict_stands v e) h = refl
-draws_nothing o w s _ _ (goal_is_due g e f) h = still_open s e h
-draws_nothing o w s _ _ (fact_is_unmet i n f) h = still_open s n.open_ h
-draws_nothing o w s r u (orphan_is_dropped p n e f d) h = let q = draws_nothing o w (drops w p.number s) r u d h in still_open s n.none_due.open_ (sym (ap (λ (z : State). z.verdict) q) ∙ h)
-draws_nothing o w s _ _ (goal_is_continued g l f room) h = still_open s l.none_unmet.none_due.open_ h
-draws_nothing o w s _ _ (pair_is_drawn p x l f e at room) h = still_open s l.none_unmet.none_due.open_ h
-draws_nothing o w s _ _ (budget_is_out l b c d) h = refl
-draws_nothing o w s _ _ (budget_is_spent l b c d) h = absurd (cc)
-draws_nothing o w s _ _ (all_is_out l b c) h = refl
-draws_nothing o w s _ _ (all_is_done l b c) h = refl
-
-kills_verdict : (i k : ℕ) (s : State) → (kills i k s).verdict ≡ s.verdict
-kills_verdict i k s = elim (cases_Bool (is_dead s.entries k)) as (λ _. (kills i k s).verdict ≡ s.verdict) [
-  | inl e ↦ rw e refl
-  | inr e ↦ rw e refl
-]
-
-each_verdict : (i : ℕ) (ks : List ℕ) (s : State) → (each (kills i) ks s).verdict ≡ s.verdict
-each_verdict i [] s = refl
-each_verdict i (k ∷ ks) s = each_verdict i ks (kills i k s) ∙ kills_verdict i k s
 
 goal_verdict : (kind : ℕ → ℕ → GoalEnd → Happening) (t : Out) (g : ℕ) (l r : Chain) (stop : Stop) (s u : State) → GoalEnds kind t g l r stop s u → Ends u → Ends s
 goal_verdict kind t g l r stop s _ (ends_meet e) h = absurd (cc)
@@ -81,24 +51,9 @@ commits_verdict o t _ s u (fact_is_stale {k = k} i e is x) h = meets_verdict o t
 commits_verdict o t _ s u (fact_is_dead i e is d x) h = meets_verdict o t i 0 stays s u (λ y. refl) x h
 commits_verdict o t _ s u (fact_meets {ks = ks} {fs = fs} i e is d x) h = meets_verdict o t i (newly_waiting fs (each (λ c. kills i c) ks s)) (λ y. visits i ks fs y) s u (λ y. each_verdict i ks y) x h
 
-restored_verdict : (n w fr : ℕ) (j : Job) (s : State) → (let t : Out = record { ticket = n; worker = w; job = j; front = fr } in (reclaims t s).verdict ≡ s.verdict)
-restored_verdict n w fr (Goal g l r) s = refl
-restored_verdict n w fr (More g l r) s = refl
-restored_verdict n w fr (Meet i) s = refl
-restored_verdict n w fr (Join p a) s = refl
-
-recalled_verdict : (ts : List Out) (s : State) → (each reclaims ts s).verdict ≡ s.verdict
-recalled_verdict [] s = refl
-recalled_verdict (t ∷ ts) s = recalled_verdict ts (reclaims t s) ∙ restored_verdict t.ticket t.worker t.front t.job s
-
 recalls_nothing : (ts : List Out) (s : State) → ts ≡ [] → each reclaims ts s ≡ s
 recalls_nothing [] s e = refl
 recalls_nothing (t ∷ ts) s e = absurd (cc)
-
-audits_nothing : (o : Opening) (f : Fact) (s u : State) (r : AuditReply) → Audits o f s r u → Ends u → u ≡ s
-audits_nothing o f s _ _ (is_closed v e) h = refl
-audits_nothing o f s _ _ (is_spent e c) h = absurd (cc)
-audits_nothing o f s _ _ (is_kept e c) h = still_open s e h
 
 none_at : {A : Type 0} (n : ℕ) (out : List Out) (t : Out) → out ≡ [] → out_at n out ≡ Some t → A
 none_at n [] t e at = absurd (cc)
@@ -159,11 +114,11 @@ module _ (m : Meaning) (o : Opening) where
 
   was_closed : (s : State) → Reaches m o s → Ends s → IsClosed s
   was_closed s (starts a) h = absurd (starts_open s a h)
-  was_closed u (draws_on {s = s} {r = r} w l a d) h = let e = draws_nothing o w s r u d h in same_closed s u e (was_closed s a (sym (ap (λ (z : State). z.verdict) e) ∙ h))
+  was_closed u (draws_on {s = s} {r = r} w l a d) h = let e = draws_nothing Saturated (λ n q. cc) o w s r u d h in same_closed s u e (was_closed s a (sym (ap (λ (z : State). z.verdict) e) ∙ h))
   was_closed u (commits_on {s = s} {f = f} t at right a c) h = none_at t.ticket s.out t (closed_out s (was_closed s a (commits_verdict o t f s u c h))) at
   was_closed _ (reclaims_on {s = s} t at a) h = none_at t.ticket s.out t (closed_out s (was_closed s a (sym (restored_verdict t.ticket t.worker t.front t.job s) ∙ h))) at
   was_closed _ (recalls_on {s = s} a) h = let c = was_closed s a (sym (recalled_verdict s.out s) ∙ h) in same_closed s (recalls s) (recalls_nothing s.out s (closed_out s c)) c
-  was_closed u (audits_on {s = s} {answer = r} x may a b) h = let e = audits_nothing o x.fact s u r b h in same_closed s u e (was_closed s a (sym (ap (λ (z : State). z.verdict) e) ∙ h))
+  was_closed u (audits_on {s = s} {answer = r} x may a b) h = let e = audits_nothing Saturated (λ n q. cc) o x.fact s u r b h in same_closed s u e (was_closed s a (sym (ap (λ (z : State). z.verdict) e) ∙ h))
   was_closed u (closes_on {s = s} {outcome = outcome} {v = v} d f a c) h = closes_so s u outcome v c d f a h
 
   -- a convergent answer has the facts that live, and no goal is Stuck

@@ -1,16 +1,18 @@
 //! What every run of the machine keeps, each the contract of a function that does nothing.
 
-ghost use Rattle.std.specs.Prelude.{◌≡◌, List, Some};
+ghost use Rattle.std.specs.Prelude.{◌≡◌, ◌≤◌, ℕ, List, Some, length};
 ghost use Rattle.uc_term.specs.declared.equation.Equation.{Equation as AnyEquation};
 ghost use Rattle.uc_order.specs.Laws.{HasSym};
+ghost use Rattle.uc_fact.specs.declared.fact.Overlap.{Overlap as AnyOverlap};
 ghost use Rattle.uc_fact.specs.Ground.{AreOfSignature};
 ghost use Rattle.uc_fact.specs.Live.{equations_of};
 ghost use Rattle.uc_shelf.specs.declared.entry.Entry.{Entry as AnyEntry};
-ghost use Rattle.uc_shelf.specs.Entries.{live};
-ghost use Rattle.uc_machine.specs.declared.event.Verdict.TheVariants.{Saturated};
+ghost use Rattle.uc_shelf.specs.Entries.{born, live};
+ghost use Rattle.uc_machine.specs.declared.event.Verdict.TheVariants.{Proved, Saturated};
 ghost use Rattle.uc_machine.specs.declared.task.Finding.{Finding as AnyFinding};
 ghost use Rattle.uc_machine.specs.declared.task.Job.{Job as AnyJob};
 ghost use Rattle.uc_machine.specs.declared.task.Outcome.{Outcome as AnyOutcome};
+ghost use Rattle.uc_machine.specs.declared.task.Outcome.TheVariants.{Large};
 ghost use Rattle.uc_machine.specs.State.{Opening, State};
 ghost use Rattle.uc_machine.specs.Results.{IsResult};
 ghost use Rattle.uc_machine.specs.Finals.{IsFinal};
@@ -21,6 +23,8 @@ ghost use Rattle.uc_decide.specs.Deciding.{AreAllApart};
 ghost use Rattle.uc_runs.specs.Signatures.{OpensOver, IsOver, AreGroundEquations, EndsAreGround};
 ghost use Rattle.uc_runs.specs.Saturated.{IsSaturated};
 ghost use Rattle.uc_runs.specs.Written.{AreNumbered, AreSmall};
+ghost use Rattle.uc_runs.specs.Proved.{IsProved};
+ghost use Rattle.uc_runs.specs.Large.{IsLargeOverlap};
 
 use uc_order::Order;
 
@@ -105,4 +109,19 @@ pub fn facts_are_numbered<O: Order>(order: &O)
 /// No side of a fact that lives has more than 4,096 nodes, where no axiom's has.
 pub fn facts_are_small<O: Order>(order: &O)
     ensures { (o : Opening) (s : State) → AreSmall o.axioms → Reaches (O.meaning order.now) o s → AreSmall (equations_of (live s.entries)) }
+{}
+
+/// No more facts are born than the budget has units.
+pub fn facts_within_budget<O: Order>(order: &O)
+    ensures { (o : Opening) (s : State) → Reaches (O.meaning order.now) o s → length (born s.entries) ≤ o.budget }
+{}
+
+/// A run whose verdict is that a goal is proved has this goal, whose two chains lead from its sides to one term.
+pub fn proved_goal_meets<O: Order>(order: &O)
+    ensures { (o : Opening) (s : State) (goal : ℕ) → Reaches (O.meaning order.now) o s → s.verdict ≡ Some (Proved goal) → IsProved o s goal }
+{}
+
+/// The overlap that the final pass names as too large is one of two facts that live.
+pub fn large_overlap_of_live<O: Order>(order: &O)
+    ensures { (axioms : List AnyEquation) (s : State) (x : AnyOverlap) → IsFinal (O.meaning order.now) axioms s (Large x) → IsLargeOverlap s.entries x }
 {}
