@@ -182,10 +182,13 @@ fn next_job(alloc: Global, goals: &mut Goals) -> Result<Job, Fail> {
         Some(jobs) => Some(jobs),
         None => goals.continued_jobs(alloc)?,
     };
-    match jobs {
-        Some((job, other)) if same_job(&job, &other) => Ok(job),
-        _ => Err(Fail::from("no job, or two that differ")),
+    let Some((job, other)) = jobs else {
+        return Err(Fail::from("no job"));
+    };
+    if !same_job(&job, &other) {
+        return Err(Fail::from("two jobs that differ"));
     }
+    Ok(job)
 }
 
 fn row(alloc: Global, ticket: u64, job: Job) -> TaskRow {
