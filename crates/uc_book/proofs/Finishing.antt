@@ -4,7 +4,6 @@ use Rattle.std.specs.Prelude.{nat_lt, ◌↔◌, is_some, slice_get}
 use Rattle.std.proofs.lemmas.Bool.{ltb-true, ltb-false, false≢true}
 use Rattle.uc_fact.specs.declared.chain.Chain.{Chain}
 use Rattle.uc_fact.specs.declared.fact.Fact.{Fact}
-use Rattle.uc_fact.specs.declared.fact.Origin.{Origin}
 use Rattle.uc_fact.specs.declared.fact.Stop.{Stop}
 use Rattle.uc_fact.specs.declared.fact.Stop.TheVariants.{Full, Steps, Size}
 use Rattle.uc_fact.specs.declared.joinable.Reason.{Reason}
@@ -20,7 +19,7 @@ use Rattle.uc_machine.specs.declared.event.Verdict.TheVariants.{Proved}
 use Rattle.uc_machine.specs.declared.task.Finding.{Finding}
 use Rattle.uc_machine.specs.declared.task.Job.{Job}
 use Rattle.uc_machine.specs.declared.task.Job.TheVariants.{Goal, More, Meet, Join}
-use Rattle.uc_machine.specs.declared.task.Finding.TheVariants.{Ends, Joined, Kept, Stale, Met}
+use Rattle.uc_machine.specs.declared.task.Finding.TheVariants.{Ends, Joined, Kept}
 use Rattle.uc_machine.specs.Lists.{map_option}
 use Rattle.uc_machine.specs.State.{Opening, State, Pair, Out, is_draw_what}
 use Rattle.uc_machine.specs.Effects.{accepts, closes, takes_ends, stages, turns, publishes}
@@ -30,7 +29,7 @@ use Rattle.uc_book.specs.declared.parts.Parts.{Parts}
 use Rattle.uc_rows.specs.TaskRows.{StandsAt}
 use Rattle.uc_rows.proofs.PutBack.{one_at}
 use Rattle.uc_book.specs.Parts.{IsSubjectOut}
-use Rattle.uc_book.specs.Committing.{stage_by, commit_word, IsGoalJob, IsPairJob, HasGoal, IsFor, IsForPair, HasEnds}
+use Rattle.uc_book.specs.Committing.{stage_by, commit_word, IsGoalJob, IsPairJob, HasGoal, IsFor}
 
 stage_after : (t : Out) (s : State) (stop : Stop) (b : Bool) → nat_lt t.front (length s.entries) ≡ b → StageAfter t s stop (stage_by stop b)
 stage_after t s Steps b e = after_steps
@@ -88,29 +87,6 @@ few_steps (Goal g a b) l r stop h = h
 few_steps (More g a b) l r stop h = h
 few_steps (Meet i) l r stop h = absurd h
 few_steps (Join p a) l r stop h = absurd h
-
--- a result that is right for a pair is that of a pair
-pub for_pair : (p : ℕ) (a : Origin) (f : Finding) → IsFor (Join p a) f → IsForPair f
-for_pair p a (Ends l r stop) h = absurd h
-for_pair p a (Joined why) h = tt
-for_pair p a (Kept k) h = tt
-for_pair p a (Stale k) h = absurd h
-for_pair p a (Met ks fs) h = absurd h
-
--- and one that is right for a goal is that of a goal
-pub for_goal : (j : Job) (f : Finding) → HasGoal j → IsFor j f → HasEnds f
-for_goal (Goal g a b) (Ends l r stop) is h = tt
-for_goal (Goal g a b) (Joined why) is h = absurd h
-for_goal (Goal g a b) (Kept k) is h = absurd h
-for_goal (Goal g a b) (Stale k) is h = absurd h
-for_goal (Goal g a b) (Met ks fs) is h = absurd h
-for_goal (More g a b) (Ends l r stop) is h = tt
-for_goal (More g a b) (Joined why) is h = absurd h
-for_goal (More g a b) (Kept k) is h = absurd h
-for_goal (More g a b) (Stale k) is h = absurd h
-for_goal (More g a b) (Met ks fs) is h = absurd h
-for_goal (Meet i) f is h = absurd is
-for_goal (Join p a) f is h = absurd is
 
 -- the events of commits are no draws
 pub no_draw_of_goal : (j : Job) (g n : ℕ) (end : GoalEnd) → is_draw_what (commit_word j g n end) ≡ false

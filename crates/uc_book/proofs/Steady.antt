@@ -1,6 +1,6 @@
 -- Parts that stay as they were but for their room.
 use Rattle.std.proofs.Common.{◌≡◌, ℕ, ◌+◌, ◌<◌, ◌≤◌, ◌^◌, List, length, refl, ap, sym, ◌∙◌, arith, subst}
-use Rattle.std.specs.Prelude.{Option, Some, None, Vec, vec_len, vec_capacity}
+use Rattle.std.specs.Prelude.{⊤, Option, Some, None, Result, Ok, Err, OnErr, MatchOption, Vec, vec_len, vec_capacity}
 use Rattle.std.specs.declared.alloc.Global.{Global}
 use Rattle.boxcar.specs.Table.{Shelves}
 use Rattle.uc_shelf.specs.Fronts.{IsOf}
@@ -18,6 +18,15 @@ use Rattle.uc_rows.specs.TaskRows.{HasFront}
 use Rattle.uc_book.specs.Parts.{state_of, closings, Fit, HasRoom, IsSteady}
 use Rattle.uc_book.specs.Drawing.{IsSound, HasRoomToGive, CanGive}
 use Rattle.uc_book.proofs.Fitting.{joins}
+
+-- what holds where a call gives up holds of any result
+pub on_err : {T E : Type 0} {P : Type 0} (r : Result T E) → P → OnErr r P
+on_err (Ok x) h = tt
+on_err (Err e) h = h
+
+pub on_none : {A : Type 0} {P : Type 0} (o : Option A) → P → MatchOption o P (λ _. ⊤)
+on_none None h = h
+on_none (Some x) h = tt
 
 pub closings_few : (v : Option Verdict) → closings v ≤ 1
 closings_few None = omega arith

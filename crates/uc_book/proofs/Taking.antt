@@ -24,6 +24,10 @@ settled_state p settled i e = ap (λ (v : FactsView). (let q : Parts = record p 
 pub reserved_state : (p : Parts) (pairs : PairsView) → pairs.pairs ≡ p.pairs.pairs → pairs.draws ≡ p.pairs.draws → (let q : Parts = record p { pairs = pairs } in state_of q) ≡ state_of p
 reserved_state p pairs a b = same_state (state_of p) p.facts.front.entries p.facts.front.entries p.facts.meetings p.facts.meetings pairs.pairs p.pairs.pairs pairs.draws p.pairs.draws p.goals p.goals refl refl a b refl
 
+-- pairs are changed, and no draw is counted
+pub turned_state : (p : Parts) (pairs : PairsView) (ps : List Pair) → pairs.pairs ≡ ps → pairs.draws ≡ p.pairs.draws → (let q : Parts = record p { pairs = pairs } in state_of q) ≡ record (state_of p) { pairs = ps }
+turned_state p pairs ps a b = same_state (state_of p) p.facts.front.entries p.facts.front.entries p.facts.meetings p.facts.meetings pairs.pairs ps pairs.draws p.pairs.draws p.goals p.goals refl refl a b refl
+
 -- the meeting is Met, the dead get pairs of their own sides, the overlaps theirs, the dead die, and goals wake
 pub taken_state : (p : Parts) (settled facts : FactsView) (one two : PairsView) (goals : List Target) (i killer : ℕ) (js : List ℕ) (fs : List Formed) → settled ≡ record p.facts { meetings = change (λ m. Met) p.facts.meetings i }
     → one.pairs ≡ p.pairs.pairs ++ map (revived settled.front.entries) js → one.draws ≡ p.pairs.draws

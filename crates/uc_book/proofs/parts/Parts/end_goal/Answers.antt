@@ -11,7 +11,7 @@ returns-then-met c = record {
   pairs = c.prove.ensures.subjects.pairs;
   tasks = c.prove.ensures.tasks;
   next = c.prove.ensures.next;
-  history = (let none = ap closings c.prove.ensures.verdict in omega (arith, none, c.requires.open));
+  history = (let shut : closings c.prove.new.self.verdict ≡ 0 = ap closings c.prove.ensures.verdict in let stood : closings c.args.self.now.verdict ≡ 1 = ap closings c.requires.open in omega (arith, shut, stood, c.prove.ensures.history));
   capacity = c.prove.ensures.capacity;
 }
 
@@ -23,6 +23,6 @@ returns-else-met c = record {
   pairs = c.rest.ensures.pairs;
   tasks = c.rest.ensures.ended.tasks;
   next = c.rest.ensures.ended.next;
-  history = (let v = ap closings c.rest.ensures.ended.verdict in omega (arith, v));
+  history = (let v : closings c.rest.new.self.verdict ≡ closings c.args.self.now.verdict = ap closings c.rest.ensures.ended.verdict in omega (arith, v, c.rest.ensures.ended.history));
   capacity = c.rest.ensures.ended.capacity;
 }

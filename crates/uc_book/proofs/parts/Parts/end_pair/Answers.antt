@@ -1,7 +1,7 @@
 use Rattle.std.proofs.Common.{rules, arith, refl, ◌≡◌, Some, sym, ◌∙◌, ap, subst}
 use Rattle.std.specs.Prelude.{slice_get}
 use Rattle.uc_ledger.specs.declared.ledger.State.TheVariants.{Out as OutTo, Done}
-use Rattle.uc_machine.specs.Lists.{map_option}
+use Rattle.uc_machine.specs.Lists.{change, map_option}
 use Rattle.uc_machine.specs.State.{State, Pair, Out}
 use Rattle.uc_machine.specs.Effects.{turns}
 use Rattle.uc_rows.specs.RowViews.{PairsView}
@@ -9,6 +9,7 @@ use Rattle.uc_rows.specs.TaskRows.{out_of}
 use Rattle.uc_book.specs.Parts.{state_of}
 use Rattle.uc_book.proofs.Standing.{row_out}
 use Rattle.uc_book.proofs.Finishing.{pair_out}
+use Rattle.uc_book.proofs.Taking.{turned_state}
 use Rattle.uc_book.proofs.parts.Parts.end_pair.Goals as goal
 
 pub finish-requires : goal.finish-requires
@@ -26,4 +27,4 @@ pub returns-clause-state : goal.returns-clause-state
 returns-clause-state c = λ t stands.
     (let p = c.args.self.now in
     let q = c.accept.new.self in
-    ap (λ ps. (let v : State = record (state_of q) { pairs = ps; draws = q.pairs.draws } in v)) c.finish.ensures.pairs ∙ ap (turns Done c.args.pair) (c.accept.ensures.state t stands))
+    turned_state q c.finish.new.self (change (λ (x : Pair). record x { condition = Done }) q.pairs.pairs c.args.pair) c.finish.ensures.pairs c.finish.ensures.draws ∙ ap (turns Done c.args.pair) (c.accept.ensures.state t stands))

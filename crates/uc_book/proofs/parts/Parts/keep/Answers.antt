@@ -15,13 +15,13 @@ use Rattle.uc_rows.specs.declared.tasks.TaskRow.{TaskRow}
 use Rattle.uc_rows.specs.RowViews.{FactsView}
 use Rattle.uc_rows.specs.TaskRows.{StandsAt}
 use Rattle.uc_book.specs.Parts.{state_of, IsSubjectOut}
-use Rattle.uc_book.proofs.Steady.{steady_fit, steady_room}
+use Rattle.uc_book.proofs.Steady.{on_err, steady_fit, steady_room}
 use Rattle.uc_book.proofs.Standing.{can_accept, kept_fit, room_kept, steady_end, steady_stands, stands_before}
 use Rattle.uc_book.proofs.Finishing.{pair_kept}
 use Rattle.uc_book.proofs.parts.Parts.keep.Goals as goal
 
 pub returns-in_err-front-clause-err : goal.returns-in_err-front-clause-err
-returns-in_err-front-clause-err g c = (c.with_birth.ensures.steady.state, c.with_birth.ensures.steady.front)
+returns-in_err-front-clause-err g c = on_err c.from_residual-in_err-front.result (c.with_birth.ensures.steady.state, c.with_birth.ensures.steady.front)
 
 pub returns-in_err-front-clause-fit : goal.returns-in_err-front-clause-fit
 returns-in_err-front-clause-fit g c = steady_fit c.args.shelf.now c.args.self.now c.with_birth.new.self c.with_birth.ensures.steady c.requires.can.1.fit
@@ -60,9 +60,9 @@ returns-clause-ok g c = λ o t stands.
     let h : StandsAt q.tasks.items c.args.at t = steady_stands p q c.args.at t s stands in
     let entries = c.in_ok-front.ensures.entries ∙ ap (λ (a : Fact). p.facts.front.entries ++ Born a ∷ []) c.in_ok-copy.ensures
     ∙ ap (λ (x : Sight). x.entries ++ Born c.args.fact.now ∷ []) (sym (ap (λ (f : FactsView). f.front) c.end_pair.ensures.front ∙ s.front)) in
-    let number : c.count.result ≡ length (born p.facts.front.entries) = c.count.ensures.value ∙ ap (λ (x : Sight). length (born x.entries)) s.front in
-    pair_kept o t t.job c.args.pair c.count.result c.args.fact.now (state_of p) (state_of c.publish.new.self) c.requires.open refl (c.requires.job t stands) number
-    (c.publish.ensures.state c.args.fact.now entries ∙ ap (publishes c.args.fact.now) (c.end_pair.ensures.state t h ∙ ap (λ (x : State). turns Done c.args.pair (accepts t (CommitKept c.args.pair c.count.result) x)) s.state)))
+    let number : c.count-number.result ≡ length (born p.facts.front.entries) = c.count-number.ensures.value ∙ ap (λ (x : Sight). length (born x.entries)) s.front in
+    pair_kept o t t.job c.args.pair c.count-number.result c.args.fact.now (state_of p) (state_of c.publish.new.self) c.requires.open refl (c.requires.job t stands) number
+    (c.publish.ensures.state c.args.fact.now entries ∙ ap (publishes c.args.fact.now) (c.end_pair.ensures.state t h ∙ ap (λ (x : State). turns Done c.args.pair (accepts t (CommitKept c.args.pair c.count-number.result) x)) s.state)))
 
 pub returns-clause-fit : goal.returns-clause-fit
 returns-clause-fit g c =
@@ -73,7 +73,7 @@ returns-clause-fit g c =
     let h : StandsAt q.tasks.items c.args.at t = steady_stands p q c.args.at t s c.requires.at.1 in
     let entries = c.in_ok-front.ensures.entries ∙ ap (λ (a : Fact). p.facts.front.entries ++ Born a ∷ []) c.in_ok-copy.ensures
     ∙ ap (λ (x : Sight). x.entries ++ Born c.args.fact.now ∷ []) (sym (ap (λ (f : FactsView). f.front) c.end_pair.ensures.front ∙ s.front)) in
-    kept_fit c.args.shelf.now q c.publish.new.self c.args.at t (CommitKept c.args.pair c.count.result) c.args.pair c.args.fact.now (steady_fit c.args.shelf.now p q s c.requires.can.1.fit) h
+    kept_fit c.args.shelf.now q c.publish.new.self c.args.at t (CommitKept c.args.pair c.count-number.result) c.args.pair c.args.fact.now (steady_fit c.args.shelf.now p q s c.requires.can.1.fit) h
     (c.publish.ensures.state c.args.fact.now entries ∙ ap (publishes c.args.fact.now) (c.end_pair.ensures.state t h)) refl (c.publish.ensures.rest.next ∙ c.end_pair.ensures.rest.next)
     (ap (λ (ts : Vec TaskRow Global). ts.items) c.publish.ensures.rest.tasks ∙ c.end_pair.ensures.rest.tasks) (subst (IsOf c.args.shelf.now) (sym c.publish.ensures.front) c.in_ok-front.ensures.of)
 

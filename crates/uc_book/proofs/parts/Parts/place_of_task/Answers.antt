@@ -7,10 +7,11 @@ use Rattle.uc_rows.specs.TaskRows.{out_of, StandsAt, HasFront}
 use Rattle.uc_book.specs.Parts.{state_of}
 use Rattle.uc_book.proofs.Standing.{row_out, each_row}
 use Rattle.uc_book.proofs.Standing.{not_there, not_same}
+use Rattle.uc_book.proofs.Steady.{on_none}
 use Rattle.uc_book.proofs.parts.Parts.place_of_task.Goals as goal
 
 pub returns-in_err-at-clause-none : goal.returns-in_err-at-clause-none
-returns-in_err-at-clause-none c = not_there (state_of c.args.self.now) c.args.worker c.args.done.now (rw c.deref.ensures.value at c.in_err-at.ensures.none)
+returns-in_err-at-clause-none c = on_none c.from_residual.result (not_there (state_of c.args.self.now) c.args.worker c.args.done.now (rw c.deref.ensures.value at c.in_err-at.ensures.none))
 
 pub is_task_of-requires : goal.is_task_of-requires
 is_task_of-requires c =

@@ -45,8 +45,8 @@ returns-in-Ok-clause-ok c = λ t stands.
     let q : Parts = record p { goals = c.go_on.new.self } in
     let before : state_of q ≡ takes_ends c.goal_of-goal.result c.in-Ends.left c.in-Ends.right (state_of p) = ap (λ gs. (let v : State = record (state_of p) { goals = gs } in v)) c.in-Ok.ensures.ok in
     subst (λ (f : Finding). Commits o t f (state_of p) (state_of c.end_goal.new.self)) (sym c.in-Ends.is)
-    (ends_taken o t c.args.done.job c.goal_of-goal.result (length c.in-Ends.left.steps + length c.in-Ends.right.steps) c.in-Ends.left c.in-Ends.right c.in-Ends.stop (state_of p) (state_of q) (state_of c.end_goal.new.self) c.same-met.result
-    c.requires.open (c.requires.job t stands) c.goal_of-goal.ensures (search (rules, c.same-met.ensures, c.end_of.ensures, c.end_of-2.ensures)) refl before (c.end_goal.ensures.met t stands) (c.end_goal.ensures.apart t stands)))
+    (ends_taken o t c.args.done.job c.goal_of-goal.result (c.len.result + c.len-2.result) c.in-Ends.left c.in-Ends.right c.in-Ends.stop (state_of p) (state_of q) (state_of c.end_goal.new.self) c.same-met.result
+    c.requires.open (c.requires.job t stands) c.goal_of-goal.ensures (search (rules, c.same-met.ensures, c.end_of.ensures, c.end_of-2.ensures)) (let steps : c.len.result + c.len-2.result ≡ steps_of c.in-Ends.left c.in-Ends.right = omega (arith, c.len.ensures, c.len-2.ensures) in steps) before (c.end_goal.ensures.met t stands) (c.end_goal.ensures.apart t stands)))
 
 pub returns-in-Ok-clause-fit : goal.returns-in-Ok-clause-fit
 returns-in-Ok-clause-fit c =
@@ -57,8 +57,8 @@ returns-in-Ok-clause-fit c =
     let stands = c.requires.at.1 in
     let front = ap (λ (f : FactsView). f.front) c.end_goal.ensures.facts in
     elim (cases_Bool c.same-met.result) as (λ _. Fit c.args.opening.now.shelf r) [
-      | inl e ↦ proved_fit c.args.opening.now.shelf p r (state_of q) c.args.at t (commit_word c.args.done.job c.goal_of-goal.result (length c.in-Ends.left.steps + length c.in-Ends.right.steps) EndsMet) (Proved c.goal_of-goal.result) c.requires.can.fit stands refl refl (c.end_goal.ensures.met t stands e) (no_draw_of_goal c.args.done.job c.goal_of-goal.result (length c.in-Ends.left.steps + length c.in-Ends.right.steps) EndsMet) c.end_goal.ensures.next c.end_goal.ensures.tasks front
-      | inr e ↦ rested_fit c.args.opening.now.shelf p r (state_of q) c.args.at t (commit_word c.args.done.job c.goal_of-goal.result (length c.in-Ends.left.steps + length c.in-Ends.right.steps) (end_word c.in-Ends.stop)) (stage_by c.in-Ends.stop (nat_lt t.front (length p.facts.front.entries))) c.goal_of-goal.result c.requires.can.fit stands refl refl (c.end_goal.ensures.apart t stands e) (no_draw_of_goal c.args.done.job c.goal_of-goal.result (length c.in-Ends.left.steps + length c.in-Ends.right.steps) (end_word c.in-Ends.stop)) c.end_goal.ensures.next c.end_goal.ensures.tasks front
+      | inl e ↦ proved_fit c.args.opening.now.shelf p r (state_of q) c.args.at t (commit_word c.args.done.job c.goal_of-goal.result (c.len.result + c.len-2.result) EndsMet) (Proved c.goal_of-goal.result) c.requires.can.fit stands refl refl (c.end_goal.ensures.met t stands e) (no_draw_of_goal c.args.done.job c.goal_of-goal.result (c.len.result + c.len-2.result) EndsMet) c.end_goal.ensures.next c.end_goal.ensures.tasks front
+      | inr e ↦ rested_fit c.args.opening.now.shelf p r (state_of q) c.args.at t (commit_word c.args.done.job c.goal_of-goal.result (c.len.result + c.len-2.result) (end_word c.in-Ends.stop)) (stage_by c.in-Ends.stop (nat_lt t.front (length p.facts.front.entries))) c.goal_of-goal.result c.requires.can.fit stands refl refl (c.end_goal.ensures.apart t stands e) (no_draw_of_goal c.args.done.job c.goal_of-goal.result (c.len.result + c.len-2.result) (end_word c.in-Ends.stop)) c.end_goal.ensures.next c.end_goal.ensures.tasks front
     ]
 
 pub returns-in-Ok-clause-room : goal.returns-in-Ok-clause-room

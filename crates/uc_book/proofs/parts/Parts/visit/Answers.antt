@@ -11,7 +11,7 @@ use Rattle.uc_book.specs.Parts.{state_of}
 use Rattle.uc_book.specs.Ending.{HasEnded}
 use Rattle.uc_rows.specs.Deaths.{deaths_by, all_dead, visited}
 use Rattle.uc_book.proofs.Standing.{can_accept, room_for_two}
-use Rattle.uc_book.proofs.Steady.{steady_fit, steady_room}
+use Rattle.uc_book.proofs.Steady.{on_err, steady_fit, steady_room}
 use Rattle.uc_book.proofs.Taking.{reserved_state}
 use Rattle.uc_book.proofs.VisitEnds.{reserved_steady, keeps_visit, passes_limit, kept_fit, kept_room, passed_fit, passed_room}
 use Rattle.uc_book.proofs.parts.Parts.visit.Goals as goal
@@ -63,7 +63,7 @@ pub returns-in_err-count_of-clause-room : goal.returns-in_err-count_of-clause-ro
 returns-in_err-count_of-clause-room g c = c.requires.can.1.room
 
 pub returns-in_err-reserve-clause-err : goal.returns-in_err-reserve-clause-err
-returns-in_err-reserve-clause-err g c = (reserved_state c.args.self.now c.reserve.new.self c.reserve.ensures.pairs c.reserve.ensures.draws, refl)
+returns-in_err-reserve-clause-err g c = on_err c.from_residual-in_err-reserve.result (reserved_state c.args.self.now c.reserve.new.self c.reserve.ensures.pairs c.reserve.ensures.draws, refl)
 
 pub returns-in_err-reserve-clause-fit : goal.returns-in_err-reserve-clause-fit
 returns-in_err-reserve-clause-fit g c =
@@ -81,7 +81,7 @@ pub with_deaths-requires : goal.with_deaths-requires
 with_deaths-requires g c = subst (IsOf c.args.shelf.now) (sym c.front-front.ensures) c.requires.can.1.fit.front
 
 pub returns-in_err-front-clause-err : goal.returns-in_err-front-clause-err
-returns-in_err-front-clause-err g c = (reserved_state c.args.self.now c.reserve.new.self c.reserve.ensures.pairs c.reserve.ensures.draws, refl)
+returns-in_err-front-clause-err g c = on_err c.from_residual-in_err-front.result (reserved_state c.args.self.now c.reserve.new.self c.reserve.ensures.pairs c.reserve.ensures.draws, refl)
 
 pub returns-in_err-front-clause-fit : goal.returns-in_err-front-clause-fit
 returns-in_err-front-clause-fit g c =

@@ -21,4 +21,4 @@ returns-clause-steady g c = with_facts c.args.self.now c.reserve.new.self c.rese
 
 pub returns-clause-entries : goal.returns-clause-entries
 returns-clause-entries g c =
-    c.in_ok-publish.ensures.ok ∙ ap (λ (x : Sight). x.entries ++ Born c.args.fact ∷ []) (c.in_ok-front.ensures ∙ c.front.ensures ∙ c.reserve.ensures.front)
+    c.in_ok-publish.ensures.ok ∙ ap (λ (x : Sight). x.entries ++ Born c.args.fact ∷ []) (c.in_ok-front.ensures ∙ c.front-2.ensures ∙ c.reserve.ensures.front)
