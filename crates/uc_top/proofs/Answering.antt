@@ -297,15 +297,15 @@ one_name [] a low high p = absurd (omega arith)
 one_name (x ∷ []) a low high p = rw p refl
 one_name (x ∷ y ∷ ys) a low high p = absurd (omega arith)
 
-pub not_built : (v : Verb) → (v ≡ verb.Check → ⊥) → (v ≡ verb.Show → ⊥) → (v ≡ verb.Order → ⊥) → (v ≡ verb.Rewrite → ⊥) → (v ≡ verb.Pairs → ⊥) → IsBuilt v → ⊥
-not_built verb.Check n m o r p b = n refl
-not_built verb.Show n m o r p b = m refl
-not_built verb.Order n m o r p b = o refl
-not_built verb.Prove n m o r p b = b
-not_built verb.Decide n m o r p b = b
-not_built verb.Rewrite n m o r p b = r refl
-not_built verb.Pairs n m o r p b = p refl
-not_built verb.Gen n m o r p b = b
+pub not_built : (v : Verb) → (v ≡ verb.Check → ⊥) → (v ≡ verb.Show → ⊥) → (v ≡ verb.Order → ⊥) → (v ≡ verb.Rewrite → ⊥) → (v ≡ verb.Pairs → ⊥) → (v ≡ verb.Prove → ⊥) → IsBuilt v → ⊥
+not_built verb.Check n m o r p q b = n refl
+not_built verb.Show n m o r p q b = m refl
+not_built verb.Order n m o r p q b = o refl
+not_built verb.Prove n m o r p q b = q refl
+not_built verb.Decide n m o r p q b = b
+not_built verb.Rewrite n m o r p q b = r refl
+not_built verb.Pairs n m o r p q b = p refl
+not_built verb.Gen n m o r p q b = b
 
 -- the empty table
 pub none_distinct : IsDistinct []

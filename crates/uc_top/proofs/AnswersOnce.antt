@@ -30,7 +30,11 @@ use Rattle.uc_top.specs.PairsAnswers.{IsPaired}
 use Rattle.uc_top.proofs.OrderOnce.{ordered_once}
 use Rattle.uc_top.proofs.RewriteOnce.{rewritten_once}
 use Rattle.uc_top.proofs.PairsOnce.{paired_once}
-use Rattle.uc_top.proofs.ByVerb.{IsUsage, Of, of_command, read_or_not}
+use Rattle.uc_top.specs.ProveAnswers.{ProveAnswers}
+use Rattle.uc_top.proofs.SearchLaws.{OneSearch}
+use Rattle.uc_top.proofs.ProveOnce.{prove_answers_once}
+use Rattle.uc_top.proofs.VariableWeights.{w0_within}
+use Rattle.uc_top.proofs.ByVerb.{IsUsage, OfProve, Of, of_command, read_or_not}
 use Rattle.uc_top.specs.Answers.{checked_status, TextAnswers, is_not_read, is_checked, ProofAnswers, is_absent, isnt_fetched, is_found, ProblemAnswers, has_large_goal, is_marked, LoadAnswers, CheckAnswers, ShowAnswers, OrderAnswers, RewriteAnswers, PairsAnswers, IsShown, fetch_fails, is_refused, is_loaded, Answers}
 use Rattle.uc_top.specs.Refusals.{large_line}
 
@@ -141,28 +145,39 @@ module _ (table : Table) (distinct : IsDistinct table) where
     usage_once : {s t : ℕ} {a b : List ℕ} → IsUsage table (Some files) before now s a → IsUsage table (Some files) before now t b → (s ≡ t) × (a ≡ b)
     usage_once x y = (x.0 ∙ sym y.0, x.1 ∙ sym y.1)
 
-    verb_once : (v : Verb) (k : Command) {s t : ℕ} {a b : List ℕ} → OfFiles v k s a → OfFiles v k t b → (s ≡ t) × (a ≡ b)
-    verb_once verb.Check k {t = t} {b = b} (name, proof, p, x) (named, proved, q, y) =
-        let names : named ∷ proved ∷ [] ≡ name ∷ proof ∷ [] = sym q ∙ p in
-        check_once k.root name proof x (subst (λ n. CheckAnswers table (Some files) before now k.root n proof t b) (first_name names) (subst (λ n. CheckAnswers table (Some files) before now k.root named n t b) (second_name names) y))
-    verb_once verb.Show k {t = t} {b = b} (name, p, x) (named, q, y) = show_once k.root name x (subst (λ n. ShowAnswers table (Some files) before now k.root n t b) (only_name (sym q ∙ p)) y)
-    verb_once verb.Order k {t = t} {b = b} (name, p, x) (named, q, y) = order_once k.order k.root name x (subst (λ n. OrderAnswers table (Some files) before now k.order k.root n t b) (only_name (sym q ∙ p)) y)
-    verb_once verb.Prove k x y = usage_once x y
-    verb_once verb.Decide k x y = usage_once x y
-    verb_once verb.Rewrite k {t = t} {b = b} (name, word, p, x) (named, other, q, y) =
-        let names : named ∷ other ∷ [] ≡ name ∷ word ∷ [] = sym q ∙ p in
-        rewrite_once k.order k.limit word k.root name x (subst (λ n. RewriteAnswers table (Some files) before now k.order k.limit word k.root n t b) (first_name names) (subst (λ w. RewriteAnswers table (Some files) before now k.order k.limit w k.root named t b) (second_name names) y))
-    verb_once verb.Pairs k {t = t} {b = b} (name, p, x) (named, q, y) = pairs_once k.order k.root name x (subst (λ n. PairsAnswers table (Some files) before now k.order k.root n t b) (only_name (sym q ∙ p)) y)
-    verb_once verb.Gen k x y = usage_once x y
+    -- There is one search; and a variable's weight is within its limits.
+    module _ (one_search : OneSearch) where
+      abbrev IsWithin : Command → Type 0
+      IsWithin k = (1 ≤ k.order.w0) × (k.order.w0 ≤ 1000000)
 
-    module _ (words : List (List ℕ)) where
-      abbrev Either : ℕ → List ℕ → Type 0
-      Either status text = ((command : Command) × Reads words command) ⊎ (((command : Command) → Reads words command → ⊥) × IsUsage table (Some files) before now status text)
+      prove_command_once : (k : Command) → IsWithin k → {s t : ℕ} {a b : List ℕ} → OfProve table (Some files) before now k s a → OfProve table (Some files) before now k t b → (s ≡ t) × (a ≡ b)
+      prove_command_once k within (inl x) (inl y) = usage_once x.1 y.1
+      prove_command_once k within (inl x) (inr y) = absurd (x.0 y.0)
+      prove_command_once k within (inr x) (inl y) = absurd (y.0 x.0)
+      prove_command_once k within {t = t} {b = b} (inr (one, name, p, x)) (inr (alone, named, q, y)) = prove_answers_once one_search table distinct k within.0 within.1 name files before now well x (subst (λ n. ProveAnswers table k n (Some files) before now t b) (only_name (sym q ∙ p)) y)
 
-      pub answer_once : {s t : ℕ} {a b : List ℕ} → Answers table (Some files) before now words s a → Answers table (Some files) before now words t b → (s ≡ t) × (a ≡ b)
-      answer_once {s} {t} {a} {b} x y = go (read_or_not table (Some files) before now words s a x) (read_or_not table (Some files) before now words t b y)
-        where
-          go : Either s a → Either t b → (s ≡ t) × (a ≡ b)
-          go (inl p) q = verb_once p.0.verb p.0 (of_command table (Some files) before now words p.1 x) (of_command table (Some files) before now words p.1 y)
-          go (inr p) (inl q) = absurd (p.0 q.0 q.1)
-          go (inr p) (inr q) = usage_once p.1 q.1
+      verb_once : (v : Verb) (k : Command) → IsWithin k → {s t : ℕ} {a b : List ℕ} → OfFiles v k s a → OfFiles v k t b → (s ≡ t) × (a ≡ b)
+      verb_once verb.Check k within {t = t} {b = b} (name, proof, p, x) (named, proved, q, y) =
+          let names : named ∷ proved ∷ [] ≡ name ∷ proof ∷ [] = sym q ∙ p in
+          check_once k.root name proof x (subst (λ n. CheckAnswers table (Some files) before now k.root n proof t b) (first_name names) (subst (λ n. CheckAnswers table (Some files) before now k.root named n t b) (second_name names) y))
+      verb_once verb.Show k within {t = t} {b = b} (name, p, x) (named, q, y) = show_once k.root name x (subst (λ n. ShowAnswers table (Some files) before now k.root n t b) (only_name (sym q ∙ p)) y)
+      verb_once verb.Order k within {t = t} {b = b} (name, p, x) (named, q, y) = order_once k.order k.root name x (subst (λ n. OrderAnswers table (Some files) before now k.order k.root n t b) (only_name (sym q ∙ p)) y)
+      verb_once verb.Prove k within x y = prove_command_once k within x y
+      verb_once verb.Decide k within x y = usage_once x y
+      verb_once verb.Rewrite k within {t = t} {b = b} (name, word, p, x) (named, other, q, y) =
+          let names : named ∷ other ∷ [] ≡ name ∷ word ∷ [] = sym q ∙ p in
+          rewrite_once k.order k.limit word k.root name x (subst (λ n. RewriteAnswers table (Some files) before now k.order k.limit word k.root n t b) (first_name names) (subst (λ w. RewriteAnswers table (Some files) before now k.order k.limit w k.root named t b) (second_name names) y))
+      verb_once verb.Pairs k within {t = t} {b = b} (name, p, x) (named, q, y) = pairs_once k.order k.root name x (subst (λ n. PairsAnswers table (Some files) before now k.order k.root n t b) (only_name (sym q ∙ p)) y)
+      verb_once verb.Gen k within x y = usage_once x y
+
+      module _ (words : List (List ℕ)) where
+        abbrev Either : ℕ → List ℕ → Type 0
+        Either status text = ((command : Command) × Reads words command) ⊎ (((command : Command) → Reads words command → ⊥) × IsUsage table (Some files) before now status text)
+
+        pub answer_once : {s t : ℕ} {a b : List ℕ} → Answers table (Some files) before now words s a → Answers table (Some files) before now words t b → (s ≡ t) × (a ≡ b)
+        answer_once {s} {t} {a} {b} x y = go (read_or_not table (Some files) before now words s a x) (read_or_not table (Some files) before now words t b y)
+          where
+            go : Either s a → Either t b → (s ≡ t) × (a ≡ b)
+            go (inl p) q = verb_once p.0.verb p.0 (w0_within words p.0 p.1) (of_command table (Some files) before now words p.1 x) (of_command table (Some files) before now words p.1 y)
+            go (inr p) (inl q) = absurd (p.0 q.0 q.1)
+            go (inr p) (inr q) = usage_once p.1 q.1
