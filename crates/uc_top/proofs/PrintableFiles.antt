@@ -11,12 +11,12 @@ use Rattle.uc_clause.specs.declared.clause.Name.{Name}
 use Rattle.uc_clause.specs.declared.clause.Sourced.{Sourced}
 use Rattle.uc_clause.specs.Bytes.{between}
 use Rattle.uc_clause.specs.Names.{IsSpellable}
-use Rattle.uc_clause.specs.Printable.{IsPrintableClause}
 use Rattle.uc_problem.specs.declared.counts.Counts.{Counts}
 use Rattle.uc_problem.specs.declared.problem.Problem.{Problem}
 use Rattle.uc_problem.specs.Candidates.{folder_of, begins_with_slash, in_root, candidates}
 use Rattle.uc_problem.specs.Loading.{held, held_or, first_held, lists_name, first_missing, listed_or, selected, Loaded, before, all_before, LoadsFile, reads, refused, LoadsItems, no_item, clause, too_many_clauses, too_deep, too_many_files, fetch_fails, absent, stops_inside, misses_name, includes, no_fetch, no_problem, loads}
 use Rattle.uc_problem.specs.Holds.{ReadsAs, Flattens, Holds}
+use Rattle.uc_top.specs.PrintableProblems.{IsPrintableSourced, ArePrintableSourced}
 use Rattle.uc_top.proofs.PrintableItems.{PrintableItems, file_printable}
 
 -- NAMES
@@ -70,44 +70,37 @@ found_spellable files (name ∷ names) found bytes h e = go (held files name) e
 -- CLAUSES
 
 module _ (t : Table) where
-  abbrev pub IsPrintableSourced : Sourced → Type 0
-  IsPrintableSourced s = IsSpellable s.file × IsPrintableClause t s.clause
-
-  abbrev pub ArePrintableSourced : List Sourced → Type 0
-  ArePrintableSourced [] = Unit {0}
-  ArePrintableSourced (s ∷ ss) = IsPrintableSourced s × ArePrintableSourced ss
-
-  both_printable : (xs ys : List Sourced) → ArePrintableSourced xs → ArePrintableSourced ys → ArePrintableSourced (xs ++ ys)
+  both_printable : (xs ys : List Sourced) → ArePrintableSourced t xs → ArePrintableSourced t ys → ArePrintableSourced t (xs ++ ys)
   both_printable [] ys h k = k
   both_printable (x ∷ xs) ys h k = (h.0, both_printable xs ys h.1 k)
 
   module _ (keep : Sourced → Bool) where
-    kept_one : (b : Bool) (x : Sourced) (xs : List Sourced) → IsPrintableSourced x → ArePrintableSourced xs → ArePrintableSourced (cond b (x ∷ xs) xs)
+    kept_one : (b : Bool) (x : Sourced) (xs : List Sourced) → IsPrintableSourced t x → ArePrintableSourced t xs → ArePrintableSourced t (cond b (x ∷ xs) xs)
     kept_one true x xs h k = (h, k)
     kept_one false x xs h k = k
 
-    filter_printable : (xs : List Sourced) → ArePrintableSourced xs → ArePrintableSourced (filter keep xs)
+    filter_printable : (xs : List Sourced) → ArePrintableSourced t xs → ArePrintableSourced t (filter keep xs)
     filter_printable [] h = tt
     filter_printable (x ∷ xs) h = kept_one (keep x) x (filter keep xs) h.0 (filter_printable xs h.1)
 
   abbrev LoadedPrintable : Loaded → Type 0
-  LoadedPrintable (Ok r) = ArePrintableSourced r.0
+  LoadedPrintable (Ok r) = ArePrintableSourced t r.0
   LoadedPrintable (Err e) = Unit {0}
 
-  one_before : (x : Sourced) (l : Loaded) → IsPrintableSourced x → LoadedPrintable l → LoadedPrintable (before x l)
+  one_before : (x : Sourced) (l : Loaded) → IsPrintableSourced t x → LoadedPrintable l → LoadedPrintable (before x l)
   one_before x (Ok r) h k = (h, k)
   one_before x (Err e) h k = tt
 
-  all_printable : (cs : List Sourced) (l : Loaded) → ArePrintableSourced cs → LoadedPrintable l → LoadedPrintable (all_before cs l)
+  all_printable : (cs : List Sourced) (l : Loaded) → ArePrintableSourced t cs → LoadedPrintable l → LoadedPrintable (all_before cs l)
   all_printable cs (Ok r) h k = both_printable cs r.0 h k
   all_printable cs (Err e) h k = tt
 
-  listed_printable : (file : List ℕ) (names : List (Name × Place)) (given kept : List Sourced) (m : Option (Name × Place)) → ArePrintableSourced given → listed_or file names given m ≡ Ok kept → ArePrintableSourced kept
-  listed_printable file names given kept None h e = let same : filter (λ (s : Sourced). lists_name names s.clause.name) given ≡ kept = cc in subst ArePrintableSourced same (filter_printable (λ s. lists_name names s.clause.name) given h)
+  listed_printable : (file : List ℕ) (names : List (Name × Place)) (given kept : List Sourced) (m : Option (Name × Place)) → ArePrintableSourced t given → listed_or file names given m ≡ Ok kept → ArePrintableSourced t kept
+  listed_printable file names given kept None h e = let same : filter (λ (s : Sourced). lists_name names s.clause.name) given ≡ kept = cc in subst (ArePrintableSourced t) same (filter_printable (λ s. lists_name names s.clause.name) given h)
   listed_printable file names given kept (Some m) h e = absurd cc
 
-  kept_printable : (file : List ℕ) (names : Option (List (Name × Place))) (given kept : List Sourced) → ArePrintableSourced given → selected file names given ≡ Ok kept → ArePrintableSourced kept
-  kept_printable file None given kept h e = let same : given ≡ kept = cc in subst ArePrintableSourced same h
+  kept_printable : (file : List ℕ) (names : Option (List (Name × Place))) (given kept : List Sourced) → ArePrintableSourced t given → selected file names given ≡ Ok kept → ArePrintableSourced t kept
+  kept_printable file None given kept h e = let same : given ≡ kept = cc in subst (ArePrintableSourced t) same h
   kept_printable file (Some names) given kept h e = listed_printable file names given kept (first_missing given names) h e
 
   module _ (files : Files) (folder : List ℕ) (root : Option (List ℕ)) (folder_is : are_seen folder ≡ true) (root_is : IsRootSeen root) where
@@ -133,10 +126,10 @@ module _ (t : Table) where
   flat_printable files root name named r (no_problem e) = tt
   flat_printable files root name named r (loads e h) = file_loaded files (folder_of name) root (folder_seen name named.1) r named h
 
-  pub held_printable : (files : Files) (root : Option (List ℕ)) (name : List ℕ) (problem : Problem) → IsSpellable name → IsRootSeen root → Holds t files root name problem → ArePrintableSourced problem.clauses
+  pub held_printable : (files : Files) (root : Option (List ℕ)) (name : List ℕ) (problem : Problem) → IsSpellable name → IsRootSeen root → Holds t files root name problem → ArePrintableSourced t problem.clauses
   held_printable files root name problem named r h = flat_printable files root name named r h.flat
 
-  pub printable_at : (ss : List Sourced) (c : ℕ) (s : Sourced) → ArePrintableSourced ss → slice_get ss c ≡ Some s → IsPrintableSourced s
+  pub printable_at : (ss : List Sourced) (c : ℕ) (s : Sourced) → ArePrintableSourced t ss → slice_get ss c ≡ Some s → IsPrintableSourced t s
   printable_at [] c s h e = absurd cc
-  printable_at (x ∷ xs) zero s h e = let same : x ≡ s = cc in subst IsPrintableSourced same h.0
+  printable_at (x ∷ xs) zero s h e = let same : x ≡ s = cc in subst (IsPrintableSourced t) same h.0
   printable_at (x ∷ xs) (suc c) s h e = printable_at xs c s h.1 e

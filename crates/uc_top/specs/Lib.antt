@@ -7,6 +7,7 @@ pub mod TermWords
 pub mod RewriteAnswers
 pub mod PairsAnswers
 pub mod TraceLines
+pub mod PrintableProblems
 pub mod ProveAnswers
 pub mod Told
 pub mod Answers

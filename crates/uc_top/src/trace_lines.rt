@@ -27,7 +27,7 @@ pub(crate) fn trace_lines(
     history: &[Event],
     pass: &Pass,
 ) -> Result<Seq<Text>, AllocError>
-    requires { pass.now.worker ≡ 0 }
+    requires worker { pass.now.worker ≡ 0 }
     requires count { pass.now.commits ≡ commits_by 0 history.now }
     ensures { IfOk result (λ lines. joined lines ≡ trace_text history.now) }
 {

@@ -1,0 +1,22 @@
+-- When a proof of a problem, or its system, can be printed so that it is read back.
+use Rattle.std.specs.Prelude.{ℕ, List, [], ◌∷◌}
+use Rattle.uc_term.specs.Table.{Table}
+use Rattle.uc_clause.specs.declared.clause.Sourced.{Sourced}
+use Rattle.uc_clause.specs.Names.{IsSpellable}
+use Rattle.uc_clause.specs.Printable.{IsPrintableClause}
+use Rattle.uc_tstp.specs.Printable.{IsProofName}
+use Rattle.uc_problem.specs.declared.problem.Problem.{Problem}
+
+module _ (table : Table) where
+  -- a clause that can be printed, from a file whose name can be spelled
+  abbrev pub IsPrintableSourced : Sourced → Type 0
+  IsPrintableSourced s = IsSpellable s.file × IsPrintableClause table s.clause
+
+  abbrev pub ArePrintableSourced : List Sourced → Type 0
+  ArePrintableSourced [] = Unit {0}
+  ArePrintableSourced (s ∷ ss) = IsPrintableSourced s × ArePrintableSourced ss
+
+  -- the clauses of the problem are so, and its name can stand behind `for`
+  pub record CanBePrinted (name : List ℕ) (problem : Problem) : Type 0 where
+    pub name : IsProofName name
+    pub clauses : ArePrintableSourced problem.clauses
