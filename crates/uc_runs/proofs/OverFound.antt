@@ -28,9 +28,10 @@ use Rattle.uc_machine.specs.Lists.{Each}
 use Rattle.uc_machine.specs.Results.{Trial, way, names_of, made, IsPair, of_axiom, of_overlap, of_dead, IsTrial, GivesFact, left_is_greater, right_is_greater, none_is_greater}
 use Rattle.uc_machine.proofs.Lists.{Each-map}
 use Rattle.uc_machine.proofs.Meetings.{Each-append}
+use Rattle.uc_decide.proofs.Members.{is_in}
 use Rattle.uc_runs.proofs.EachFact.{each_get, live_each}
 use Rattle.uc_runs.proofs.OverTerms.{Over, part_over, put_over, instance_over, normal_over}
-use Rattle.uc_runs.proofs.OverUnifiers.{is_symbol, unifier_over}
+use Rattle.uc_runs.proofs.OverUnifiers.{unifier_over}
 
 -- chains of terms with these variables
 
@@ -103,7 +104,7 @@ module _ (m : Meaning) where
 
   module _ (outer inner : Rule) (place : ℕ) (o : Overlapping outer inner place) (outer_from : IsTermOf outer.from) (outer_to : IsTermOf outer.to) (inner_from : IsTermOf inner.from) (inner_to : IsTermOf inner.to) where
     unifies_over : (x : ℕ) → IsTermOf (o.σ x)
-    unifies_over = unifier_over (HasSym m) m.arity (is_symbol m.symbols) (subterm outer.from place) (shifted o.k inner.from) o.σ (part_over (HasSym m) m.arity Any outer.from place outer_from) (renamed_over (λ x. x + o.k) inner.from inner_from) o.most_general
+    unifies_over = unifier_over (HasSym m) m.arity (is_in m.symbols) (subterm outer.from place) (shifted o.k inner.from) o.σ (part_over (HasSym m) m.arity Any outer.from place outer_from) (renamed_over (λ x. x + o.k) inner.from inner_from) o.most_general
 
     unified_over : (t : Tree) → IsTermOf t → IsTermOf (apply o.σ t)
     unified_over t a = instance_over (HasSym m) m.arity Any o.σ t a (λ x p. unifies_over x)

@@ -1,32 +1,13 @@
 -- The most general unifier of two terms over a signature is over it: a foreign symbol in it would stay in each of its instances,
 -- and a unifier without foreign symbols is one of these.
-use Rattle.std.proofs.Common.{◌≡◌, ℕ, ◌==◌, Bool, true, false, refl, sym, ap, ap₂, ◌∙◌, subst, ◌⊎◌, inl, inr, List, [], ◌∷◌, arith}
-use Rattle.std.proofs.lemmas.Bool.{eqb-true, eq-eqb}
+use Rattle.std.proofs.Common.{◌≡◌, ℕ, ◌==◌, Bool, true, false, refl, sym, ap, ap₂, ◌∙◌, ◌⊎◌, inl, inr, arith}
+use Rattle.std.proofs.lemmas.Bool.{eqb-true}
 use Rattle.std.proofs.lemmas.Bool.Decides.{nat_tests}
 use Rattle.uc_term.specs.declared.node.Sym.{Sym}
 use Rattle.uc_term.specs.Tree.{Tree, var, app, Trees, none, more, count, apply, apply_all}
 use Rattle.uc_term.specs.Over.{IsTerm, AreOver}
 use Rattle.uc_unify.specs.Unifiers.{IsMostGeneral}
-use Rattle.uc_order.specs.Members.{In, in_front, in_rest}
 use Rattle.uc_ground.proofs.Grounded.{count-apply_all}
-
--- it is decided whether a symbol is in a list
-
-same_symbol : (f g : Sym) → f.0 ≡ g.0 → f ≡ g
-same_symbol f g e = ap (λ (n : ℕ). let s : Sym = record { 0 = n } in s) e
-
-in_neither : (f g : Sym) (fs : List Sym) → (f.0 == g.0) ≡ false → (In fs f → ⊥) → In (g ∷ fs) f → ⊥
-in_neither f _ fs e n in_front = let q : (f.0 == f.0) ≡ true = eq-eqb f.0 f.0 refl in absurd cc
-in_neither f g fs e n (in_rest i) = n i
-
-pub is_symbol : (fs : List Sym) (f : Sym) → In fs f ⊎ (In fs f → ⊥)
-is_symbol [] f = inr (λ i. elim i [ ])
-is_symbol (g ∷ fs) f = go (f.0 == g.0) refl (is_symbol fs f)
-  where
-    go : (b : Bool) → (f.0 == g.0) ≡ b → In fs f ⊎ (In fs f → ⊥) → In (g ∷ fs) f ⊎ (In (g ∷ fs) f → ⊥)
-    go true e r = inl (subst (λ (h : Sym). In (h ∷ fs) f) (same_symbol f g (eqb-true f.0 g.0 e)) in_front)
-    go false e (inl i) = inl (in_rest i)
-    go false e (inr n) = inr (in_neither f g fs e n)
 
 module _ (has : Sym → Type 0) (arity : Sym → ℕ) (known : (f : Sym) → has f ⊎ (has f → ⊥)) where
   -- a term whose head is foreign becomes a variable
