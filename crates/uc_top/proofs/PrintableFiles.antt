@@ -16,15 +16,12 @@ use Rattle.uc_problem.specs.declared.problem.Problem.{Problem}
 use Rattle.uc_problem.specs.Candidates.{folder_of, begins_with_slash, in_root, candidates}
 use Rattle.uc_problem.specs.Loading.{held, held_or, first_held, lists_name, first_missing, listed_or, selected, Loaded, before, all_before, LoadsFile, reads, refused, LoadsItems, no_item, clause, too_many_clauses, too_deep, too_many_files, fetch_fails, absent, stops_inside, misses_name, includes, no_fetch, no_problem, loads}
 use Rattle.uc_problem.specs.Holds.{ReadsAs, Flattens, Holds}
-use Rattle.uc_top.specs.PrintableProblems.{IsPrintableSourced, ArePrintableSourced}
+use Rattle.uc_top.specs.PrintableProblems.{are_seen, IsRootSeen, IsPrintableSourced, ArePrintableSourced}
 use Rattle.uc_top.proofs.PrintableItems.{PrintableItems, file_printable}
 
 -- NAMES
 
-abbrev pub are_seen : List ℕ → Bool
-are_seen = list_all (between 32 126)
-
-seen_both : (xs ys : List ℕ) → are_seen xs ≡ true → are_seen ys ≡ true → are_seen (xs ++ ys) ≡ true
+pub seen_both : (xs ys : List ℕ) → are_seen xs ≡ true → are_seen ys ≡ true → are_seen (xs ++ ys) ≡ true
 seen_both [] ys h k = k
 seen_both (x ∷ xs) ys h k = let p = and_parts (between 32 126 x) (are_seen xs) h in and_from (between 32 126 x) (are_seen (xs ++ ys)) p.0 (seen_both xs ys p.1 k)
 
@@ -35,11 +32,6 @@ folder_seen (b ∷ bs) h = go (list_any (λ c. c == 47) (b ∷ bs)) (folder_seen
     go : (t : Bool) → (are_seen bs ≡ true → are_seen (folder_of bs) ≡ true) → are_seen (if t then b ∷ folder_of bs else []) ≡ true
     go true later = let p = and_parts (between 32 126 b) (are_seen bs) h in and_from (between 32 126 b) (are_seen (folder_of bs)) p.0 (later p.1)
     go false later = refl
-
--- a root, where one is given, has such bytes
-abbrev pub IsRootSeen : Option (List ℕ) → Type 0
-IsRootSeen None = Unit {0}
-IsRootSeen (Some root) = are_seen root ≡ true
 
 abbrev AreSpellable : List (List ℕ) → Type 0
 AreSpellable [] = Unit {0}

@@ -27,8 +27,8 @@ use Rattle.uc_problem.specs.Holds.{terms_of, Agrees}
 use Rattle.uc_problem.specs.Marks.{Marks}
 use Rattle.uc_problem.specs.Encodes.{encoding_of, Encodes}
 use Rattle.uc_ordering.specs.Choice.{all_symbols}
-use Rattle.uc_top.specs.PrintableProblems.{ArePrintableSourced}
-use Rattle.uc_top.proofs.PrintableFiles.{are_seen, seen_both}
+use Rattle.uc_top.specs.PrintableProblems.{are_seen, ArePrintableSourced}
+use Rattle.uc_top.proofs.PrintableFiles.{seen_both}
 
 -- NUMBERS
 

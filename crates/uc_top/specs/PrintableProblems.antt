@@ -1,11 +1,22 @@
 -- When a proof of a problem, or its system, can be printed so that it is read back.
-use Rattle.std.specs.Prelude.{ℕ, List, [], ◌∷◌}
+use Rattle.std.specs.Prelude.{ℕ, ◌≡◌, Bool, true, List, [], ◌∷◌, Option, Some, None}
+use Rattle.std.specs.List.{list_all}
 use Rattle.uc_term.specs.Table.{Table}
 use Rattle.uc_clause.specs.declared.clause.Sourced.{Sourced}
+use Rattle.uc_clause.specs.Bytes.{between}
 use Rattle.uc_clause.specs.Names.{IsSpellable}
 use Rattle.uc_clause.specs.Printable.{IsPrintableClause}
 use Rattle.uc_tstp.specs.Printable.{IsProofName}
 use Rattle.uc_problem.specs.declared.problem.Problem.{Problem}
+
+-- all bytes are visible ones or spaces
+abbrev pub are_seen : List ℕ → Bool
+are_seen = list_all (between 32 126)
+
+-- a root, where one is given, has such bytes
+abbrev pub IsRootSeen : Option (List ℕ) → Type 0
+IsRootSeen None = Unit {0}
+IsRootSeen (Some root) = are_seen root ≡ true
 
 module _ (table : Table) where
   -- a clause that can be printed, from a file whose name can be spelled

@@ -14,7 +14,7 @@ use Rattle.uc_problem.specs.declared.fault.LoadFault.TheVariants as load
 use Rattle.uc_problem.specs.declared.fault.EncodeFault.TheVariants.{GoalTooLarge}
 use Rattle.uc_problem.specs.declared.problem.Problem.{Problem}
 use Rattle.uc_problem.specs.declared.problem.Encoded.{Encoded}
-use Rattle.uc_problem.specs.Holds.{Holds, Refuses, FailsAt}
+use Rattle.uc_problem.specs.Holds.{Agrees, Holds, Refuses, FailsAt}
 use Rattle.uc_problem.specs.Encodes.{Encodes}
 use Rattle.uc_order.specs.declared.spec.OrderSpec.{OrderSpec}
 use Rattle.uc_fact.specs.declared.fact.Fact.{Fact}
@@ -31,6 +31,7 @@ use Rattle.uc_words.specs.declared.command.Command.{Command}
 use Rattle.uc_ordering.specs.declared.fault.ChoiceFault.{ChoiceFault}
 use Rattle.uc_ordering.specs.declared.fault.ChoiceFault.TheVariants.{NoMemory}
 use Rattle.uc_ordering.specs.Choice.{IsChosen, IsChoiceFault}
+use Rattle.uc_ordering.specs.Fits.{Fits}
 use Rattle.uc_ordering.specs.Meaning.{meaning_of}
 use Rattle.uc_top.specs.Lines.{about_file, load_line, spaced}
 use Rattle.uc_top.specs.OrderAnswers.{choice_line}
@@ -92,6 +93,15 @@ abbrev pub verdict_status : Verdict → ℕ
 verdict_status (Proved goal) = 0
 verdict_status Saturated = 1
 verdict_status other = 2
+
+-- Worker 0 searched alone for an encoded problem, by an order for its signature, up to this verdict and state. Symbols are those of
+-- this table.
+pub record HasEnded (table : Table) (command : Command) (problem : Problem) (encoded : Encoded) (spec : OrderSpec) (v : Verdict) (s : State) : Type 0 where
+  pub agrees : Agrees table problem
+  pub encodes : Encodes table problem (Ok encoded)
+  pub chosen : IsChosen table problem.signature command.order encoded.fresh spec
+  pub fits : Fits table encoded.signature.symbols spec
+  pub searched : IsSearched (meaning_of table spec) (opening_for command encoded) 0 v s
 
 -- Symbols are those of this table, and the problem file has this name.
 module _ (table : Table) (command : Command) (name : List ℕ) where

@@ -109,6 +109,10 @@ pub record KeepsPromise (files : Files) (command : Command) (name : List ℕ) (s
   pub distinct : IsDistinct table
   pub is_kept : IsKept table files command name status answer
 
+-- So it is where the command is `prove`, with one worker.
+abbrev pub KeepsCommand : Files → Command → ℕ → List ℕ → Type 0
+KeepsCommand files command status answer = (name : List ℕ) → command.workers ≡ 1 → command.positionals ≡ name ∷ [] → KeepsPromise files command name status answer
+
 -- So it is of a run whose words are those of `prove`, with one worker, and that ends with status 0, 1 or 2: the sink was given
 -- such an answer.
 abbrev pub KeepsWord : Files → List (List ℕ) → Option (List ℕ) → Option (List ℕ) → ℕ → Type 0

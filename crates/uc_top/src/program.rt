@@ -4,7 +4,7 @@ ghost use Rattle.std.specs.Prelude.{◌≡◌, ◌≤◌, ℕ, List, true, IfOk,
 ghost use Rattle.uc_edge.specs.Files.{Files};
 ghost use Rattle.uc_edge.specs.Faults.{Rose};
 ghost use Rattle.uc_words.specs.declared.command.Command.{Command};
-ghost use Rattle.uc_words.specs.declared.command.Verb.TheVariants.{Check};
+ghost use Rattle.uc_words.specs.declared.command.Verb.TheVariants.{Check, Prove};
 ghost use Rattle.uc_words.specs.Reads.{Reads};
 ghost use Rattle.uc_words.specs.Table.{fits};
 ghost use Rattle.uc_top.specs.Lines.{joined, usage_line};
@@ -12,7 +12,7 @@ ghost use Rattle.uc_top.specs.Runs.{MayAnswer, IsRun, IsCertified, Completes, Co
 ghost use Rattle.uc_top.specs.OrderRuns.{CompletesOrder};
 ghost use Rattle.uc_top.specs.RewriteRuns.{CompletesRewrite};
 ghost use Rattle.uc_top.specs.PairsRuns.{CompletesPairs};
-ghost use Rattle.uc_top.specs.ProveRuns.{KeepsWord, CompletesProve};
+ghost use Rattle.uc_top.specs.ProveRuns.{KeepsCommand, KeepsWord, CompletesProve};
 
 use crate::checking::check_answer;
 use crate::ordering::order_answer;
@@ -82,6 +82,7 @@ fn answer_of<R: Wait, L: Library>(
 ) -> Result<Answer, AllocError>
     ensures answers { IfOk result (λ answer. MayAnswer (L.holds library.old) (L.faults library.old) (L.faults library.new) (map string_bytes words.now) answer.status (joined answer.lines)) }
     ensures certified { IfOk result (λ answer. answer.status ≡ 0 → (files : Files) → L.holds library.old ≡ Some files → (command : Command) → Reads (map string_bytes words.now) command → command.verb ≡ Check → IsCertified files command) }
+    ensures promise { IfOk result (λ answer. answer.status ≤ 2 → (files : Files) → L.holds library.old ≡ Some files → (command : Command) → Reads (map string_bytes words.now) command → command.verb ≡ Prove → KeepsCommand files command answer.status (joined answer.lines)) }
     ensures same { L.holds library.new ≡ L.holds library.old }
     ensures later { L.faults library.old ≤ L.faults library.new }
 {
@@ -109,6 +110,7 @@ fn command_answer<R: Wait, L: Library>(
     requires words { (words : List (List ℕ)) × Reads words command.now }
     ensures answers { (words : List (List ℕ)) → Reads words command.now → IfOk result (λ answer. MayAnswer (L.holds library.old) (L.faults library.old) (L.faults library.new) words answer.status (joined answer.lines)) }
     ensures certified { command.now.verb ≡ Check → IfOk result (λ answer. answer.status ≡ 0 → (files : Files) → L.holds library.old ≡ Some files → IsCertified files command.now) }
+    ensures promise { command.now.verb ≡ Prove → IfOk result (λ answer. answer.status ≤ 2 → (files : Files) → L.holds library.old ≡ Some files → KeepsCommand files command.now answer.status (joined answer.lines)) }
     ensures same { L.holds library.new ≡ L.holds library.old }
     ensures later { L.faults library.old ≤ L.faults library.new }
 {
@@ -133,10 +135,31 @@ fn command_answer<R: Wait, L: Library>(
             [name] => pairs_answer(alloc, command.root.as_ref(), name, &command.order, library),
             _ => unreachable!(),
         },
-        Verb::Prove if command.workers == 1 => match command.positionals.as_slice() {
-            [name] => prove_answer(rt, alloc, command, name, library),
-            _ => unreachable!(),
-        },
+        Verb::Prove => prove_command(rt, alloc, command, library),
         _ => usage_answer(alloc),
+    }
+}
+
+// The answer to `prove` by one worker; by more it has no reading yet.
+fn prove_command<R: Wait, L: Library>(
+    rt: &R,
+    alloc: Global,
+    command: &Command,
+    library: &mut L,
+) -> Result<Answer, AllocError>
+    requires prove { command.now.verb ≡ Prove }
+    requires fits { fits command.now.verb (length command.now.positionals) ≡ true }
+    requires words { (words : List (List ℕ)) × Reads words command.now }
+    ensures answers { (words : List (List ℕ)) → Reads words command.now → IfOk result (λ answer. MayAnswer (L.holds library.old) (L.faults library.old) (L.faults library.new) words answer.status (joined answer.lines)) }
+    ensures promise { IfOk result (λ answer. answer.status ≤ 2 → (files : Files) → L.holds library.old ≡ Some files → KeepsCommand files command.now answer.status (joined answer.lines)) }
+    ensures same { L.holds library.new ≡ L.holds library.old }
+    ensures later { L.faults library.old ≤ L.faults library.new }
+{
+    if command.workers != 1 {
+        return usage_answer(alloc);
+    }
+    match command.positionals.as_slice() {
+        [name] => prove_answer(rt, alloc, command, name, library),
+        _ => unreachable!(),
     }
 }

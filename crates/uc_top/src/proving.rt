@@ -1,6 +1,6 @@
 //! The command `prove`.
 
-ghost use Rattle.std.specs.Prelude.{◌≡◌, ◌≤◌, Some, Ok, IfOk};
+ghost use Rattle.std.specs.Prelude.{◌≡◌, ◌≤◌, ◌<◌, length, true, Some, Ok, IfOk};
 ghost use Rattle.uc_term.specs.Table.{Table, Grows, IsDistinct};
 ghost use Rattle.uc_edge.specs.Files.{Files};
 ghost use Rattle.uc_problem.specs.Holds.{Agrees};
@@ -9,6 +9,7 @@ ghost use Rattle.uc_ordering.specs.Choice.{IsChosen};
 ghost use Rattle.uc_ordering.specs.Fits.{Fits};
 ghost use Rattle.uc_top.specs.Lines.{joined};
 ghost use Rattle.uc_top.specs.ProveAnswers.{IsProveAnswer, ProveAnswers};
+ghost use Rattle.uc_top.specs.PrintableProblems.{are_seen, IsRootSeen, CanBePrinted};
 ghost use Rattle.uc_top.specs.ProveRuns.{Keeps, IsKept, KeepsPromise};
 
 use crate::checking::large_answer;
@@ -41,6 +42,9 @@ pub(crate) fn prove_answer<R: Wait, L: Library>(
     requires w0_most { command.now.order.w0 ≤ 1000000 }
     requires budget { command.now.budget ≤ 10000000 }
     requires pairs { command.now.pairs ≤ 8000000 }
+    requires name { are_seen name.now ≡ true }
+    requires some { 0 < length name.now }
+    requires root { IsRootSeen command.now.root }
     ensures answers { IfOk result (λ answer. (table : Table) × IsDistinct table × ProveAnswers table command.now name.now (L.holds library.old) (L.faults library.old) (L.faults library.new) answer.status (joined answer.lines)) }
     ensures promise { IfOk result (λ answer. answer.status ≤ 2 → (files : Files) → L.holds library.old ≡ Some files → KeepsPromise files command.now name.now answer.status (joined answer.lines)) }
     ensures same { L.holds library.new ≡ L.holds library.old }
@@ -66,6 +70,9 @@ fn load_and_prove<R: Wait, L: Library>(
     requires w0_most { command.now.order.w0 ≤ 1000000 }
     requires budget { command.now.budget ≤ 10000000 }
     requires pairs { command.now.pairs ≤ 8000000 }
+    requires name { are_seen name.now ≡ true }
+    requires some { 0 < length name.now }
+    requires root { IsRootSeen command.now.root }
     ensures answers { IfOk result (λ answer. ProveAnswers symbols.new command.now name.now (L.holds library.old) (L.faults library.old) (L.faults library.new) answer.status (joined answer.lines)) }
     ensures promise { IfOk result (λ answer. answer.status ≤ 2 → (files : Files) → L.holds library.old ≡ Some files → IsKept symbols.new files command.now name.now answer.status (joined answer.lines)) }
     ensures same { L.holds library.new ≡ L.holds library.old }
@@ -98,7 +105,7 @@ fn encoded_answer<R: Wait>(
     requires budget { command.now.budget ≤ 10000000 }
     requires pairs { command.now.pairs ≤ 8000000 }
     ensures answers { IfOk result (λ answer. IsProveAnswer symbols.new command.now name.now problem.now answer.status (joined answer.lines)) }
-    ensures promise { IfOk result (λ answer. answer.status ≤ 2 → Keeps symbols.new command.now name.now problem.now answer.status (joined answer.lines)) }
+    ensures promise { IfOk result (λ answer. answer.status ≤ 2 → CanBePrinted symbols.new name.now problem.now → Keeps symbols.new command.now name.now problem.now answer.status (joined answer.lines)) }
     ensures grows { Grows symbols.old symbols.new }
 {
     match encode(alloc, problem, symbols) {
@@ -128,7 +135,7 @@ fn ordered_answer<R: Wait>(
     requires budget { command.now.budget ≤ 10000000 }
     requires pairs { command.now.pairs ≤ 8000000 }
     ensures answers { IfOk result (λ answer. IsProveAnswer symbols.now command.now name.now problem.now answer.status (joined answer.lines)) }
-    ensures promise { IfOk result (λ answer. answer.status ≤ 2 → Keeps symbols.now command.now name.now problem.now answer.status (joined answer.lines)) }
+    ensures promise { IfOk result (λ answer. answer.status ≤ 2 → CanBePrinted symbols.now name.now problem.now → Keeps symbols.now command.now name.now problem.now answer.status (joined answer.lines)) }
 {
     match choose(
         alloc,
@@ -160,7 +167,7 @@ fn searched_answer<R: Wait>(
     requires budget { command.now.budget ≤ 10000000 }
     requires pairs { command.now.pairs ≤ 8000000 }
     ensures answers { IfOk result (λ answer. IsProveAnswer symbols.now command.now name.now problem.now answer.status (joined answer.lines)) }
-    ensures promise { IfOk result (λ answer. answer.status ≤ 2 → Keeps symbols.now command.now name.now problem.now answer.status (joined answer.lines)) }
+    ensures promise { IfOk result (λ answer. answer.status ≤ 2 → CanBePrinted symbols.now name.now problem.now → Keeps symbols.now command.now name.now problem.now answer.status (joined answer.lines)) }
 {
     let order = Chosen::new(alloc, spec, symbols, encoded.signature.symbols.as_slice())?;
     let shelf = Shelf::new(alloc)?;
@@ -176,11 +183,12 @@ fn searched_answer<R: Wait>(
     let verdict = search_alone(rt, alloc, &mut book, &shelf, encoded, &order, &mut pass)?;
     let closed = Closed {
         name,
+        command,
         problem,
         encoded,
         spec,
         symbols,
         shelf: &shelf,
     };
-    verdict_answer(alloc, &closed, command, &book, &pass, verdict)
+    verdict_answer(alloc, &closed, &book, &pass, verdict)
 }
