@@ -1,7 +1,7 @@
 -- What waits, and the draws that give no task.
 use Rattle.std.proofs.Common.{◌≡◌, ℕ, ◌+◌, ◌<◌, ◌≤◌, ◌==◌, List, [], ◌∷◌, length, map, Bool, true, false, Option, Some, None, refl, ap, sym, ◌∙◌, arith, subst}
 use Rattle.std.specs.Prelude.{MatchOption, is_some, not, ◌↔◌, ◌≢◌}
-use Rattle.std.proofs.lemmas.Bool.{false≢true, ne_eqb}
+use Rattle.std.proofs.lemmas.Bool.{false≢true, ne_eqb, eqb-true, eqb-false}
 use Rattle.std.proofs.lemmas.List.{length-map}
 use Rattle.uc_fact.specs.declared.fact.Origin.{Origin}
 use Rattle.uc_queue.specs.declared.entry.Entry.{Entry as Place}
@@ -48,6 +48,13 @@ some_out (t ∷ ts) h = λ e. absurd (cc)
 pub none_out : (ts : List TaskRow) → length ts ≡ 0 → map out_of ts ≡ []
 none_out [] e = refl
 none_out (t ∷ ts) e = absurd (omega (arith, e))
+
+-- whether none is out, as the test of the vector says it
+pub none_by : (b : Bool) (n m : ℕ) → b ≡ (n == 0) → n ≡ m → b ≡ true → m ≡ 0
+none_by b n m e s t = sym s ∙ eqb-true n 0 (sym e ∙ t)
+
+pub some_by : (b : Bool) (n m : ℕ) → b ≡ (n == 0) → n ≡ m → b ≡ false → m ≡ 0 → ⊥
+some_by b n m e s f z = eqb-false n 0 (sym e ∙ f) (s ∙ z)
 
 module _ (o : Opening) (w : ℕ) (p : Parts) (late : IsLate (state_of p)) where
   pub spent_idle : (n : ℕ) → Waits (state_of p) → IsSpent o (state_of p) → n ≡ length p.tasks.items → (length p.tasks.items ≡ 0 → ⊥) → Draws o w (state_of p) (Idle n) (state_of p)

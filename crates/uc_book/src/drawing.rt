@@ -151,7 +151,8 @@ impl Parts {
             return Err(AllocError);
         }
         self.tasks.reserve(1)?;
-        let events = self.pairs.waiting() + self.tasks.len() + 3;
+        let ends = self.tasks.len() + 3;
+        let events = ends.saturating_add(self.pairs.waiting());
         self.history.reserve(events)
     }
 

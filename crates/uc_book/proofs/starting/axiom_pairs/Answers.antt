@@ -6,7 +6,7 @@ use Rattle.uc_book.proofs.starting.axiom_pairs.Goals as goal
 
 pub loop-k-preserved : goal.loop-k-preserved
 loop-k-preserved c = record {
-  pairs = axioms_at c.args.axioms.now c.loop-k.k c.index-axiom.result.now (c.nodes.result + c.nodes-2.result) c.loop-k.pairs.pairs c.add.new.self.pairs (omega arith) c.index-axiom.ensures (search (rules, c.nodes.ensures, c.nodes-2.ensures)) c.loop-k.invariant.pairs c.add.ensures.pairs;
+  pairs = axioms_at c.args.axioms.now c.loop-k.k c.index-axioms-k.result (c.nodes.result + c.nodes-in-loop-k.result) c.loop-k.pairs.pairs c.add.new.self.pairs (omega arith) c.index-axioms-k.is (omega (arith, c.nodes.ensures.value, c.nodes-in-loop-k.ensures.value)) c.loop-k.invariant.pairs c.add.ensures.pairs;
   draws = c.add.ensures.draws ∙ c.loop-k.invariant.draws;
   room = omega arith;
   spare = omega arith;

@@ -18,11 +18,18 @@ use Rattle.uc_rows.specs.declared.tasks.TaskRow.{TaskRow}
 use Rattle.uc_rows.specs.RowViews.{FactsView, PairsView}
 use Rattle.uc_book.specs.Openings.{opening_of}
 use Rattle.uc_book.specs.Parts.{state_of, closings, IsSteady}
+use Rattle.uc_shelf.proofs.Viewed.{err_of}
 use Rattle.uc_book.proofs.Steady.{steady_fit, steady_room, steady_len, steady_events, steady_after, closings_few}
 use Rattle.uc_book.proofs.Fitting.{joins}
 use Rattle.uc_book.proofs.Publishing.{audit_kept, audited_fit, keeps_state, spent_audit}
 use Rattle.uc_book.proofs.Standing.{closed_fit, closed_room}
 use Rattle.uc_book.proofs.parts.Parts.audit_open.Goals as goal
+
+pub returns-in_err-reserve-clause-err : goal.returns-in_err-reserve-clause-err
+returns-in_err-reserve-clause-err g c =
+    let p = c.args.self.now in
+    let q : Parts = record p { history = c.reserve.new.self } in
+    err_of c.from_residual.result ((state_of q ≡ state_of p) × (q.facts.front ≡ p.facts.front)) ((steady_events p c.reserve.new.self c.reserve.ensures.items c.reserve.ensures.capacity).state, refl)
 
 pub returns-in_err-reserve-clause-fit : goal.returns-in_err-reserve-clause-fit
 returns-in_err-reserve-clause-fit g c = steady_fit c.args.opening.now.shelf c.args.self.now (record c.args.self.now { history = c.reserve.new.self }) (steady_events c.args.self.now c.reserve.new.self c.reserve.ensures.items c.reserve.ensures.capacity) c.requires.can.fit
@@ -34,7 +41,11 @@ pub with_birth-requires : goal.with_birth-requires
 with_birth-requires g c = subst (λ (s : Shelves). IsOf s c.args.self.now.facts.front) (sym c.requires.shelf) c.requires.can.fit.front
 
 pub returns-in_err-front-clause-err : goal.returns-in_err-front-clause-err
-returns-in_err-front-clause-err g c = (let s : IsSteady c.args.self.now c.with_birth.new.self = steady_after c.args.self.now (record c.args.self.now { history = c.reserve.new.self }) c.with_birth.new.self (steady_events c.args.self.now c.reserve.new.self c.reserve.ensures.items c.reserve.ensures.capacity) c.with_birth.ensures.steady in (s.state, s.front))
+returns-in_err-front-clause-err g c =
+    let p = c.args.self.now in
+    let q = c.with_birth.new.self in
+    let s : IsSteady p q = steady_after p (record p { history = c.reserve.new.self }) q (steady_events p c.reserve.new.self c.reserve.ensures.items c.reserve.ensures.capacity) c.with_birth.ensures.steady in
+    err_of c.from_residual-in_err-front.result ((state_of q ≡ state_of p) × (q.facts.front ≡ p.facts.front)) (s.state, s.front)
 
 pub returns-in_err-front-clause-fit : goal.returns-in_err-front-clause-fit
 returns-in_err-front-clause-fit g c = steady_fit c.args.opening.now.shelf c.args.self.now c.with_birth.new.self (steady_after c.args.self.now (record c.args.self.now { history = c.reserve.new.self }) c.with_birth.new.self (steady_events c.args.self.now c.reserve.new.self c.reserve.ensures.items c.reserve.ensures.capacity) c.with_birth.ensures.steady) c.requires.can.fit
@@ -46,7 +57,7 @@ pub publish-requires-clause-grew : goal.publish-requires-clause-grew
 publish-requires-clause-grew g c = record {
   fact = c.args.fact;
   is = c.in_ok-front.ensures.entries ∙ ap (λ (x : Sight). x.entries ++ Born c.args.fact ∷ []) (sym c.with_birth.ensures.steady.front);
-  weight_is = search (rules, c.nodes.ensures, c.nodes-2.ensures);
+  weight_is = omega (arith, c.nodes.ensures.value, c.nodes-2.ensures.value);
 }
 
 pub publish-requires-clause-room : goal.publish-requires-clause-room

@@ -11,12 +11,13 @@ use Rattle.uc_book.specs.declared.parts.Parts.{Parts}
 use Rattle.uc_book.specs.Openings.{opening_of}
 use Rattle.uc_book.specs.Parts.{state_of, IsSteady}
 use Rattle.uc_rows.specs.Jobs.{AreJobs}
+use Rattle.uc_shelf.proofs.Viewed.{err_of}
 use Rattle.uc_book.proofs.Steady.{steady_on, steady_fit, steady_room, steady_give, give_on}
 use Rattle.uc_book.proofs.Giving.{goal_at_head, same_jobs, due_given}
 use Rattle.uc_book.proofs.parts.Parts.draw_open.Goals as goal
 
 pub returns-in_err-make_room-clause-err : goal.returns-in_err-make_room-clause-err
-returns-in_err-make_room-clause-err c = c.make_room.ensures.steady.state
+returns-in_err-make_room-clause-err c = err_of c.from_residual.result (state_of c.make_room.new.self ≡ state_of c.args.self.now) c.make_room.ensures.steady.state
 
 pub returns-in_err-make_room-clause-front : goal.returns-in_err-make_room-clause-front
 returns-in_err-make_room-clause-front c = c.make_room.ensures.steady.front
@@ -28,7 +29,7 @@ pub returns-in_err-make_room-clause-room : goal.returns-in_err-make_room-clause-
 returns-in_err-make_room-clause-room c = steady_room c.args.self.now c.make_room.new.self c.make_room.ensures.steady c.requires.room
 
 pub returns-in_err-fronts-clause-err : goal.returns-in_err-fronts-clause-err
-returns-in_err-fronts-clause-err c = c.make_room.ensures.steady.state
+returns-in_err-fronts-clause-err c = err_of c.from_residual-in_err-fronts.result (state_of c.make_room.new.self ≡ state_of c.args.self.now) c.make_room.ensures.steady.state
 
 pub returns-in_err-fronts-clause-front : goal.returns-in_err-fronts-clause-front
 returns-in_err-fronts-clause-front c = c.make_room.ensures.steady.front
@@ -39,22 +40,22 @@ returns-in_err-fronts-clause-fit c = steady_fit c.args.opening.shelf c.args.self
 pub returns-in_err-fronts-clause-room : goal.returns-in_err-fronts-clause-room
 returns-in_err-fronts-clause-room c = steady_room c.args.self.now c.make_room.new.self c.make_room.ensures.steady c.requires.room
 
-pub returns-in_err-due_jobs-clause-err : goal.returns-in_err-due_jobs-clause-err
-returns-in_err-due_jobs-clause-err c =
+pub returns-in_err-jobs-clause-err : goal.returns-in_err-jobs-clause-err
+returns-in_err-jobs-clause-err c =
     let q : Parts = record c.make_room.new.self { goals = c.due_jobs.new.self } in
     let s : IsSteady c.args.self.now q = steady_on c.args.self.now c.make_room.new.self q c.make_room.ensures.steady refl refl refl c.due_jobs.ensures.same refl refl refl refl refl refl refl in
-    s.state
+    err_of c.from_residual-in_err-jobs.result (state_of q ≡ state_of c.args.self.now) s.state
 
-pub returns-in_err-due_jobs-clause-front : goal.returns-in_err-due_jobs-clause-front
-returns-in_err-due_jobs-clause-front c = c.make_room.ensures.steady.front
+pub returns-in_err-jobs-clause-front : goal.returns-in_err-jobs-clause-front
+returns-in_err-jobs-clause-front c = c.make_room.ensures.steady.front
 
-pub returns-in_err-due_jobs-clause-fit : goal.returns-in_err-due_jobs-clause-fit
-returns-in_err-due_jobs-clause-fit c =
+pub returns-in_err-jobs-clause-fit : goal.returns-in_err-jobs-clause-fit
+returns-in_err-jobs-clause-fit c =
     let q : Parts = record c.make_room.new.self { goals = c.due_jobs.new.self } in
     steady_fit c.args.opening.shelf c.args.self.now q (steady_on c.args.self.now c.make_room.new.self q c.make_room.ensures.steady refl refl refl c.due_jobs.ensures.same refl refl refl refl refl refl refl) c.requires.fit
 
-pub returns-in_err-due_jobs-clause-room : goal.returns-in_err-due_jobs-clause-room
-returns-in_err-due_jobs-clause-room c =
+pub returns-in_err-jobs-clause-room : goal.returns-in_err-jobs-clause-room
+returns-in_err-jobs-clause-room c =
     let q : Parts = record c.make_room.new.self { goals = c.due_jobs.new.self } in
     steady_room c.args.self.now q (steady_on c.args.self.now c.make_room.new.self q c.make_room.ensures.steady refl refl refl c.due_jobs.ensures.same refl refl refl refl refl refl refl) c.requires.room
 
@@ -65,22 +66,22 @@ give-requires-clause-can c =
     (give_on c.make_room.new.self q refl refl refl c.in_ok-make_room.ensures.room)
 
 pub give-requires-clause-jobs : goal.give-requires-clause-jobs
-give-requires-clause-jobs c = (let a = rw c.in-Some.is at c.in_ok-due_jobs.ensures.jobs in same_jobs Goal (first (λ (g : Target). is_due g.stage) c.make_room.new.self.goals) c.in-Some.jobs a)
+give-requires-clause-jobs c = (let a = rw c.in-Some.is at c.in_ok-jobs.ensures.jobs in same_jobs Goal (first (λ (g : Target). is_due g.stage) c.make_room.new.self.goals) c.in-Some.jobs a)
 
 pub give-requires-clause-head : goal.give-requires-clause-head
-give-requires-clause-head c = (let a = rw c.in-Some.is at c.in_ok-due_jobs.ensures.jobs in let q : Parts = record c.make_room.new.self { goals = c.due_jobs.new.self } in goal_at_head q (first (λ (g : Target). is_due g.stage) c.make_room.new.self.goals) c.in-Some.jobs a)
+give-requires-clause-head c = (let a = rw c.in-Some.is at c.in_ok-jobs.ensures.jobs in let q : Parts = record c.make_room.new.self { goals = c.due_jobs.new.self } in goal_at_head q (first (λ (g : Target). is_due g.stage) c.make_room.new.self.goals) c.in-Some.jobs a)
 
 pub returns-in-Some-clause-drawn : goal.returns-in-Some-clause-drawn
 returns-in-Some-clause-drawn c =
     let q : Parts = record c.make_room.new.self { goals = c.due_jobs.new.self } in
-    let a = rw c.in-Some.is at c.in_ok-due_jobs.ensures.jobs in
+    let a = rw c.in-Some.is at c.in_ok-jobs.ensures.jobs in
     due_given c.args.opening.shelf (opening_of c.args.opening) c.args.worker c.args.self.now q c.give.new.self c.give.result c.args.opening
     (steady_on c.args.self.now c.make_room.new.self q c.make_room.ensures.steady refl refl refl c.due_jobs.ensures.same refl refl refl refl refl refl refl) c.requires.fit c.in-Some.jobs c.requires.open
     (subst (λ (gs : List Target). AreJobs Goal (first (λ (g : Target). is_due g.stage) gs) c.in-Some.jobs) (sym c.due_jobs.ensures.same) a) c.give.ensures.task c.give.ensures.state
 
 pub draw_fact-requires-clause-due : goal.draw_fact-requires-clause-due
 draw_fact-requires-clause-due c =
-    let none = rw c.in-None.is at c.in_ok-due_jobs.ensures.jobs in record {
+    let none = rw c.in-None.is at c.in_ok-jobs.ensures.jobs in record {
       open_ = ap (λ (s : State). s.verdict) c.make_room.ensures.steady.state ∙ c.requires.open;
       none_due = ap (λ gs. first (λ (g : Target). is_due g.stage) gs) c.due_jobs.ensures.same ∙ none;
     }

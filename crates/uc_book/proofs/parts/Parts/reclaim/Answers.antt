@@ -10,16 +10,16 @@ use Rattle.uc_book.proofs.Fitting.{room_ended}
 use Rattle.uc_book.proofs.Reclaiming.{not_out, not_his, reclaimed}
 use Rattle.uc_book.proofs.parts.Parts.reclaim.Goals as goal
 
-pub returns-in-None-clause-refused : goal.returns-in-None-clause-refused
-returns-in-None-clause-refused c = not_out (state_of c.args.self.now) c.args.worker c.args.ticket (rw c.deref.ensures.value at c.in-None.ensures.none)
+pub returns-in_default-clause-refused : goal.returns-in_default-clause-refused
+returns-in_default-clause-refused c = not_out (state_of c.args.self.now) c.args.worker c.args.ticket (rw c.deref.ensures.value at c.in_default.ensures.none)
 
-pub returns-then-worker-clause-refused : goal.returns-then-worker-clause-refused
-returns-then-worker-clause-refused c =
+pub returns-then-index-worker-clause-refused : goal.returns-then-index-worker-clause-refused
+returns-then-index-worker-clause-refused c =
     let p = c.args.self.now in
     let found = rw c.deref.ensures.value at c.in-Some.ensures.some in
     let row = c.index.result.now in
     let same : out_of row ≡ found.0 = row_out p.tasks.items c.in-Some.at found.0 row found.2 c.index.ensures in
-    not_his (state_of p) c.args.worker c.args.ticket found.0 found.1 found.2.found (λ e. (let bad : row.worker ≡ c.args.worker = ap (λ (t : Out). t.worker) same ∙ e in absurd (search rules)))
+    not_his (state_of p) c.args.worker c.args.ticket found.0 found.1 found.2.found (λ e. (let bad : row.worker ≡ c.args.worker = ap (λ (t : Out). t.worker) same ∙ e in absurd (c.if-index-worker.true bad)))
 
 pub put_back-requires-clause-at : goal.put_back-requires-clause-at
 put_back-requires-clause-at c = let found = rw c.deref.ensures.value at c.in-Some.ensures.some in (found.0, found.2)
@@ -33,7 +33,7 @@ returns-clause-reclaimed c =
     let found = rw c.deref.ensures.value at c.in-Some.ensures.some in
     let row = c.index.result.now in
     let same : out_of row ≡ found.0 = row_out p.tasks.items c.in-Some.at found.0 row found.2 c.index.ensures in
-    let his : found.0.worker ≡ c.args.worker = ap (λ (t : Out). t.worker) (sym same) ∙ c.if-worker.false in
+    let his : found.0.worker ≡ c.args.worker = ap (λ (t : Out). t.worker) (sym same) ∙ c.if-index-worker.false in
     reclaimed (state_of p) (state_of c.put_back.new.self) c.args.worker c.args.ticket found.0 found.1 found.2.found his (c.put_back.ensures.state found.0 found.2)
 
 pub returns-clause-fit : goal.returns-clause-fit

@@ -1,4 +1,4 @@
-use Rattle.std.proofs.Common.{rules, arith, refl, ◌≡◌, ℕ, ◌+◌, ◌<◌, ◌≤◌, length, None, sym, ◌∙◌, ap}
+use Rattle.std.proofs.Common.{rules, arith, refl, ◌≡◌, ℕ, ◌+◌, ◌<◌, ◌≤◌, ◌^◌, length, None, sym, ◌∙◌, ap}
 use Rattle.std.specs.Prelude.{Vec}
 use Rattle.std.specs.declared.alloc.Global.{Global}
 use Rattle.uc_machine.specs.declared.event.Verdict.TheVariants.{PairsOut}
@@ -33,8 +33,17 @@ returns-then-axioms-limit-clause-room c =
 pub close-requires : goal.close-requires
 close-requires c = (let r = c.in_ok-parts.ensures.room in let n = ap closings c.in_ok-parts.ensures.verdict in omega (arith, n, r.events))
 
+pub axiom_pairs-requires : goal.axiom_pairs-requires
+axiom_pairs-requires c = (let len : length c.as_slice-axioms.result.now ≡ length c.args.problem.now.axioms = ap length c.as_slice-axioms.ensures in omega (arith, c.in_ok-check_counts.ensures.axioms))
+
+pub returns-clause-axioms : goal.returns-clause-axioms
+returns-clause-axioms c = IfOk-weaker c.opened-2.result (λ (p : Parts). p.verdict ≡ None) (λ (p : Parts). length c.args.problem.now.axioms < 2 ^ 31) (λ p h. c.in_ok-check_counts.ensures.axioms) c.opened-2.ensures.verdict
+
+pub returns-clause-goals : goal.returns-clause-goals
+returns-clause-goals c = IfOk-weaker c.opened-2.result (λ (p : Parts). p.verdict ≡ None) (λ (p : Parts). length c.args.problem.now.goals < 2 ^ 31) (λ p h. c.in_ok-check_counts.ensures.goals) c.opened-2.ensures.verdict
+
 pub returns-clause-starts : goal.returns-clause-starts
-returns-clause-starts c = IfOk-weaker c.opened.result
+returns-clause-starts c = IfOk-weaker c.opened-2.result
     (λ (p : Parts). (o : Opening) → o.goals ≡ c.args.problem.now.goals → state_of p ≡ opened o c.in_ok-axiom_pairs.field-0.pairs)
     (λ (p : Parts). (budget : ℕ) → Starts (record { axioms = c.args.problem.now.axioms; goals = c.args.problem.now.goals; budget = budget; limit = c.args.limit }) (state_of p))
     (λ p h budget.
@@ -42,4 +51,4 @@ returns-clause-starts c = IfOk-weaker c.opened.result
     let len : length c.as_slice-axioms.result.now ≡ length c.args.problem.now.axioms = ap length c.as_slice-axioms.ensures in
     let l : length c.args.problem.now.axioms ≤ c.args.limit = omega arith in
     started o (state_of p) c.in_ok-axiom_pairs.field-0.pairs l (c.in_ok-axiom_pairs.ensures.pairs ∙ ap (axiom_pairs 0) c.as_slice-axioms.ensures) (h o refl)))
-    c.opened.ensures.state
+    c.opened-2.ensures.state
