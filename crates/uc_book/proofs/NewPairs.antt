@@ -1,9 +1,7 @@
 -- Pairs that are new, and how many of them wait.
-use Rattle.std.proofs.Common.{◌≡◌, ℕ, zero, suc, ◌+◌, ◌<◌, ◌≤◌, List, [], ◌∷◌, ◌++◌, length, get_or, take, Bool, true, false, cond, refl, ap, sym, ◌∙◌, arith, inl, inr, append_assoc, subst, map}
+use Rattle.std.proofs.Common.{◌≡◌, ℕ, suc, ◌+◌, ◌<◌, List, [], ◌∷◌, ◌++◌, length, get_or, take, Bool, cond, refl, ap, sym, ◌∙◌, arith, inl, inr, append_assoc, map}
 use Rattle.std.specs.Prelude.{count_by}
-use Rattle.std.specs.List.{sum_by}
 use Rattle.std.proofs.lemmas.Bool.{cases_Bool}
-use Rattle.std.proofs.lemmas.List.{length-append}
 use Rattle.std.proofs.lemmas.List.Sums.{sum_by-cons, sum_by-append}
 use Rattle.uc_pair.specs.declared.formed.Formed.{Formed}
 use Rattle.uc_fact.specs.declared.fact.Origin.TheVariants.{Overlap as OfOverlap}
@@ -12,11 +10,9 @@ use Rattle.uc_ledger.specs.declared.ledger.State.{State as Condition}
 use Rattle.uc_shelf.specs.declared.entry.Entry.{Entry}
 use Rattle.uc_shelf.specs.declared.entry.Entry.TheVariants.{Born, Dies}
 use Rattle.uc_machine.specs.State.{State, Pair, dead_of, is_waiting, queue_from, waiting}
-use Rattle.uc_machine.specs.Effects.{dies, pair_by, weight_by, condition_by, forms}
-use Rattle.uc_machine.specs.Lists.{each}
+use Rattle.uc_machine.specs.Effects.{pair_by, weight_by, condition_by, forms}
 use Rattle.uc_machine.specs.Commits.{deaths, newly_waiting}
 use Rattle.uc_rows.specs.Deaths.{deaths_by, revived, all_dead}
-use Rattle.uc_rows.proofs.Deaths.{all_die}
 use Rattle.uc_book.proofs.Prefixes.{map_more, count_more}
 
 abbrev pub waits : Pair → Bool

@@ -1,5 +1,5 @@
 -- Numbers that rise.
-use Rattle.std.proofs.Common.{◌≡◌, ℕ, zero, suc, ◌+◌, ◌<◌, ◌≤◌, List, [], ◌∷◌, length, Bool, true, false, cond, ◌==◌, refl, ap, sym, ◌∙◌, arith, inl, inr, get_or, Result, Ok, Err}
+use Rattle.std.proofs.Common.{◌≡◌, ℕ, zero, suc, ◌+◌, ◌<◌, ◌≤◌, List, [], ◌∷◌, length, Bool, true, false, ◌==◌, refl, ap, sym, ◌∙◌, arith, inl, inr, get_or, Result, Ok, Err}
 use Rattle.std.specs.Prelude.{◌||◌, filter, MatchResult, is_ok}
 use Rattle.std.proofs.lemmas.Bool.{cases_Bool, cases_lt, eq-eqb, ne_eqb}
 use Rattle.uc_shelf.specs.Entries.{is_dead}

@@ -1,5 +1,5 @@
 -- The changes of a state that the commit of a meeting puts together.
-use Rattle.std.proofs.Common.{◌≡◌, ℕ, ◌++◌, List, refl, ap, sym, ◌∙◌, map}
+use Rattle.std.proofs.Common.{◌≡◌, ℕ, ◌++◌, List, refl, ap, ◌∙◌, map}
 use Rattle.uc_pair.specs.declared.formed.Formed.{Formed}
 use Rattle.uc_shelf.specs.declared.entry.Entry.{Entry}
 use Rattle.uc_machine.specs.declared.state.Meeting.{Meeting}

@@ -1,7 +1,7 @@
 -- What the end of a visit leaves: a meeting of the machine, and parts that fit together and have room.
-use Rattle.std.proofs.Common.{◌≡◌, ℕ, ◌+◌, ◌<◌, ◌≤◌, List, [], ◌∷◌, ◌++◌, length, true, false, cond, Some, refl, ap, sym, ◌∙◌, arith, subst}
+use Rattle.std.proofs.Common.{◌≡◌, ℕ, ◌+◌, ◌<◌, ◌≤◌, List, [], ◌∷◌, ◌++◌, length, true, false, Some, refl, ap, sym, ◌∙◌, arith, subst}
 use Rattle.std.specs.Prelude.{None, remove, not, vec_len, vec_capacity}
-use Rattle.std.proofs.lemmas.List.{append-nil, length-append}
+use Rattle.std.proofs.lemmas.List.{append-nil}
 use Rattle.std.proofs.lemmas.List.Sums.{count_by-le-length}
 use Rattle.boxcar.specs.Table.{Shelves}
 use Rattle.uc_pair.specs.declared.formed.Formed.{Formed}

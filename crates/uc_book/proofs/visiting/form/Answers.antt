@@ -1,4 +1,4 @@
-use Rattle.std.proofs.Common.{arith, ◌≡◌, ◌<◌, ◌++◌, length, map, ap, ◌∙◌}
+use Rattle.std.proofs.Common.{arith, ◌<◌, ◌++◌, length, map, ap, ◌∙◌}
 use Rattle.std.proofs.lemmas.List.{take_all}
 use Rattle.uc_machine.specs.Effects.{pair_by}
 use Rattle.uc_rows.specs.Deaths.{deaths_by}

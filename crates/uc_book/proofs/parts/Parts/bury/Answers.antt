@@ -1,4 +1,4 @@
-use Rattle.std.proofs.Common.{arith, refl, ◌≡◌, ℕ, ◌<◌, ◌≤◌, List, [], ◌∷◌, length, sym, ap, ◌∙◌, subst}
+use Rattle.std.proofs.Common.{arith, ◌≡◌, [], ◌∷◌, length, sym, ◌∙◌, subst}
 use Rattle.boxcar.specs.Table.{Shelves}
 use Rattle.uc_shelf.specs.Entries.{born}
 use Rattle.uc_machine.specs.declared.task.Finding.TheVariants.{Stale}

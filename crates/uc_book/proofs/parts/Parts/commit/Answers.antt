@@ -1,15 +1,10 @@
-use Rattle.std.proofs.Common.{rules, arith, refl, ◌≡◌, ◌+◌, ◌≤◌, Some, None, length, sym, ◌∙◌, ap, subst}
-use Rattle.std.specs.Prelude.{is_some}
+use Rattle.std.proofs.Common.{arith, refl, ◌≡◌, sym, ◌∙◌, ap, subst}
 use Rattle.boxcar.specs.Table.{Shelves}
 use Rattle.uc_shelf.specs.Fronts.{IsOf}
-use Rattle.uc_machine.specs.State.{State, Out}
-use Rattle.uc_machine.specs.declared.task.Job.{Job}
 use Rattle.uc_machine.specs.declared.event.Happening.TheVariants.{CommitLate}
 use Rattle.uc_book.specs.Openings.{opening_of}
-use Rattle.uc_rows.specs.TaskRows.{StandsAt}
 use Rattle.uc_book.specs.Parts.{state_of, Fit}
 use Rattle.uc_book.proofs.Booked.{at_ticket}
-use Rattle.uc_rows.proofs.PutBack.{one_at}
 use Rattle.uc_book.proofs.Standing.{can_accept, late_fit}
 use Rattle.uc_book.proofs.Fitting.{room_ended}
 use Rattle.uc_book.proofs.Finishing.{late, same_place_job}

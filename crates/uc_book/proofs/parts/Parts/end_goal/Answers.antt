@@ -1,4 +1,4 @@
-use Rattle.std.proofs.Common.{rules, arith, refl, ◌≡◌, ◌+◌, true, false, Some, None, sym, ◌∙◌, ap}
+use Rattle.std.proofs.Common.{arith, ◌≡◌, sym, ◌∙◌, ap}
 use Rattle.std.proofs.lemmas.Bool.{false≢true}
 use Rattle.uc_book.specs.Parts.{closings}
 use Rattle.uc_book.proofs.parts.Parts.end_goal.Goals as goal

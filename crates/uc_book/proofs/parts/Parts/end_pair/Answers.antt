@@ -1,12 +1,11 @@
-use Rattle.std.proofs.Common.{rules, arith, refl, ◌≡◌, Some, sym, ◌∙◌, ap, subst}
+use Rattle.std.proofs.Common.{◌≡◌, Some, sym, ◌∙◌, ap, subst}
 use Rattle.std.specs.Prelude.{slice_get}
 use Rattle.uc_ledger.specs.declared.ledger.State.TheVariants.{Out as OutTo, Done}
 use Rattle.uc_machine.specs.Lists.{change, map_option}
-use Rattle.uc_machine.specs.State.{State, Pair, Out}
+use Rattle.uc_machine.specs.State.{Pair, Out}
 use Rattle.uc_machine.specs.Effects.{turns}
 use Rattle.uc_rows.specs.RowViews.{PairsView}
 use Rattle.uc_rows.specs.TaskRows.{out_of}
-use Rattle.uc_book.specs.Parts.{state_of}
 use Rattle.uc_book.proofs.Standing.{row_out}
 use Rattle.uc_book.proofs.Finishing.{pair_out}
 use Rattle.uc_book.proofs.Taking.{turned_state}

@@ -1,20 +1,19 @@
-use Rattle.std.proofs.Common.{rules, arith, refl, ◌≡◌, ◌+◌, ◌<◌, ◌≤◌, ◌++◌, ◌∷◌, [], List, length, Some, None, sym, ◌∙◌, ap, subst}
-use Rattle.std.specs.Prelude.{remove, Vec}
+use Rattle.std.proofs.Common.{rules, refl, ◌≡◌, ◌≤◌, ◌++◌, ◌∷◌, [], length, sym, ◌∙◌, ap, subst}
+use Rattle.std.specs.Prelude.{Vec}
 use Rattle.std.specs.declared.alloc.Global.{Global}
 use Rattle.uc_fact.specs.declared.fact.Fact.{Fact}
 use Rattle.uc_shelf.specs.Sights.{Sight}
 use Rattle.uc_shelf.specs.Fronts.{IsOf}
-use Rattle.uc_shelf.specs.declared.entry.Entry.{Entry}
 use Rattle.uc_shelf.specs.declared.entry.Entry.TheVariants.{Born}
 use Rattle.uc_shelf.specs.Entries.{born}
 use Rattle.uc_ledger.specs.declared.ledger.State.TheVariants.{Done}
 use Rattle.uc_machine.specs.declared.event.Happening.TheVariants.{CommitKept}
-use Rattle.uc_machine.specs.State.{State, Out}
+use Rattle.uc_machine.specs.State.{State}
 use Rattle.uc_machine.specs.Effects.{publishes, turns, accepts}
 use Rattle.uc_rows.specs.declared.tasks.TaskRow.{TaskRow}
 use Rattle.uc_rows.specs.RowViews.{FactsView}
 use Rattle.uc_rows.specs.TaskRows.{StandsAt}
-use Rattle.uc_book.specs.Parts.{state_of, IsSubjectOut}
+use Rattle.uc_book.specs.Parts.{state_of}
 use Rattle.uc_book.proofs.Steady.{on_err, steady_fit, steady_room}
 use Rattle.uc_book.proofs.Standing.{can_accept, kept_fit, room_kept, steady_end, steady_stands, stands_before}
 use Rattle.uc_book.proofs.Finishing.{pair_kept}

@@ -1,4 +1,4 @@
-use Rattle.std.proofs.Common.{arith, refl, ◌≡◌, ℕ, ◌<◌, ◌≤◌, List, [], length, true, false, sym, ap, ◌∙◌, subst}
+use Rattle.std.proofs.Common.{arith, ◌≡◌, ◌<◌, [], length, true, false, sym, ◌∙◌, subst}
 use Rattle.boxcar.specs.Table.{Shelves}
 use Rattle.uc_shelf.specs.Entries.{born, is_dead}
 use Rattle.uc_machine.specs.declared.task.Finding.TheVariants.{Met}

@@ -1,4 +1,4 @@
-use Rattle.std.proofs.Common.{arith, ◌≡◌, ◌<◌, length, sym, ap, ◌∙◌}
+use Rattle.std.proofs.Common.{arith, ◌≡◌, ◌<◌, length, ap, ◌∙◌}
 use Rattle.uc_machine.specs.declared.event.Verdict.TheVariants.{PairsOut}
 use Rattle.uc_machine.specs.declared.event.Happening.TheVariants.{CommitMeet}
 use Rattle.uc_machine.specs.State.{State, Out}

@@ -1,9 +1,7 @@
-use Rattle.std.proofs.Common.{rules, arith, refl, ◌≡◌, ◌<◌, ◌≤◌, Some, None, length, get_or, map, take, sym, ◌∙◌, ap, subst}
+use Rattle.std.proofs.Common.{◌≡◌, get_or, map, take, sym, ◌∙◌, ap}
 use Rattle.std.proofs.lemmas.Bool.{false≢true}
-use Rattle.uc_shelf.specs.declared.entry.Entry.{Entry}
-use Rattle.uc_machine.specs.State.{State, Out, out_at}
-use Rattle.uc_rows.specs.declared.tasks.TaskRow.{TaskRow}
-use Rattle.uc_rows.specs.TaskRows.{out_of, StandsAt, HasFront}
+use Rattle.uc_machine.specs.State.{Out, out_at}
+use Rattle.uc_rows.specs.TaskRows.{out_of, HasFront}
 use Rattle.uc_book.specs.Parts.{state_of}
 use Rattle.uc_book.proofs.Standing.{row_out, each_row}
 use Rattle.uc_book.proofs.Standing.{not_there, not_same}

@@ -1,4 +1,4 @@
-use Rattle.std.proofs.Common.{rules, arith, refl, ◌≡◌, ◌++◌, ◌∷◌, [], sym, ◌∙◌, ap}
+use Rattle.std.proofs.Common.{◌∙◌, ap}
 use Rattle.uc_shelf.specs.Sights.{Sight}
 use Rattle.uc_book.proofs.Publishing.{published}
 use Rattle.uc_book.proofs.parts.Parts.publish.Goals as goal

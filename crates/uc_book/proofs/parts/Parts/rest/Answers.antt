@@ -1,10 +1,9 @@
-use Rattle.std.proofs.Common.{rules, arith, refl, ◌≡◌, Some, length, sym, ◌∙◌, ap, subst}
+use Rattle.std.proofs.Common.{rules, ◌≡◌, length, ◌∙◌, ap}
 use Rattle.std.specs.Prelude.{nat_lt}
 use Rattle.uc_machine.specs.declared.event.GoalEnd.{GoalEnd}
 use Rattle.uc_machine.specs.declared.event.Happening.{Happening}
 use Rattle.uc_machine.specs.declared.state.Stage.{Stage}
-use Rattle.uc_machine.specs.Lists.{change}
-use Rattle.uc_machine.specs.State.{State, Target, Out}
+use Rattle.uc_machine.specs.State.{State, Out}
 use Rattle.uc_machine.specs.Effects.{stages, accepts}
 use Rattle.uc_machine.specs.Commits.{end_word}
 use Rattle.uc_rows.specs.TaskRows.{out_of}

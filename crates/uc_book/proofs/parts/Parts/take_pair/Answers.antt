@@ -1,7 +1,6 @@
-use Rattle.std.proofs.Common.{rules, arith, refl, ◌≡◌, ◌+◌, ◌≤◌, Some, None, sym, ◌∙◌, ap, subst}
+use Rattle.std.proofs.Common.{arith, refl, sym, ap, subst}
 use Rattle.uc_machine.specs.declared.event.Happening.TheVariants.{CommitJoined}
 use Rattle.uc_machine.specs.declared.task.Finding.{Finding}
-use Rattle.uc_machine.specs.State.{Out}
 use Rattle.uc_machine.specs.Commits.{Commits}
 use Rattle.uc_rows.specs.RowViews.{FactsView}
 use Rattle.uc_book.specs.Parts.{state_of}

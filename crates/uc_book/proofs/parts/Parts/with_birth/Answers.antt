@@ -1,9 +1,6 @@
-use Rattle.std.proofs.Common.{rules, arith, refl, ◌≡◌, ◌+◌, ◌<◌, ◌≤◌, ◌^◌, ◌++◌, ◌∷◌, [], length, sym, ◌∙◌, ap, subst}
-use Rattle.std.proofs.lemmas.List.{length_push}
+use Rattle.std.proofs.Common.{◌++◌, ◌∷◌, [], ◌∙◌, ap}
 use Rattle.uc_shelf.specs.Sights.{Sight}
-use Rattle.uc_shelf.specs.declared.entry.Entry.{Entry}
 use Rattle.uc_shelf.specs.declared.entry.Entry.TheVariants.{Born}
-use Rattle.uc_shelf.specs.Fronts.{IsOf}
 use Rattle.uc_book.proofs.Steady.{with_facts}
 use Rattle.uc_book.proofs.parts.Parts.with_birth.Goals as goal
 
