@@ -1,6 +1,8 @@
 use Rattle.std.proofs.Common.{rules, arith, refl, ◌≡◌, ◌<◌, ◌≤◌, ◌^◌, length, sym, ◌∙◌, ap, subst}
 use Rattle.uc_shelf.specs.Fronts.{IsOf}
 use Rattle.uc_book.specs.Openings.{Opened, opening_of}
+use Rattle.uc_book.specs.Answers.{IsRefused}
+use Rattle.uc_book.specs.Parts.{state_of}
 use Rattle.uc_book.specs.Ending.{CanEnd}
 use Rattle.uc_book.proofs.Fitness.{result_for}
 use Rattle.uc_book.proofs.Sound.{book_can_end}
@@ -31,3 +33,6 @@ invariant_of-self g c =
     let of = rw (← c.self.view_is) at c.requires.opening in
     let right = rw (← c.self.view_is) at c.requires.right in
     committed_book (g.O.Order.meaning b.order.now) o c.worker.result c.args.done b.parts c.commit.new.self c.commit.result c.self.invariant right of (rw is at c.commit.ensures.committed) c.commit.ensures.err (rw is at c.commit.ensures.fit) c.commit.ensures.room
+
+pub returns-clause-refused : goal.returns-clause-refused
+returns-clause-refused g c = rw (← c.self.view_is) (subst (λ w. (c.in-Err.refused.0 ≡ c.args.done) × IsRefused (state_of c.self.inside.parts) w c.args.done c.in-Err.refused.1) c.worker.ensures.value c.in-Err.ensures.refused)
