@@ -18,8 +18,7 @@ use Rattle.uc_rows.specs.declared.tasks.TaskRow.{TaskRow}
 use Rattle.uc_rows.specs.RowViews.{FactsView, PairsView}
 use Rattle.uc_book.specs.Openings.{opening_of}
 use Rattle.uc_book.specs.Parts.{state_of, closings, IsSteady}
-use Rattle.uc_shelf.proofs.Viewed.{err_of}
-use Rattle.uc_book.proofs.Steady.{steady_fit, steady_room, steady_len, steady_events, steady_after, closings_few}
+use Rattle.uc_book.proofs.Steady.{on_err, steady_fit, steady_room, steady_len, steady_events, steady_after, closings_few}
 use Rattle.uc_book.proofs.Fitting.{joins}
 use Rattle.uc_book.proofs.Publishing.{audit_kept, audited_fit, keeps_state, spent_audit}
 use Rattle.uc_book.proofs.Standing.{closed_fit, closed_room}
@@ -29,7 +28,7 @@ pub returns-in_err-reserve-clause-err : goal.returns-in_err-reserve-clause-err
 returns-in_err-reserve-clause-err g c =
     let p = c.args.self.now in
     let q : Parts = record p { history = c.reserve.new.self } in
-    err_of c.from_residual.result ((state_of q ≡ state_of p) × (q.facts.front ≡ p.facts.front)) ((steady_events p c.reserve.new.self c.reserve.ensures.items c.reserve.ensures.capacity).state, refl)
+    on_err c.from_residual.result ((steady_events p c.reserve.new.self c.reserve.ensures.items c.reserve.ensures.capacity).state, refl)
 
 pub returns-in_err-reserve-clause-fit : goal.returns-in_err-reserve-clause-fit
 returns-in_err-reserve-clause-fit g c = steady_fit c.args.opening.now.shelf c.args.self.now (record c.args.self.now { history = c.reserve.new.self }) (steady_events c.args.self.now c.reserve.new.self c.reserve.ensures.items c.reserve.ensures.capacity) c.requires.can.fit
@@ -45,7 +44,7 @@ returns-in_err-front-clause-err g c =
     let p = c.args.self.now in
     let q = c.with_birth.new.self in
     let s : IsSteady p q = steady_after p (record p { history = c.reserve.new.self }) q (steady_events p c.reserve.new.self c.reserve.ensures.items c.reserve.ensures.capacity) c.with_birth.ensures.steady in
-    err_of c.from_residual-in_err-front.result ((state_of q ≡ state_of p) × (q.facts.front ≡ p.facts.front)) (s.state, s.front)
+    on_err c.from_residual-in_err-front.result (s.state, s.front)
 
 pub returns-in_err-front-clause-fit : goal.returns-in_err-front-clause-fit
 returns-in_err-front-clause-fit g c = steady_fit c.args.opening.now.shelf c.args.self.now c.with_birth.new.self (steady_after c.args.self.now (record c.args.self.now { history = c.reserve.new.self }) c.with_birth.new.self (steady_events c.args.self.now c.reserve.new.self c.reserve.ensures.items c.reserve.ensures.capacity) c.with_birth.ensures.steady) c.requires.can.fit
@@ -66,17 +65,17 @@ publish-requires-clause-room g c = c.in_ok-front.ensures.room
 pub spend-requires : goal.spend-requires
 spend-requires g c = (let n = ap closings c.requires.open in omega (arith, n, c.requires.can.room.events))
 
-pub returns-then-counted-budget-clause-audited : goal.returns-then-counted-budget-clause-audited
-returns-then-counted-budget-clause-audited g c =
+pub returns-then-self-budget-clause-audited : goal.returns-then-self-budget-clause-audited
+returns-then-self-budget-clause-audited g c =
     let p = c.args.self.now in
-    spent_audit (opening_of c.args.opening.now) c.args.fact (state_of p) (state_of c.spend.new.self) c.spend.result c.requires.open (c.if-counted-budget.true ∙ c.budget.ensures) c.spend.ensures.verdict c.spend.ensures.state
+    spent_audit (opening_of c.args.opening.now) c.args.fact (state_of p) (state_of c.spend.new.self) c.spend.result c.requires.open (c.if-self-budget.true ∙ c.budget.ensures) c.spend.ensures.verdict c.spend.ensures.state
 
-pub returns-then-counted-budget-clause-fit : goal.returns-then-counted-budget-clause-fit
-returns-then-counted-budget-clause-fit g c =
+pub returns-then-self-budget-clause-fit : goal.returns-then-self-budget-clause-fit
+returns-then-self-budget-clause-fit g c =
     closed_fit c.args.opening.now.shelf c.args.self.now c.spend.new.self 0 (BudgetOut c.args.self.now.counted) c.requires.can.fit c.spend.ensures.state (ap (λ (f : FactsView). f.front) c.spend.ensures.subjects.facts) c.spend.ensures.tasks.1 (ap (λ (ts : Vec TaskRow Global). ts.items) c.spend.ensures.tasks.0)
 
-pub returns-then-counted-budget-clause-room : goal.returns-then-counted-budget-clause-room
-returns-then-counted-budget-clause-room g c =
+pub returns-then-self-budget-clause-room : goal.returns-then-self-budget-clause-room
+returns-then-self-budget-clause-room g c =
     closed_room c.args.self.now c.spend.new.self 0 (BudgetOut c.args.self.now.counted) c.requires.can.room c.requires.open c.spend.ensures.state (ap (λ (ts : Vec TaskRow Global). ts.items) c.spend.ensures.tasks.0) c.spend.ensures.history c.spend.ensures.capacity (ap (λ (v : PairsView). v.spare) c.spend.ensures.subjects.pairs)
 
 pub returns-clause-audited : goal.returns-clause-audited
@@ -84,17 +83,17 @@ returns-clause-audited g c =
     let p = c.args.self.now in
     let s : IsSteady p c.with_birth.new.self = steady_after p (record p { history = c.reserve.new.self }) c.with_birth.new.self (steady_events p c.reserve.new.self c.reserve.ensures.items c.reserve.ensures.capacity) c.with_birth.ensures.steady in
     let entries = c.in_ok-front.ensures.entries ∙ ap (λ (x : Sight). x.entries ++ Born c.args.fact ∷ []) (sym c.with_birth.ensures.steady.front) in
-    let number : c.count.result ≡ length (born p.facts.front.entries) = c.count.ensures.value ∙ ap (λ (x : Sight). length (born x.entries)) s.front in
-    audit_kept (opening_of c.args.opening.now) c.args.fact (state_of p) _ c.count.result c.requires.open (λ e. c.if-counted-budget.false (e ∙ sym c.budget.ensures)) number
-    (keeps_state (state_of p) c.publish.new.self c.args.fact c.count.result c.push_reserved.new.self (c.publish.ensures.state c.args.fact entries ∙ ap (publishes c.args.fact) s.state) c.push_reserved.ensures.items)
+    let number : c.count-number.result ≡ length (born p.facts.front.entries) = c.count-number.ensures.value ∙ ap (λ (x : Sight). length (born x.entries)) s.front in
+    audit_kept (opening_of c.args.opening.now) c.args.fact (state_of p) _ c.count-number.result c.requires.open (λ e. c.if-self-budget.false (e ∙ sym c.budget.ensures)) number
+    (keeps_state (state_of p) c.publish.new.self c.args.fact c.count-number.result c.push_reserved.new.self (c.publish.ensures.state c.args.fact entries ∙ ap (publishes c.args.fact) s.state) c.push_reserved.ensures.items)
 
 pub returns-clause-fit : goal.returns-clause-fit
 returns-clause-fit g c =
     let p = c.args.self.now in
     let s : IsSteady p c.with_birth.new.self = steady_after p (record p { history = c.reserve.new.self }) c.with_birth.new.self (steady_events p c.reserve.new.self c.reserve.ensures.items c.reserve.ensures.capacity) c.with_birth.ensures.steady in
     let entries = c.in_ok-front.ensures.entries ∙ ap (λ (x : Sight). x.entries ++ Born c.args.fact ∷ []) (sym c.with_birth.ensures.steady.front) in
-    audited_fit c.args.opening.now.shelf p _ c.args.fact c.count.result c.requires.can.fit
-    (keeps_state (state_of p) c.publish.new.self c.args.fact c.count.result c.push_reserved.new.self (c.publish.ensures.state c.args.fact entries ∙ ap (publishes c.args.fact) s.state) c.push_reserved.ensures.items)
+    audited_fit c.args.opening.now.shelf p _ c.args.fact c.count-number.result c.requires.can.fit
+    (keeps_state (state_of p) c.publish.new.self c.args.fact c.count-number.result c.push_reserved.new.self (c.publish.ensures.state c.args.fact entries ∙ ap (publishes c.args.fact) s.state) c.push_reserved.ensures.items)
     (subst (λ (x : Sight). IsOf c.args.opening.now.shelf x) (sym c.publish.ensures.front) (subst (λ (h : Shelves). IsOf h c.in_ok-front.front) c.requires.shelf c.in_ok-front.ensures.of))
     (c.publish.ensures.rest.next ∙ s.next) (ap (λ (ts : Vec TaskRow Global). ts.items) c.publish.ensures.rest.tasks ∙ s.tasks)
 

@@ -9,15 +9,13 @@ use Rattle.uc_book.specs.Openings.{opening_of}
 use Rattle.uc_book.specs.Parts.{state_of, IsSteady, Fit}
 use Rattle.uc_book.specs.Drawing.{CanGive}
 use Rattle.uc_book.specs.Answers.{reply_of, IfTask}
-use Rattle.uc_shelf.proofs.Viewed.{err_of}
-use Rattle.uc_book.proofs.Steady.{steady_fit, steady_room, steady_give, give_on, with_goals}
+use Rattle.uc_book.proofs.Steady.{on_err, steady_fit, steady_room, steady_give, give_on, with_goals}
 use Rattle.uc_book.proofs.Giving.{more_later, dropped_give}
 use Rattle.uc_book.proofs.parts.Parts.draw_behind.Goals as goal
 
 pub returns-in_err-more-clause-err : goal.returns-in_err-more-clause-err
 returns-in_err-more-clause-err c =
-    let q : Parts = record c.args.self.now { goals = c.more_jobs.new.goals } in
-    err_of c.from_residual.result (state_of q ≡ state_of c.args.self.now) (with_goals c.args.self.now c.more_jobs.new.goals c.more_jobs.ensures.same).state
+    on_err c.from_residual.result (with_goals c.args.self.now c.more_jobs.new.goals c.more_jobs.ensures.same).state
 
 pub returns-in_err-more-clause-fit : goal.returns-in_err-more-clause-fit
 returns-in_err-more-clause-fit c = steady_fit c.args.opening.shelf c.args.self.now (record c.args.self.now { goals = c.more_jobs.new.goals }) (with_goals c.args.self.now c.more_jobs.new.goals c.more_jobs.ensures.same) c.requires.can.fit

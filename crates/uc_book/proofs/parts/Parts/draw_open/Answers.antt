@@ -11,13 +11,12 @@ use Rattle.uc_book.specs.declared.parts.Parts.{Parts}
 use Rattle.uc_book.specs.Openings.{opening_of}
 use Rattle.uc_book.specs.Parts.{state_of, IsSteady}
 use Rattle.uc_rows.specs.Jobs.{AreJobs}
-use Rattle.uc_shelf.proofs.Viewed.{err_of}
-use Rattle.uc_book.proofs.Steady.{steady_on, steady_fit, steady_room, steady_give, give_on}
+use Rattle.uc_book.proofs.Steady.{on_err, steady_on, steady_fit, steady_room, steady_give, give_on}
 use Rattle.uc_book.proofs.Giving.{goal_at_head, same_jobs, due_given}
 use Rattle.uc_book.proofs.parts.Parts.draw_open.Goals as goal
 
 pub returns-in_err-make_room-clause-err : goal.returns-in_err-make_room-clause-err
-returns-in_err-make_room-clause-err c = err_of c.from_residual.result (state_of c.make_room.new.self ≡ state_of c.args.self.now) c.make_room.ensures.steady.state
+returns-in_err-make_room-clause-err c = on_err c.from_residual.result c.make_room.ensures.steady.state
 
 pub returns-in_err-make_room-clause-front : goal.returns-in_err-make_room-clause-front
 returns-in_err-make_room-clause-front c = c.make_room.ensures.steady.front
@@ -29,7 +28,7 @@ pub returns-in_err-make_room-clause-room : goal.returns-in_err-make_room-clause-
 returns-in_err-make_room-clause-room c = steady_room c.args.self.now c.make_room.new.self c.make_room.ensures.steady c.requires.room
 
 pub returns-in_err-fronts-clause-err : goal.returns-in_err-fronts-clause-err
-returns-in_err-fronts-clause-err c = err_of c.from_residual-in_err-fronts.result (state_of c.make_room.new.self ≡ state_of c.args.self.now) c.make_room.ensures.steady.state
+returns-in_err-fronts-clause-err c = on_err c.from_residual-in_err-fronts.result c.make_room.ensures.steady.state
 
 pub returns-in_err-fronts-clause-front : goal.returns-in_err-fronts-clause-front
 returns-in_err-fronts-clause-front c = c.make_room.ensures.steady.front
@@ -44,7 +43,7 @@ pub returns-in_err-jobs-clause-err : goal.returns-in_err-jobs-clause-err
 returns-in_err-jobs-clause-err c =
     let q : Parts = record c.make_room.new.self { goals = c.due_jobs.new.self } in
     let s : IsSteady c.args.self.now q = steady_on c.args.self.now c.make_room.new.self q c.make_room.ensures.steady refl refl refl c.due_jobs.ensures.same refl refl refl refl refl refl refl in
-    err_of c.from_residual-in_err-jobs.result (state_of q ≡ state_of c.args.self.now) s.state
+    on_err c.from_residual-in_err-jobs.result s.state
 
 pub returns-in_err-jobs-clause-front : goal.returns-in_err-jobs-clause-front
 returns-in_err-jobs-clause-front c = c.make_room.ensures.steady.front
