@@ -131,31 +131,31 @@ module _ (table : Table) where
 
     axioms_over : (ss : List Sourced) → Each (IsTerm P (arity_of table)) (terms_of ss) → Each IsEquationOver (axioms_of ss)
     axioms_over [] h = tt
-    axioms_over (s ∷ ss) h = go s.clause.positive (axioms_over ss h.2)
+    axioms_over (s ∷ ss) h = go s.clause.positive (axioms_over ss h.1.1)
       where
         go : (b : Bool) → Each IsEquationOver (axioms_of ss) → Each IsEquationOver (if b then equation_of s.clause ∷ axioms_of ss else axioms_of ss)
-        go true later = ((h.0, h.1), later)
+        go true later = ((h.0, h.1.0), later)
         go false later = later
 
     goals_over : (ss : List Sourced) → Each (IsTerm P (arity_of table)) (terms_of ss) → Each IsEquationOver (goals_of ss)
     goals_over [] h = tt
-    goals_over (s ∷ ss) h = go s.clause.positive (goals_over ss h.2)
+    goals_over (s ∷ ss) h = go s.clause.positive (goals_over ss h.1.1)
       where
         go : (b : Bool) → Each IsEquationOver (goals_of ss) → Each IsEquationOver (if b then goals_of ss else equation_of s.clause ∷ goals_of ss)
         go true later = later
-        go false later = ((h.0, h.1), later)
+        go false later = ((h.0, h.1.0), later)
 
     where_over : (is : Sourced → Bool) (ss : List Sourced) → Each (IsTerm P (arity_of table)) (terms_of ss) → Each IsEquationOver (equations_where is ss)
     where_over is [] h = tt
-    where_over is (s ∷ ss) h = go (is s) (where_over is ss h.2)
+    where_over is (s ∷ ss) h = go (is s) (where_over is ss h.1.1)
       where
         go : (b : Bool) → Each IsEquationOver (equations_where is ss) → Each IsEquationOver (if b then equation_of s.clause ∷ equations_where is ss else equations_where is ss)
-        go true later = ((h.0, h.1), later)
+        go true later = ((h.0, h.1.0), later)
         go false later = later
 
     module _ (marks : Fresh) (eq : P marks.eq) (yes : P marks.yes) (no : P marks.no) (eq_arity : arity_of table marks.eq ≡ 2) (yes_arity : arity_of table marks.yes ≡ 0) (no_arity : arity_of table marks.no ≡ 0) where
       pair_over : (s t : Tree) → IsTerm P (arity_of table) s → IsTerm P (arity_of table) t → IsTerm P (arity_of table) (pair_term marks s t)
-      pair_over s t h k = (eq, sym eq_arity, h, k, tt)
+      pair_over s t h k = (eq, sym eq_arity, (h, (k, tt)))
 
       yes_over : IsTerm P (arity_of table) (app marks.yes none)
       yes_over = (yes, sym yes_arity, tt)

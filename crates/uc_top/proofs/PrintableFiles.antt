@@ -53,11 +53,11 @@ candidates_spellable folder root name f r s = go (begins_with_slash name)
 
 found_spellable : (files : Files) (names : List (List ℕ)) (found bytes : List ℕ) → AreSpellable names → first_held files names ≡ Some (found, bytes) → IsSpellable found
 found_spellable files [] found bytes h e = absurd cc
-found_spellable files (name ∷ names) found bytes h e = go (held files name) e
+found_spellable files (name ∷ names) found bytes h e = go (held files name) e (found_spellable files names found bytes h.1)
   where
-    go : (o : Option (List ℕ)) → held_or name o (first_held files names) ≡ Some (found, bytes) → IsSpellable found
-    go (Some text) q = let same : name ≡ found = cc in subst IsSpellable same h.0
-    go None q = found_spellable files names found bytes h.1 q
+    go : (o : Option (List ℕ)) → held_or name o (first_held files names) ≡ Some (found, bytes) → (first_held files names ≡ Some (found, bytes) → IsSpellable found) → IsSpellable found
+    go (Some text) q later = let pairs : Path (List ℕ × List ℕ) (name, text) (found, bytes) = cc in subst IsSpellable (ap (λ (p : List ℕ × List ℕ). p.0) pairs) h.0
+    go None q later = later q
 
 -- CLAUSES
 

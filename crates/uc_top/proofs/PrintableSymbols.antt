@@ -52,7 +52,9 @@ decimal_seen n = onto_seen 64 n [] refl
 
 tried_spellable : (word : List ℕ) (n : ℕ) → IsSpellable word → IsSpellable (tried_name word n)
 tried_spellable word zero s = s
-tried_spellable word (suc n) s = (omega (arith, s.0, length-append word (codes "_" ++ decimal (n + 1))), seen_both word (codes "_" ++ decimal (n + 1)) s.1 (decimal_seen (n + 1)))
+tried_spellable word (suc n) s =
+    let front = word ++ codes "_" in
+    (omega (arith, s.0, length-append front (decimal (n + 1)), length-append word (codes "_")), seen_both front (decimal (n + 1)) (seen_both word (codes "_") s.1 refl) (decimal_seen (n + 1)))
 
 module _ (table : Table) where
   -- a symbol of this name and arity
@@ -98,7 +100,7 @@ module _ (table : Table) where
 
   terms_printable : (ss : List Sourced) → ArePrintableSourced table ss → Each (IsPrintable table) (terms_of ss)
   terms_printable [] h = tt
-  terms_printable (s ∷ ss) h = (h.0.1.1, h.0.1.2, terms_printable ss h.1)
+  terms_printable (s ∷ ss) h = (h.0.1.1, (h.0.1.2, terms_printable ss h.1))
 
   -- SIGNATURES
 
@@ -123,9 +125,7 @@ module _ (table : Table) where
         let fs = problem.signature.symbols in
         both (IsPrintableSymbol table) fs (marks.yes ∷ marks.no ∷ marks.eq ∷ []) own_printable (
           fresh_printable (codes "true") 0 fs marks.yes (omega arith, refl) (omega arith) m.2.yes,
-          fresh_printable (codes "false") 0 fs marks.no (omega arith, refl) (omega arith) m.2.no,
-          fresh_printable (codes "eq") 2 fs marks.eq (omega arith, refl) (omega arith) m.2.eq,
-          tt,
+          (fresh_printable (codes "false") 0 fs marks.no (omega arith, refl) (omega arith) m.2.no, (fresh_printable (codes "eq") 2 fs marks.eq (omega arith, refl) (omega arith) m.2.eq, tt)),
         )
 
     -- those of the order's signature

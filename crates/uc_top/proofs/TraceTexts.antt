@@ -8,9 +8,9 @@ use Rattle.uc_top.specs.Lines.{joined}
 use Rattle.uc_top.specs.TraceLines.{event_line, event_lines, share_text, trace_text}
 use Rattle.uc_top.proofs.DirectedLines.{joined_one}
 
-pub told_so : {T E P : Type 0} (r : Result T E) → IfOk r (λ _. P) → OnOk r P
-told_so (Ok v) h = h
-told_so (Err e) h = tt
+pub told_so : {T E : Type 0} (P : Type 0) (r : Result T E) → IfOk r (λ _. P) → OnOk r P
+told_so P (Ok v) h = h
+told_so P (Err e) h = tt
 
 -- what is written behind what was
 pub behind : (new mid old a b : List ℕ) → new ≡ mid ++ b → mid ≡ old ++ a → new ≡ old ++ (a ++ b)
@@ -21,12 +21,11 @@ module _ (history : List Event) where
   abbrev pub BegunTrace : ℕ → List (List ℕ) → Type 0
   BegunTrace number lines = joined lines ++ event_lines (number + 1) (drop number history) ≡ event_lines 1 history
 
-  pub one_more_event : (number : ℕ) (lines : List (List ℕ)) (d e : Event) → number < length history → e ≡ get_or history number d → BegunTrace number lines → BegunTrace (number + 1) (lines ++ event_line (number + 1) e ∷ [])
-  one_more_event number lines d e h at begun =
-      let line = event_line (number + 1) e in
+  pub one_more_event : (number : ℕ) (lines : List (List ℕ)) (d e : Event) (line : List ℕ) → number < length history → e ≡ get_or history number d → line ≡ event_line (number + 1) e → BegunTrace number lines → BegunTrace (number + 1) (lines ++ line ∷ [])
+  one_more_event number lines d e line h at is begun =
       let rest = event_lines (number + 1 + 1) (drop (number + 1) history) in
       let here : drop number history ≡ e ∷ drop (number + 1) history = drop_more history number d h ∙ ap (λ x. x ∷ drop (number + 1) history) (sym at) in
-      ap (λ t. t ++ rest) (joined_one lines line) ∙ append_assoc (joined lines) line rest ∙ ap (λ es. joined lines ++ event_lines (number + 1) es) (sym here) ∙ begun
+      ap (λ t. t ++ rest) (joined_one lines line) ∙ append_assoc (joined lines) line rest ∙ ap (λ t. joined lines ++ (t ++ rest)) is ∙ ap (λ es. joined lines ++ event_lines (number + 1) es) (sym here) ∙ begun
 
   pub all_events_told : (number : ℕ) (lines : List (List ℕ)) → length history ≤ number → BegunTrace number lines → joined lines ≡ event_lines 1 history
   all_events_told number lines h begun = sym (append-nil (joined lines)) ∙ ap (λ es. joined lines ++ event_lines (number + 1) es) (sym (drop_all number history h)) ∙ begun

@@ -28,6 +28,6 @@ module _ (table : Table) where
   ArePrintableSourced (s ∷ ss) = IsPrintableSourced s × ArePrintableSourced ss
 
   -- the clauses of the problem are so, and its name can stand behind `for`
-  pub record CanBePrinted (name : List ℕ) (problem : Problem) : Type 0 where
-    pub name : IsProofName name
+  pub record CanBePrinted (title : List ℕ) (problem : Problem) : Type 0 where
+    pub name : IsProofName title
     pub clauses : ArePrintableSourced problem.clauses
