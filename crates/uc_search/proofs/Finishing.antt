@@ -17,9 +17,11 @@ use Rattle.uc_book.specs.declared.answer.CommitFault.{CommitFault}
 use Rattle.uc_book.specs.declared.answer.CommitFault.TheVariants.{NotOut, NoMemory}
 use Rattle.uc_book.specs.Openings.{PassView}
 use Rattle.uc_book.specs.Answers.{IsRight, IsCommitted, IsReclaimed, IsNotOutTo}
-use Rattle.uc_search.specs.Working.{IsDoneFor, task_out, CountsCommits, CommitsResult}
-use Rattle.uc_search.proofs.Turns.{at_one, only_one}
-use Rattle.uc_search.proofs.Counting.{commit_commits, counts_on}
+use Rattle.uc_search.specs.declared.working.Turn.TheVariants.{Ends}
+use Rattle.uc_search.specs.declared.working.Ended.TheVariants.{NoMemory as LacksMemory}
+use Rattle.uc_search.specs.Working.{IsDoneFor, task_out, CountsCommits, CommitsResult, EndsTask, is_put_back}
+use Rattle.uc_search.proofs.Turns.{at_one, only_one, one_reclaims}
+use Rattle.uc_search.proofs.Counting.{commit_commits, reclaim_commits, counts_on}
 
 -- the task that the result was committed for is the one that is out
 pub committed_is : (o : Opening) (w : ℕ) (t : Task) (d : Done) (s u : State) (receipt : Receipt) → s.out ≡ task_out w t ∷ [] → (c : IsCommitted o s w d receipt u) → c.task ≡ task_out w t
@@ -55,3 +57,15 @@ put_back_is s u w ticket t e r = r.is ∙ ap (λ (x : Out). reclaims x s) (only_
 pub is_out_alone : {A : Type 0} (s : State) (w ticket : ℕ) (t : Out) (fault : CommitFault) → s.out ≡ t ∷ [] → t.ticket ≡ ticket → t.worker ≡ w → IsNotOutTo s w ticket fault → A
 is_out_alone s w ticket t (NotOut n) e is worker h = absurd (h.1 t (subst (λ k. out_at k s.out ≡ Some t) is (at_one t s.out e)) worker)
 is_out_alone s w ticket t NoMemory e is worker h = absurd h
+
+-- A task that was put back, where its result couldn't be committed.
+pub record IsBack (m : Meaning) (o : Opening) (t : Out) (s u : State) : Type 0 where
+  pub ends : EndsTask m o t s (Ends LacksMemory) u
+  pub none_out : u.out ≡ []
+  pub commits : (w : ℕ) → commits_by w u.history ≡ commits_by w s.history
+
+is_back : (m : Meaning) (o : Opening) (t : Out) (s u : State) → s.out ≡ t ∷ [] → u ≡ reclaims t s → IsBack m o t s u
+is_back m o t s u e is = subst (IsBack m o t s) (sym is) (record { ends = is_put_back; none_out = one_reclaims t s e; commits = λ w. reclaim_commits t s w })
+
+pub ends_back : (m : Meaning) (o : Opening) (t : Out) (s v u : State) → v ≡ s → s.out ≡ t ∷ [] → ((x : Out) → v.out ≡ x ∷ [] → u ≡ reclaims x v) → IsBack m o t s u
+ends_back m o t s v u e out back = is_back m o t s u out (back t (ap (λ (x : State). x.out) e ∙ out) ∙ ap (reclaims t) e)

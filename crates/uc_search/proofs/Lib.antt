@@ -3,7 +3,8 @@ pub mod Counting
 pub mod Alone
 pub mod Moved
 pub mod Finishing
-pub mod Auditing
+pub mod Turning
+pub mod AllAudits
 pub mod Rests
 pub mod OneSearch
 pub mod Caused

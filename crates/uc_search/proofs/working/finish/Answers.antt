@@ -1,0 +1,41 @@
+use Rattle.std.proofs.Common.{refl, sym, ap, ◌∙◌, subst}
+use Rattle.uc_machine.specs.State.{State}
+use Rattle.uc_machine.specs.Events.{commits_by}
+use Rattle.uc_book.specs.Openings.{Opened, opening_of}
+use Rattle.uc_book.specs.Answers.{IsRight}
+use Rattle.uc_search.specs.Working.{task_out}
+use Rattle.uc_search.proofs.Turns.{one_commits}
+use Rattle.uc_search.proofs.Moved.{book_state, count_on}
+use Rattle.uc_search.proofs.Finishing.{finished, counted}
+use Rattle.uc_search.proofs.working.finish.Goals.{in-Ok, in-Err}
+use Rattle.uc_search.proofs.working.finish.Goals as goal
+
+pub returns-clause-commits : goal.returns-clause-commits
+returns-clause-commits g c = elim c.match-commit.branch [
+  | in-Ok w ↦
+      let d = c.in_ok-done.done in
+      let b = c.args.book.now in
+      rw w.result-is (finished (g.O.Order.meaning b.order) (opening_of b.opening) c.args.pass.now.worker c.args.task.now d b.state c.commit.new.self.state w.in-Ok.field-0 c.requires.out c.in_ok-done.ensures.done
+      (ap (λ (x : Opened). x.problem.axioms) (c.in_ok-done.ensures.done.opening ∙ c.requires.task.opening)) (subst (λ x. IsRight (g.O.Order.meaning x) d) (sym c.requires.order) c.in_ok-done.ensures.right) w.in-Ok.ensures.committed)
+  | in-Err w ↦ rw w.result-is tt
+]
+
+pub returns-clause-none_out : goal.returns-clause-none_out
+returns-clause-none_out g c = elim c.match-commit.branch [
+  | in-Ok w ↦
+      let d = c.in_ok-done.done in
+      let b = c.args.book.now in
+      let f = finished (g.O.Order.meaning b.order) (opening_of b.opening) c.args.pass.now.worker c.args.task.now d b.state c.commit.new.self.state w.in-Ok.field-0 c.requires.out c.in_ok-done.ensures.done
+      (ap (λ (x : Opened). x.problem.axioms) (c.in_ok-done.ensures.done.opening ∙ c.requires.task.opening)) (subst (λ x. IsRight (g.O.Order.meaning x) d) (sym c.requires.order) c.in_ok-done.ensures.right) w.in-Ok.ensures.committed in
+      rw w.result-is (one_commits (opening_of b.opening) (task_out c.args.pass.now.worker c.args.task.now) f.finding b.state c.commit.new.self.state c.requires.out f.commits)
+  | in-Err w ↦ rw w.result-is tt
+]
+
+pub returns-clause-count : goal.returns-clause-count
+returns-clause-count g c = elim c.match-commit.branch [
+  | in-Ok w ↦
+      counted (opening_of c.args.book.now.opening) c.args.pass.now.worker c.args.task.now c.in_ok-done.done c.args.book.now.state c.commit.new.self.state w.in-Ok.field-0 c.args.pass.now c.commit.new.pass c.requires.out refl w.in-Ok.ensures.pass c.requires.count w.in-Ok.ensures.committed w.has_few_events.ensures
+  | in-Err w ↦
+      let same = book_state c.args.book.now c.commit.new.self w.in-Err.ensures.err.0 in
+      count_on c.args.pass.now c.commit.new.pass c.args.book.now.state c.commit.new.self.state w.in-Err.ensures.err.1 (λ v. ap (λ (s : State). commits_by v s.history) same) c.requires.count
+]

@@ -1,0 +1,14 @@
+use Rattle.std.proofs.Common.{◌≡◌, []}
+use Rattle.uc_book.specs.Openings.{opening_of}
+use Rattle.uc_book.specs.Answers.{IsSameBook}
+use Rattle.uc_search.specs.Working.{CountsCommits, IsSamePass, Works}
+use Rattle.uc_search.proofs.working.work_alone.Given as goal
+
+abbrev pub invariant-loop : goal.invariant-loop
+invariant-loop g l = record {
+  works : Works (g.O.Order.meaning l.initial.book.order) (opening_of l.initial.book.opening) l.initial.pass.worker l.initial.book.state l.book.state;
+  none_out : l.book.state.out ≡ [];
+  book : IsSameBook l.initial.book l.book;
+  pass : IsSamePass l.initial.pass l.pass;
+  count : CountsCommits l.pass l.book.state;
+}
