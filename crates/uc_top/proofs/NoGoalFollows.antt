@@ -82,24 +82,15 @@ open_or_ground : (ss : List Sourced) (n : ℕ) (e : Equation) → slice_get (goa
 open_or_ground [] n e at = absurd cc
 open_or_ground (s ∷ ss) n e at = go s.clause.positive (has_variable s.clause.left || has_variable s.clause.right) n at (open_or_ground ss)
   where
-    abbrev first : Equation
-    first = equation_of s.clause
-
-    abbrev opened : List Equation
-    opened = equations_where is_open_goal ss
-
-    abbrev ground : List Equation
-    ground = equations_where is_ground_goal ss
-
-    behind_open : IsIn opened e ⊎ IsIn ground e → IsIn (first ∷ opened) e ⊎ IsIn ground e
-    behind_open (inl h) = inl (next_one first opened e h)
+    behind_open : IsIn (equations_where is_open_goal ss) e ⊎ IsIn (equations_where is_ground_goal ss) e → IsIn (equation_of s.clause ∷ equations_where is_open_goal ss) e ⊎ IsIn (equations_where is_ground_goal ss) e
+    behind_open (inl h) = inl (next_one (equation_of s.clause) (equations_where is_open_goal ss) e h)
     behind_open (inr h) = inr h
 
-    behind_ground : IsIn opened e ⊎ IsIn ground e → IsIn opened e ⊎ IsIn (first ∷ ground) e
+    behind_ground : IsIn (equations_where is_open_goal ss) e ⊎ IsIn (equations_where is_ground_goal ss) e → IsIn (equations_where is_open_goal ss) e ⊎ IsIn (equation_of s.clause ∷ equations_where is_ground_goal ss) e
     behind_ground (inl h) = inl h
-    behind_ground (inr h) = inr (next_one first ground e h)
+    behind_ground (inr h) = inr (next_one (equation_of s.clause) (equations_where is_ground_goal ss) e h)
 
-    go : (p b : Bool) (n : ℕ) → slice_get (if p then goals_of ss else first ∷ goals_of ss) n ≡ Some e → ((n : ℕ) (d : Equation) → slice_get (goals_of ss) n ≡ Some d → IsIn opened d ⊎ IsIn ground d) → IsIn (if (if p then false else b) then first ∷ opened else opened) e ⊎ IsIn (if (if p then false else if (if p then false else b) then false else true) then first ∷ ground else ground) e
+    go : (p b : Bool) (n : ℕ) → slice_get (if p then goals_of ss else equation_of s.clause ∷ goals_of ss) n ≡ Some e → ((n : ℕ) (d : Equation) → slice_get (goals_of ss) n ≡ Some d → IsIn (equations_where is_open_goal ss) d ⊎ IsIn (equations_where is_ground_goal ss) d) → IsIn (if (if p then false else b) then equation_of s.clause ∷ equations_where is_open_goal ss else equations_where is_open_goal ss) e ⊎ IsIn (if (if p then false else if (if p then false else b) then false else true) then equation_of s.clause ∷ equations_where is_ground_goal ss else equations_where is_ground_goal ss) e
     go true b n at later = later n e at
     go false true zero at later = inl (zero, at)
     go false true (suc n) at later = behind_open (later n e at)

@@ -28,7 +28,7 @@ use Rattle.uc_top.proofs.OrderEverywhere.{both, from_first, into, same, has_firs
 
 -- Where the words name an order for the problem in one table, they do in the other.
 module _ (first second : Table) (distinct : IsDistinct first) (apart : IsDistinct second) (files : Files) (root : Option (List ℕ)) (name : List ℕ) (words : OrderWords) (a b : Problem) (held : Holds first files root name a) (given : Holds second files root name b) (spec : OrderSpec) (chosen : IsChosen second b.signature words None spec) where
-  isnt_unordered : (why : ChoiceFault) → (why ≡ NoMemory → ⊥) → IsChoiceFault first a.signature words why → ⊥
+  pub isnt_unordered : (why : ChoiceFault) → (why ≡ NoMemory → ⊥) → IsChoiceFault first a.signature words why → ⊥
   isnt_unordered why n x =
       let there = both first second distinct apart files root name words a b held given in
       let move = into first second distinct apart files root name words a b held given in

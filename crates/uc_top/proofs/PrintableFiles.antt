@@ -103,7 +103,7 @@ module _ (t : Table) where
 
       items_loaded : {depth : ℕ} {name : List ℕ} {counts : Counts} {items : List Item} {l : Loaded} → IsSpellable name → LoadsItems (ReadsAs t) files None folder root depth name counts items l → PrintableItems t items → LoadedPrintable l
       items_loaded named no_item s = tt
-      items_loaded {name = name} named (clause {c = c} {loaded = l} less h) s = one_before (record { file = name; clause = c }) l (named, s.0) (items_loaded named h s.1)
+      items_loaded {name = name} named (clause {c = c} {loaded = l} less h) s = one_before (record { file = name; clause = c }) l (named, s.0.0, s.0.1) (items_loaded named h s.1)
       items_loaded named (too_many_clauses m) s = tt
       items_loaded named (too_deep m) s = tt
       items_loaded named (too_many_files d m) s = tt

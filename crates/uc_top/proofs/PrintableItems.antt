@@ -1,7 +1,7 @@
 -- What is read as items can be printed.
 use Rattle.std.proofs.Common.{ℕ, suc, ◌≡◌, ◌<◌, ◌≤◌, ◌+◌, Bool, false, List, [], ◌∷◌, length, Option, Some, None, Result, Ok, Err, refl, sym, ap, ap₂, ◌∙◌, subst, arith, slice_get, unwrap_or}
 use Rattle.uc_term.specs.declared.node.Sym.{Sym}
-use Rattle.uc_term.specs.Tree.{Tree, var, app, Trees, none, more, count}
+use Rattle.uc_term.specs.Tree.{Tree, var, app, Trees, none, more, count, nodes, nodes_all}
 use Rattle.uc_term.specs.Over.{AreOver}
 use Rattle.uc_term.specs.Table.{Table, Entry as Row, Has, IsSymbol, name_of, arity_of}
 use Rattle.std.proofs.lemmas.Option.{slice_get_within}
@@ -19,7 +19,7 @@ use Rattle.uc_clause.specs.declared.clause.Item.TheVariants as item
 use Rattle.uc_clause.specs.Terminals.{terminal_at}
 use Rattle.uc_clause.specs.Tokens.{AreTokens}
 use Rattle.uc_clause.specs.Rules.{Outcome, read, stop, mapped, read_or_stop, goes_on, is_first, is_second}
-use Rattle.uc_clause.specs.Parse.{Parse, variable, applied, Parses, no_more, also, Sides, Literal, Formula, Entry, formula, inclusion}
+use Rattle.uc_clause.specs.Parse.{Parse, variable, applied, Parses, no_more, also, size, size_all, Sides, Literal, Formula, Entry, formula, inclusion}
 use Rattle.uc_clause.specs.Terms.{head_of, head_at, Term, Args, is_variable, is_constant, is_applied, is_node_too_many, is_no_term, stops_in_it, is_last, is_followed, is_one_too_many, is_followed_by_neither}
 use Rattle.uc_clause.specs.Items.{name_by, quoted_by}
 use Rattle.uc_clause.specs.Items as items
@@ -27,6 +27,8 @@ use Rattle.uc_clause.specs.Meaning.{Variables, Means, variable_means, functor_me
 use Rattle.uc_clause.specs.Names.{IsSpellable}
 use Rattle.uc_clause.specs.Printable.{IsPrintableSymbol, IsPrintable, IsPrintableClause}
 use Rattle.uc_clause.specs.Reading.{ReadsFile}
+use Rattle.uc_clause.proofs.Sizes.{term_small}
+use Rattle.uc_top.specs.PrintableProblems.{IsSmallClause}
 use Rattle.uc_top.proofs.SpelledWords.{IsWordTerminal, IsNameTerminal, word_spellable, name_spellable}
 
 -- TERMINALS
@@ -104,7 +106,7 @@ picked (Some w) at v end e = let same : v ≡ w = cc in ap Some (sym same)
 -- a clause can be printed, and an include's file be spelled
 module _ (table : Table) where
   abbrev pub PrintableItem : Item → Type 0
-  PrintableItem (item.Clause c) = IsPrintableClause table c
+  PrintableItem (item.Clause c) = IsPrintableClause table c × IsSmallClause c
   PrintableItem (item.Include i) = IsSpellable i.file
 
   abbrev pub PrintableItems : List Item → Type 0
@@ -160,23 +162,27 @@ module _ (bytes : List ℕ) (tokens : List Token) where
     args_fine few (is_one_too_many x c f) = tt
     args_fine few (is_followed_by_neither x c d) = tt
 
+  -- a side is of words, and not too large
+  abbrev FineSide : Parse → Type 0
+  FineSide p = IsFine p × (size p ≤ 4096)
+
   abbrev FineSides : Sides → Type 0
-  FineSides s = IsFine s.left × IsFine s.right
+  FineSides s = FineSide s.left × FineSide s.right
 
   abbrev FineLiteral : Literal → Type 0
   FineLiteral l = FineSides l.sides
 
-  one_term : {used at end : ℕ} {p : Parse} → Term bytes tokens used at (read p end) → IsFine p
-  one_term x = term_fine x
+  one_term : (at end : ℕ) (p : Parse) → Term bytes tokens 0 at (read p end) → FineSide p
+  one_term at end p x = (term_fine x, term_small bytes tokens at end p x)
 
   equals_fine : (at end : ℕ) (s : Sides) → items.equals bytes tokens at (read s end) → FineSides s
-  equals_fine at end s (goes_on h (goes_on {v = l} x (goes_on e (goes_on {v = r} y g)))) = let same : s ≡ record { left = l; right = r } = cc in subst FineSides (sym same) (one_term x, one_term y)
+  equals_fine at end s (goes_on h (goes_on {v = l} {middle = i} x (goes_on e (goes_on {v = r} {middle = j} y g)))) = let same : s ≡ record { left = l; right = r } = cc in subst FineSides (sym same) (one_term _ i l x, one_term _ j r y)
 
   brackets_fine : (at end : ℕ) (s : Sides) → items.equals_in_brackets bytes tokens at (read s end) → FineSides s
   brackets_fine at end s (goes_on h (goes_on {v = t} x (goes_on c g))) = let same : s ≡ t = cc in subst FineSides (sym same) (equals_fine _ _ t x)
 
   equation_fine : (at end : ℕ) (l : Literal) → items.equation bytes tokens at (read l end) → FineLiteral l
-  equation_fine at end l (goes_on h (goes_on {v = s} x (goes_on {v = b} e (goes_on {v = t} y g)))) = let same : l ≡ record { positive = b; sides = record { left = s; right = t } } = cc in subst FineLiteral (sym same) (one_term x, one_term y)
+  equation_fine at end l (goes_on h (goes_on {v = s} {middle = i} x (goes_on {v = b} e (goes_on {v = t} {middle = j} y g)))) = let same : l ≡ record { positive = b; sides = record { left = s; right = t } } = cc in subst FineLiteral (sym same) (one_term _ i s x, one_term _ j t y)
 
   denied_fine : (at end : ℕ) (s : Sides) → items.denied bytes tokens at (read s end) → FineSides s
   denied_fine at end s (is_first e x) = brackets_fine at end s x
@@ -296,8 +302,23 @@ module _ (bytes : List ℕ) (tokens : List Token) where
       all_printable none_mean h = tt
       all_printable (more_mean m ms) h = (means_printable m h.0, all_printable ms h.1)
 
+    mutual
+      sizes_are : {seen : Variables} {p : Parse} {t : Tree} → Means bytes tokens table seen p t → size p ≡ nodes t
+      sizes_are (variable_means e) = refl
+      sizes_are (functor_means s ms) = ap (λ n. n + 1) (all_sizes_are ms)
+
+      all_sizes_are : {seen : Variables} {ps : Parses} {ts : Trees} → MeanAll bytes tokens table seen ps ts → size_all ps ≡ nodes_all ts
+      all_sizes_are none_mean = refl
+      all_sizes_are (more_mean m ms) = ap₂ (λ a b. a + b) (sizes_are m) (all_sizes_are ms)
+
+    side_small : {seen : Variables} {p : Parse} {t : Tree} → Means bytes tokens table seen p t → size p ≤ 4096 → nodes t ≤ 4096
+    side_small m h = omega (arith, sizes_are m, h)
+
     item_means : (e : Entry) (i : Item) → MeansItem bytes tokens table e i → FineEntry e → PrintableItem table i
-    item_means (formula f) (item.Clause c) m h = (name_spellable bytes tokens are f.heading.name c.name m.name h.0, means_printable m.sides.means_left h.1.0, means_printable m.sides.means_right h.1.1)
+    item_means (formula f) (item.Clause c) m h = (
+      (name_spellable bytes tokens are f.heading.name c.name m.name h.0, means_printable m.sides.means_left h.1.0.0, means_printable m.sides.means_right h.1.1.0),
+      (side_small m.sides.means_left h.1.0.1, side_small m.sides.means_right h.1.1.1),
+    )
     item_means (inclusion j) (item.Include i) m h = subst IsSpellable (sym m.file) (word_spellable bytes tokens are j.file h)
     item_means (formula f) (item.Include i) m h = absurd m
     item_means (inclusion j) (item.Clause c) m h = absurd m

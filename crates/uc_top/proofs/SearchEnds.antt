@@ -160,7 +160,7 @@ module _ (table : Table) (command : Command) (problem : Problem) (encoded : Enco
         let P : Sym → Type 0 = IsPrintableSymbol table in
         let target = target_is_over P each_printable n g at in
         record {
-          clauses = λ c x e. printable_at table problem.clauses c x printable e;
+          clauses = λ c x e. (let p = printable_at table problem.clauses c x printable e in (p.0, p.1));
           axioms = equations_are P each_printable encoded.axioms opens.axioms;
           goals = equations_are P each_printable encoded.goals opens.goals;
           fact_sides = fact_sides_are P each_printable;

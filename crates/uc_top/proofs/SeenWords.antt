@@ -13,8 +13,8 @@ use Rattle.uc_words.specs.declared.table.Key.{Key}
 use Rattle.uc_words.specs.declared.table.Key.TheVariants as key
 use Rattle.uc_words.specs.Forms.{form_of}
 use Rattle.uc_words.specs.Number.{number_of}
-use Rattle.uc_words.specs.Table.{verb_named, same}
-use Rattle.uc_words.specs.Lines.{item, turn, onto, at_end, line_of, given_value, is_value, value}
+use Rattle.uc_words.specs.Table.{verb_named}
+use Rattle.uc_words.specs.Lines.{item, turn, onto, at_end, line_of, given_value, is_value, value, same}
 use Rattle.uc_words.specs.Reads.{is_clean, is_printable, is_within, limited, with_items, with_verb, says, Reads}
 use Rattle.uc_top.specs.PrintableProblems.{are_seen, IsRootSeen}
 

@@ -1,7 +1,9 @@
 -- When a proof of a problem, or its system, can be printed so that it is read back.
-use Rattle.std.specs.Prelude.{ℕ, ◌≡◌, Bool, true, List, [], ◌∷◌, Option, Some, None}
+use Rattle.std.specs.Prelude.{ℕ, ◌≡◌, ◌≤◌, Bool, true, List, [], ◌∷◌, Option, Some, None}
 use Rattle.std.specs.List.{list_all}
 use Rattle.uc_term.specs.Table.{Table}
+use Rattle.uc_term.specs.Tree.{nodes}
+use Rattle.uc_clause.specs.declared.clause.Clause.{Clause}
 use Rattle.uc_clause.specs.declared.clause.Sourced.{Sourced}
 use Rattle.uc_clause.specs.Bytes.{between}
 use Rattle.uc_clause.specs.Names.{IsSpellable}
@@ -18,10 +20,14 @@ abbrev pub IsRootSeen : Option (List ℕ) → Type 0
 IsRootSeen None = Unit {0}
 IsRootSeen (Some root) = are_seen root ≡ true
 
+-- no side has more than 4,096 nodes
+abbrev pub IsSmallClause : Clause → Type 0
+IsSmallClause c = (nodes c.left ≤ 4096) × (nodes c.right ≤ 4096)
+
 module _ (table : Table) where
-  -- a clause that can be printed, from a file whose name can be spelled
+  -- a clause that can be printed, of terms that aren't too large, from a file whose name can be spelled
   abbrev pub IsPrintableSourced : Sourced → Type 0
-  IsPrintableSourced s = IsSpellable s.file × IsPrintableClause table s.clause
+  IsPrintableSourced s = IsSpellable s.file × IsPrintableClause table s.clause × IsSmallClause s.clause
 
   abbrev pub ArePrintableSourced : List Sourced → Type 0
   ArePrintableSourced [] = Unit {0}
