@@ -165,7 +165,7 @@ held_problem table later (Some files) root name problem g h = h later g
 
 -- the answer where no problem is loaded
 module _ (table : Table) (before now : ℕ) (AnswersFor : Problem → ℕ → List ℕ → Type 0) (root : Option (List ℕ)) (name : List ℕ) where
-  refuses : (files : Files) (why : LoadFault) → load_status why ≡ 3 → IsLoadFault table (Some files) before now root name why → Refuses table files root name why
+  pub refuses : (files : Files) (why : LoadFault) → load_status why ≡ 3 → IsLoadFault table (Some files) before now root name why → Refuses table files root name why
   refuses files (load.Absent f from) e h = h table (Grows-refl table)
   refuses files (load.ReadFault f) e h = absurd (omega (arith, e))
   refuses files (load.TooDeep f p) e h = h table (Grows-refl table)
@@ -181,7 +181,7 @@ module _ (table : Table) (before now : ℕ) (AnswersFor : Problem → ℕ → Li
   refuses files (load.Clause f clause.NoMemory) e h = absurd h
   refuses files load.NoMemory e h = absurd (omega (arith, e))
 
-  fails : (holds : Option Files) (file : List ℕ) → IsLoadFault table holds before now root name (load.ReadFault file) → WhereTold holds (λ files. FailsAt table files root name file)
+  pub fails : (holds : Option Files) (file : List ℕ) → IsLoadFault table holds before now root name (load.ReadFault file) → WhereTold holds (λ files. FailsAt table files root name file)
   fails None file h = tt
   fails (Some files) file h = h.1 table (Grows-refl table)
 
