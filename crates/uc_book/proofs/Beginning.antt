@@ -1,5 +1,5 @@
 -- The parts of a book in which nothing happened yet.
-use Rattle.std.proofs.Common.{◌≡◌, ℕ, ◌+◌, ◌<◌, ◌≤◌, ◌^◌, ◌++◌, ◌∷◌, [], List, length, get_or, map, take, refl, ap, sym, ◌∙◌, arith, subst, None, Some}
+use Rattle.std.proofs.Common.{◌≡◌, ℕ, ◌+◌, ◌<◌, ◌≤◌, ◌^◌, ◌++◌, ◌∷◌, [], List, length, get_or, map, take, ap, sym, ◌∙◌, arith, subst, None}
 use Rattle.std.specs.Prelude.{replicate, vec_len, vec_capacity, All}
 use Rattle.std.proofs.lemmas.List.{take_more, length-take-le}
 use Rattle.std.proofs.lemmas.List.Elements.{All-nil}
@@ -8,8 +8,6 @@ use Rattle.uc_term.specs.Tree.{nodes}
 use Rattle.uc_term.specs.declared.equation.Equation.{Equation}
 use Rattle.uc_fact.specs.declared.fact.Origin.TheVariants.{Axiom}
 use Rattle.uc_ledger.specs.declared.ledger.State.TheVariants.{Waiting}
-use Rattle.uc_shelf.specs.Fronts.{IsOf}
-use Rattle.uc_shelf.specs.Sights.{Sight}
 use Rattle.uc_machine.specs.declared.event.Event.{Event}
 use Rattle.uc_machine.specs.declared.event.Verdict.TheVariants.{PairsOut}
 use Rattle.uc_machine.specs.declared.state.Numbers.{Numbers}
@@ -21,7 +19,7 @@ use Rattle.uc_book.specs.declared.parts.Parts.{Parts}
 use Rattle.uc_rows.specs.declared.tasks.TaskRow.{TaskRow}
 use Rattle.uc_rows.specs.RowViews.{FactsView, PairsView}
 use Rattle.uc_rows.specs.TaskRows.{HasFront, out_of}
-use Rattle.uc_book.specs.Parts.{state_of, closings, Fit, HasRoom}
+use Rattle.uc_book.specs.Parts.{closings, Fit, HasRoom}
 use Rattle.uc_book.proofs.Fitting.{joins}
 
 abbrev pub no_numbers : List Numbers

@@ -1,8 +1,8 @@
 -- The parts still fit together, and have room, when tasks come and go and entries are added.
-use Rattle.std.proofs.Common.{◌≡◌, ℕ, zero, suc, ◌+◌, ◌-◌, ◌<◌, ◌≤◌, ◌^◌, List, [], ◌∷◌, ◌++◌, length, get_or, map, take, true, false, cond, Option, Some, None, refl, ap, sym, ◌∙◌, arith, inl, inr, subst}
+use Rattle.std.proofs.Common.{◌≡◌, ℕ, ◌+◌, ◌<◌, ◌≤◌, ◌^◌, List, [], ◌∷◌, ◌++◌, length, cond, refl, ap, sym, ◌∙◌, arith, subst}
 use Rattle.std.specs.Prelude.{remove, count_by, vec_len, vec_capacity}
-use Rattle.std.proofs.lemmas.List.{take_all, take-append-le, length-append, length_push, length-map}
-use Rattle.std.proofs.lemmas.List.Sums.{sum_by_push, sum_by-remove}
+use Rattle.std.proofs.lemmas.List.{take_all, take-append-le, length-append, length_push}
+use Rattle.std.proofs.lemmas.List.Sums.{sum_by_push}
 use Rattle.boxcar.specs.Table.{Shelves}
 use Rattle.uc_shelf.specs.Fronts.{IsOf}
 use Rattle.uc_shelf.specs.Sights.{Sight}
@@ -12,11 +12,10 @@ use Rattle.uc_machine.specs.declared.task.Job.{Job}
 use Rattle.uc_machine.specs.declared.task.Job.TheVariants.{Goal, More, Meet, Join}
 use Rattle.uc_machine.specs.Lists.{Each, change}
 use Rattle.uc_machine.specs.State.{Out}
-use Rattle.uc_rows.specs.TaskRows.{out_of, is_join, unit_if_join, HasFront, StandsAt}
+use Rattle.uc_rows.specs.TaskRows.{is_join, unit_if_join, HasFront, StandsAt}
 use Rattle.uc_book.specs.declared.parts.Parts.{Parts}
-use Rattle.uc_machine.specs.declared.event.Verdict.{Verdict}
 use Rattle.uc_machine.specs.State.{State, draws_in}
-use Rattle.uc_machine.specs.Effects.{hands_out, next_ticket, draw_event, one_drawn}
+use Rattle.uc_machine.specs.Effects.{hands_out, draw_event, one_drawn}
 use Rattle.uc_book.specs.Parts.{state_of, closings, Fit, HasRoom, RoomFor}
 use Rattle.uc_book.specs.Ending.{HasEnded}
 use Rattle.uc_rows.proofs.PutBack.{joins_left}

@@ -1,5 +1,5 @@
 -- Tasks that are given: what the parts need for it, and that it is a draw.
-use Rattle.std.proofs.Common.{◌≡◌, ℕ, ◌+◌, ◌<◌, ◌≤◌, ◌^◌, ◌++◌, ◌∷◌, [], List, length, Bool, true, false, Option, Some, None, refl, ap, sym, ◌∙◌, arith, inl, inr, subst}
+use Rattle.std.proofs.Common.{◌≡◌, ℕ, ◌+◌, ◌<◌, ◌≤◌, ◌^◌, List, length, Bool, true, Option, Some, None, refl, ap, sym, ◌∙◌, arith, subst}
 use Rattle.std.specs.Prelude.{Result, Ok, Err, IfOk, MatchOption, nat_lt, Vec, vec_len, vec_capacity}
 use Rattle.std.proofs.lemmas.Bool.{lt-ltb, ltb-true}
 use Rattle.std.specs.declared.alloc.Global.{Global}
@@ -9,7 +9,7 @@ use Rattle.uc_shelf.specs.Fronts.{IsOf}
 use Rattle.uc_shelf.specs.Sights.{Sight}
 use Rattle.uc_shelf.specs.declared.entry.Entry.{Entry}
 use Rattle.uc_machine.specs.declared.task.Job.{Job}
-use Rattle.uc_machine.specs.declared.task.Job.TheVariants.{Goal, More, Meet, Join}
+use Rattle.uc_machine.specs.declared.task.Job.TheVariants.{Goal, More, Meet}
 use Rattle.uc_machine.specs.declared.state.Meeting.{Meeting}
 use Rattle.uc_machine.specs.Lists.{Each, At, map_option}
 use Rattle.uc_machine.specs.State.{Opening, State, Target, first_due, first_unmet, first_continued, queue}
@@ -25,8 +25,8 @@ use Rattle.uc_rows.specs.RowViews.{FactsView}
 use Rattle.uc_rows.specs.Bounds.{AreSmall}
 use Rattle.uc_rows.specs.TaskRows.{HasFront}
 use Rattle.uc_book.specs.Answers.{reply_of}
-use Rattle.uc_book.specs.Parts.{state_of, closings, Fit, HasRoom, IsAtHead, IsSteady}
-use Rattle.uc_book.specs.Drawing.{IsSound, HasRoomToGive, CanGive}
+use Rattle.uc_book.specs.Parts.{state_of, closings, Fit, IsAtHead, IsSteady}
+use Rattle.uc_book.specs.Drawing.{HasRoomToGive, CanGive}
 use Rattle.uc_rows.specs.Jobs.{AreJobs}
 use Rattle.uc_book.proofs.Fitting.{joins}
 use Rattle.uc_book.proofs.Steady.{closings_few}

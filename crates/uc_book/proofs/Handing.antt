@@ -1,5 +1,5 @@
 -- The changes of a state that the methods of the parts put together.
-use Rattle.std.proofs.Common.{◌≡◌, ℕ, ◌+◌, ◌-◌, List, [], ◌∷◌, ◌++◌, length, Option, Some, refl, ap, sym, ◌∙◌, arith}
+use Rattle.std.proofs.Common.{◌≡◌, ℕ, ◌+◌, ◌-◌, List, [], ◌∷◌, ◌++◌, length, ap, ◌∙◌}
 use Rattle.std.specs.Prelude.{map}
 use Rattle.std.proofs.lemmas.List.{map_push}
 use Rattle.uc_shelf.specs.Sights.{Sight}
@@ -11,8 +11,8 @@ use Rattle.uc_machine.specs.declared.state.Numbers.{Numbers}
 use Rattle.uc_machine.specs.declared.task.Job.{Job}
 use Rattle.uc_machine.specs.declared.task.Job.TheVariants.{Goal, More, Meet, Join}
 use Rattle.uc_machine.specs.Lists.{change}
-use Rattle.uc_machine.specs.State.{State, Out, without, draws_in}
-use Rattle.uc_machine.specs.Effects.{takes, hands_out, task_for, draw_event, unit_of, one_drawn, one_commit, one_reclaim, next_ticket, restores, reclaims, reclaim_event, accepts}
+use Rattle.uc_machine.specs.State.{State, Out, without}
+use Rattle.uc_machine.specs.Effects.{takes, hands_out, draw_event, unit_of, one_drawn, one_commit, one_reclaim, next_ticket, restores, reclaims, reclaim_event, accepts}
 
 -- what a task takes doesn't look at the tasks out nor at what is reserved
 pub handed : (s m : State) (w n : ℕ) (j : Job) (out : List Out) (r : ℕ) (ns : List Numbers) (h : List Event) → m ≡ takes w j s → n ≡ next_ticket s → out ≡ s.out ++ record { ticket = n; worker = w; job = j; front = length s.entries } ∷ [] → r ≡ s.reserved + unit_of j

@@ -1,28 +1,27 @@
 -- A fact that is published.
-use Rattle.std.proofs.Common.{◌≡◌, ℕ, ◌+◌, ◌<◌, ◌≤◌, ◌++◌, ◌∷◌, [], List, length, map, refl, ap, sym, ◌∙◌, arith, subst, Some, None}
-use Rattle.std.specs.Prelude.{◌≢◌, Vec, vec_len, vec_capacity}
+use Rattle.std.proofs.Common.{◌≡◌, ℕ, ◌+◌, ◌++◌, ◌∷◌, [], List, length, map, refl, ap, sym, ◌∙◌, arith, subst, None}
+use Rattle.std.specs.Prelude.{◌≢◌, Vec}
 use Rattle.std.specs.declared.alloc.Global.{Global}
 use Rattle.uc_machine.specs.declared.event.Verdict.{Verdict}
 use Rattle.uc_machine.specs.declared.event.Verdict.TheVariants.{BudgetOut}
 use Rattle.boxcar.specs.Table.{Shelves}
 use Rattle.uc_fact.specs.declared.fact.Fact.{Fact}
 use Rattle.uc_shelf.specs.Fronts.{IsOf}
-use Rattle.uc_shelf.specs.Sights.{Sight}
 use Rattle.uc_shelf.specs.Entries.{born}
 use Rattle.uc_shelf.specs.declared.entry.Entry.TheVariants.{Born}
 use Rattle.uc_machine.specs.declared.event.Event.{Event}
 use Rattle.uc_machine.specs.declared.event.Happening.TheVariants.{AuditKept}
 use Rattle.uc_machine.specs.declared.state.Meeting.TheVariants.{Unmet}
 use Rattle.uc_machine.specs.Lists.{Each}
-use Rattle.uc_machine.specs.State.{State, Opening, Target, draws_in}
+use Rattle.uc_machine.specs.State.{State, Opening, Target}
 use Rattle.uc_machine.specs.Effects.{wakes, publishes, keeps, closes, next_ticket}
 use Rattle.uc_machine.specs.Runs.{Audits, KeptAs, ClosedBy, is_kept, is_spent}
 use Rattle.uc_book.specs.declared.parts.Parts.{Parts}
 use Rattle.uc_rows.specs.RowViews.{FactsView}
 use Rattle.uc_rows.specs.TaskRows.{HasFront}
-use Rattle.uc_book.specs.Parts.{state_of, closings, Fit, HasRoom}
+use Rattle.uc_book.specs.Parts.{state_of, Fit}
 use Rattle.uc_book.proofs.Histories.{draws-none}
-use Rattle.uc_book.proofs.Fitting.{joins, longer_fronts}
+use Rattle.uc_book.proofs.Fitting.{longer_fronts}
 
 pub published : (p : Parts) (fs : FactsView) (gs : List Target) (f : Fact) → fs.front.entries ≡ p.facts.front.entries ++ Born f ∷ [] → fs.meetings ≡ p.facts.meetings ++ Unmet ∷ [] → gs ≡ map wakes p.goals → (let q : Parts = record p { facts = fs; goals = gs } in state_of q ≡ publishes f (state_of p))
 published p fs gs f a b c = cc

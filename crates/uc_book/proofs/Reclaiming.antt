@@ -1,11 +1,9 @@
 -- Tasks that are put back, or aren't out to a worker.
-use Rattle.std.proofs.Common.{◌≡◌, ℕ, ◌<◌, List, length, get_or, map, Option, Some, None, refl, ap, sym, ◌∙◌, subst}
-use Rattle.std.specs.Prelude.{◌≢◌, MatchOption, IfSome}
+use Rattle.std.proofs.Common.{◌≡◌, ℕ, Some, None, refl, ap, sym, ◌∙◌}
+use Rattle.std.specs.Prelude.{◌≢◌}
 use Rattle.uc_machine.specs.State.{State, Out, out_at}
 use Rattle.uc_machine.specs.Effects.{reclaims}
-use Rattle.uc_rows.specs.declared.tasks.TaskRow.{TaskRow}
 use Rattle.uc_book.specs.declared.answer.CommitFault.TheVariants.{NotOut}
-use Rattle.uc_rows.specs.TaskRows.{out_of, StandsAt}
 use Rattle.uc_book.specs.Answers.{IsReclaimed, IsNotOutTo}
 
 -- no task of the ticket is out

@@ -1,15 +1,14 @@
 -- The rules of a draw, as the parts of a book find that they hold.
-use Rattle.std.proofs.Common.{◌≡◌, ℕ, ◌+◌, ◌<◌, ◌≤◌, List, [], ◌∷◌, length, slice_get, Option, Some, None, refl, ap, sym, ◌∙◌, subst}
+use Rattle.std.proofs.Common.{◌≡◌, ℕ, length, slice_get, Some, None, ap, sym, ◌∙◌, subst}
 use Rattle.uc_fact.specs.declared.fact.Origin.{Origin}
-use Rattle.uc_shelf.specs.declared.entry.Entry.{Entry}
 use Rattle.uc_machine.specs.declared.state.Meeting.{Meeting}
 use Rattle.uc_machine.specs.declared.task.Job.{Job}
 use Rattle.uc_machine.specs.declared.task.Job.TheVariants.{Goal, More, Meet, Join}
 use Rattle.uc_book.specs.declared.parts.Parts.{Parts}
 use Rattle.uc_machine.specs.Lists.{At, map_option}
-use Rattle.uc_machine.specs.State.{Opening, State, Target, Out, first_due, first_continued, first_unmet}
+use Rattle.uc_machine.specs.State.{Opening, State, first_due, first_continued, first_unmet}
 use Rattle.uc_machine.specs.Effects.{hands_out, next_ticket}
-use Rattle.uc_machine.specs.Draws.{Reply, Drew, Draws, NoneDue, IsLate, HasBudget, with_ends, goal_is_due, fact_is_unmet, goal_is_continued, pair_is_drawn}
+use Rattle.uc_machine.specs.Draws.{Drew, Draws, NoneDue, IsLate, HasBudget, with_ends, goal_is_due, fact_is_unmet, goal_is_continued, pair_is_drawn}
 use Rattle.uc_rows.specs.PairRows.{IsHead}
 use Rattle.uc_book.specs.Parts.{state_of}
 use Rattle.uc_rows.specs.Jobs.{AreJobs}

@@ -1,8 +1,8 @@
 -- The task at a place of the tasks out, and what its end needs and leaves.
-use Rattle.std.proofs.Common.{◌≡◌, ℕ, zero, suc, ◌+◌, ◌-◌, ◌<◌, ◌≤◌, ◌^◌, List, [], ◌∷◌, ◌++◌, length, get_or, map, take, Bool, true, false, Option, Some, None, refl, ap, sym, ◌∙◌, arith, subst}
+use Rattle.std.proofs.Common.{◌≡◌, ℕ, zero, suc, ◌+◌, ◌<◌, ◌≤◌, List, [], ◌∷◌, ◌++◌, length, get_or, map, take, false, Some, None, refl, ap, sym, ◌∙◌, arith, subst}
 use Rattle.std.specs.Prelude.{remove, slice_get, Vec, vec_len, vec_capacity}
 use Rattle.std.specs.declared.alloc.Global.{Global}
-use Rattle.std.proofs.lemmas.List.{append-nil, length_push}
+use Rattle.std.proofs.lemmas.List.{append-nil}
 use Rattle.boxcar.specs.Table.{Shelves}
 use Rattle.uc_fact.specs.declared.fact.Fact.{Fact}
 use Rattle.uc_shelf.specs.declared.entry.Entry.{Entry}
@@ -26,7 +26,7 @@ use Rattle.uc_book.specs.declared.parts.Parts.{Parts}
 use Rattle.uc_book.specs.declared.token.Done.{Done as DoneTask}
 use Rattle.uc_book.specs.Answers.{IsNotOut}
 use Rattle.uc_rows.specs.RowViews.{PairsView}
-use Rattle.uc_rows.specs.TaskRows.{out_of, is_join, unit_if_join, HasFront, StandsAt}
+use Rattle.uc_rows.specs.TaskRows.{out_of, unit_if_join, HasFront, StandsAt}
 use Rattle.uc_book.specs.Parts.{state_of, closings, Fit, HasRoom, IsSubjectOut, IsSteady, SameCounts}
 use Rattle.uc_book.specs.Ending.{CanEnd, CanAccept, CanReturn, HasEnded}
 use Rattle.uc_machine.proofs.Lists.{length-change}
@@ -34,7 +34,7 @@ use Rattle.uc_book.proofs.Histories.{draws-none, no_draw}
 use Rattle.uc_rows.proofs.PutBack.{joins_left}
 use Rattle.uc_book.proofs.Steady.{steady_fit, steady_room, steady_sound}
 use Rattle.uc_rows.proofs.Items.{length-remove}
-use Rattle.uc_book.proofs.Fitting.{joins, fit_ended, room_ended}
+use Rattle.uc_book.proofs.Fitting.{joins, fit_ended}
 
 -- the row at the place is that of the task
 pub row_out : (ts : List TaskRow) (at : ℕ) (t : Out) (row : TaskRow) → StandsAt ts at t → row ≡ get_or ts at row → out_of row ≡ t

@@ -1,15 +1,14 @@
 -- What waits, and the draws that give no task.
-use Rattle.std.proofs.Common.{◌≡◌, ℕ, ◌+◌, ◌<◌, ◌≤◌, ◌==◌, List, [], ◌∷◌, length, map, Bool, true, false, Option, Some, None, refl, ap, sym, ◌∙◌, arith, subst}
+use Rattle.std.proofs.Common.{◌≡◌, ℕ, ◌<◌, ◌==◌, List, [], ◌∷◌, length, map, Bool, true, false, Option, Some, None, refl, ap, sym, ◌∙◌, arith, subst}
 use Rattle.std.specs.Prelude.{MatchOption, is_some, not, ◌↔◌, ◌≢◌}
 use Rattle.std.proofs.lemmas.Bool.{false≢true, ne_eqb, eqb-true, eqb-false}
 use Rattle.std.proofs.lemmas.List.{length-map}
 use Rattle.uc_fact.specs.declared.fact.Origin.{Origin}
-use Rattle.uc_queue.specs.declared.entry.Entry.{Entry as Place}
 use Rattle.uc_machine.specs.declared.event.Verdict.TheVariants.{BudgetOut}
 use Rattle.uc_machine.specs.Lists.{At, map_option}
-use Rattle.uc_machine.specs.State.{Opening, State, Target, Out, first_continued, peek}
+use Rattle.uc_machine.specs.State.{Opening, State, Target, first_continued, peek}
 use Rattle.uc_machine.specs.Effects.{closes}
-use Rattle.uc_machine.specs.Draws.{Reply, Idle, Drained, Closed, Draws, IsLate, Waits, goal_waits, pair_waits, NothingWaits, IsSpent, budget_is_out, budget_is_spent, all_is_out, all_is_done}
+use Rattle.uc_machine.specs.Draws.{Idle, Drained, Closed, Draws, IsLate, Waits, goal_waits, pair_waits, NothingWaits, IsSpent, budget_is_out, budget_is_spent, all_is_out, all_is_done}
 use Rattle.uc_book.specs.declared.parts.Parts.{Parts}
 use Rattle.uc_rows.specs.declared.tasks.TaskRow.{TaskRow}
 use Rattle.uc_rows.specs.TaskRows.{out_of}

@@ -4,8 +4,6 @@ use Rattle.uc_order.specs.Laws.{Meaning}
 use Rattle.uc_shelf.specs.Fronts.{IsOf}
 use Rattle.uc_machine.specs.declared.event.Verdict.{Verdict}
 use Rattle.uc_machine.specs.declared.event.Verdict.TheVariants.{Saturated, LargeOverlap, LargeGoal}
-use Rattle.uc_machine.specs.declared.task.Job.{Job}
-use Rattle.uc_machine.specs.declared.task.Missing.{Missing}
 use Rattle.uc_machine.specs.declared.task.Outcome.{Outcome}
 use Rattle.uc_machine.specs.declared.task.Outcome.TheVariants.{Convergent, Missing as Lacks, Large, GoalUnsettled}
 use Rattle.uc_book.specs.declared.token.Task.{Task}
@@ -17,7 +15,7 @@ use Rattle.uc_book.specs.declared.answer.Audited.TheVariants.{Kept as AuditKept,
 use Rattle.uc_book.specs.declared.answer.CommitFault.{CommitFault}
 use Rattle.uc_book.specs.declared.answer.CommitFault.TheVariants.{NotOut, NoMemory}
 use Rattle.uc_book.specs.declared.answer.Receipt.{Receipt}
-use Rattle.uc_book.specs.Openings.{Opened, BookView, opening_of}
+use Rattle.uc_book.specs.Openings.{BookView, opening_of}
 use Rattle.uc_machine.specs.State.{Opening, State, Out, out_at}
 use Rattle.uc_machine.specs.Effects.{reclaims}
 use Rattle.uc_machine.specs.Draws.{Reply, Drew, Idle, Drained, Closed}

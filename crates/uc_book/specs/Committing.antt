@@ -1,6 +1,5 @@
 -- What a commit finds in the parts of a book.
-use Rattle.std.specs.Prelude.{◌≡◌, ⊤, ℕ, ◌+◌, ◌<◌, ◌≤◌, List, [], ◌∷◌, Bool, cond, length}
-use Rattle.uc_term.specs.Tree.{Tree}
+use Rattle.std.specs.Prelude.{◌≡◌, ⊤, ℕ, ◌+◌, ◌≤◌, Bool, cond, length}
 use Rattle.uc_fact.specs.declared.fact.Stop.{Stop}
 use Rattle.uc_fact.specs.declared.fact.Stop.TheVariants.{Full, Steps, Size}
 use Rattle.uc_machine.specs.declared.state.Stage.{Stage}

@@ -1,12 +1,8 @@
 -- What a draw needs of the parts of a book, and what it finds in them.
-use Rattle.std.specs.Prelude.{◌≡◌, ℕ, ◌+◌, ◌<◌, ◌≤◌, ◌^◌, Option, Some, None, length, vec_len, vec_capacity}
+use Rattle.std.specs.Prelude.{◌+◌, ◌<◌, ◌≤◌, ◌^◌, length, vec_len, vec_capacity}
 use Rattle.boxcar.specs.Table.{Shelves}
-use Rattle.uc_term.specs.Tree.{Tree}
-use Rattle.uc_machine.specs.declared.task.Job.{Job}
 use Rattle.uc_book.specs.declared.parts.Parts.{Parts}
-use Rattle.uc_machine.specs.Lists.{At}
-use Rattle.uc_machine.specs.State.{Opening, State, Target, queue}
-use Rattle.uc_machine.specs.Draws.{with_ends}
+use Rattle.uc_machine.specs.State.{Opening, queue}
 use Rattle.uc_rows.specs.Bounds.{AreSmall}
 use Rattle.uc_book.specs.Parts.{state_of, Fit, HasRoom, RoomFor}
 

@@ -1,4 +1,4 @@
-use Rattle.std.proofs.Common.{rules, arith, refl, ◌≡◌, ◌+◌, ◌<◌, ◌≤◌, ◌++◌, ◌∷◌, [], length, get_or, take, sym, ◌∙◌, ap}
+use Rattle.std.proofs.Common.{arith, ◌+◌, ◌∙◌, ap}
 use Rattle.std.proofs.lemmas.List.{take_all}
 use Rattle.uc_machine.specs.Runs.{axiom_pairs}
 use Rattle.uc_book.proofs.Beginning.{axioms_at}

@@ -1,4 +1,4 @@
-use Rattle.std.proofs.Common.{◌≡◌, ◌≤◌, ◌-◌, ◌+◌, length, take}
+use Rattle.std.proofs.Common.{◌≡◌, ◌≤◌, ◌+◌, length, take}
 use Rattle.uc_machine.specs.Runs.{axiom_pairs}
 use Rattle.uc_book.proofs.starting.axiom_pairs.Given as goal
 

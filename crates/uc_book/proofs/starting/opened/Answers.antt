@@ -1,5 +1,5 @@
-use Rattle.std.proofs.Common.{rules, arith, refl, ◌≡◌, ◌+◌, ◌≤◌, [], None, length, map, sym, ◌∙◌, ap}
-use Rattle.uc_machine.specs.Runs.{goal_of, opened}
+use Rattle.std.proofs.Common.{rules, arith, refl, ◌≡◌, None, ◌∙◌, ap}
+use Rattle.uc_machine.specs.Runs.{opened}
 use Rattle.uc_rows.specs.RowViews.{PairsView}
 use Rattle.uc_rows.specs.PairRows.{pairs_view}
 use Rattle.uc_book.specs.declared.parts.Parts.{Parts}

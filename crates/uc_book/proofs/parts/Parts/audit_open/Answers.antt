@@ -1,17 +1,13 @@
-use Rattle.std.proofs.Common.{rules, arith, refl, ◌≡◌, ◌+◌, ◌<◌, ◌≤◌, ◌^◌, ◌++◌, ◌∷◌, [], List, length, Some, None, sym, ◌∙◌, ap, subst}
-use Rattle.std.specs.Prelude.{◌≢◌, vec_len, vec_capacity, Vec}
+use Rattle.std.proofs.Common.{arith, refl, ◌≡◌, ◌≤◌, ◌++◌, ◌∷◌, [], length, sym, ◌∙◌, ap, subst}
+use Rattle.std.specs.Prelude.{vec_len, vec_capacity, Vec}
 use Rattle.std.specs.declared.alloc.Global.{Global}
 use Rattle.boxcar.specs.Table.{Shelves}
-use Rattle.uc_fact.specs.declared.fact.Fact.{Fact}
 use Rattle.uc_shelf.specs.Sights.{Sight}
 use Rattle.uc_shelf.specs.Fronts.{IsOf}
 use Rattle.uc_shelf.specs.Entries.{born}
 use Rattle.uc_shelf.specs.declared.entry.Entry.TheVariants.{Born}
 use Rattle.uc_machine.specs.declared.event.Event.{Event}
-use Rattle.uc_machine.specs.declared.event.Happening.TheVariants.{AuditKept}
-use Rattle.uc_machine.specs.State.{State}
 use Rattle.uc_machine.specs.Effects.{publishes}
-use Rattle.uc_machine.specs.Runs.{Audits, ClosedBy, is_spent}
 use Rattle.uc_book.specs.declared.parts.Parts.{Parts}
 use Rattle.uc_machine.specs.declared.event.Verdict.TheVariants.{BudgetOut}
 use Rattle.uc_rows.specs.declared.tasks.TaskRow.{TaskRow}

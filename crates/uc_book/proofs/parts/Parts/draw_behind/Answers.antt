@@ -1,14 +1,13 @@
-use Rattle.std.proofs.Common.{rules, arith, refl, ◌≡◌, Some, None, List, sym, ◌∙◌, ap, subst}
-use Rattle.std.specs.Prelude.{IfOk, OnErr, nat_lt, ◌+◌}
-use Rattle.uc_shelf.specs.Sights.{Sight}
+use Rattle.std.proofs.Common.{arith, refl, sym, ◌∙◌, ap, subst}
+use Rattle.std.specs.Prelude.{nat_lt, ◌+◌}
 use Rattle.uc_machine.specs.Draws.{Draws, NoneUnmet}
 use Rattle.uc_machine.specs.Lists.{first}
-use Rattle.uc_machine.specs.State.{State, Target, is_continued, first_continued}
+use Rattle.uc_machine.specs.State.{State, Target, is_continued}
 use Rattle.uc_book.specs.declared.parts.Parts.{Parts}
 use Rattle.uc_book.specs.Openings.{opening_of}
-use Rattle.uc_book.specs.Parts.{state_of, IsSteady, Fit}
+use Rattle.uc_book.specs.Parts.{state_of}
 use Rattle.uc_book.specs.Drawing.{CanGive}
-use Rattle.uc_book.specs.Answers.{reply_of, IfTask}
+use Rattle.uc_book.specs.Answers.{reply_of}
 use Rattle.uc_book.proofs.Steady.{on_err, steady_fit, steady_room, steady_give, give_on, with_goals}
 use Rattle.uc_book.proofs.Giving.{more_later, dropped_give}
 use Rattle.uc_book.proofs.parts.Parts.draw_behind.Goals as goal

@@ -1,19 +1,17 @@
-use Rattle.std.proofs.Common.{rules, arith, refl, ◌≡◌, Some, None, List, sym, ◌∙◌, ap, subst}
+use Rattle.std.proofs.Common.{refl, ◌≡◌, Some, sym, ◌∙◌, ap, subst}
 use Rattle.std.specs.Prelude.{IfOk, OnErr}
 use Rattle.uc_shelf.specs.Sights.{Sight}
 use Rattle.uc_machine.specs.Draws.{Draws, NoneDue}
 use Rattle.uc_machine.specs.declared.state.Meeting.{Meeting}
-use Rattle.uc_machine.specs.declared.task.Job.TheVariants.{Meet}
-use Rattle.uc_machine.specs.Lists.{At, first, map_option}
-use Rattle.uc_machine.specs.State.{State, is_unmet, first_unmet}
+use Rattle.uc_machine.specs.Lists.{At, map_option}
+use Rattle.uc_machine.specs.State.{State, first_unmet}
 use Rattle.uc_book.specs.declared.parts.Parts.{Parts}
 use Rattle.uc_book.specs.declared.token.Task.{Task}
 use Rattle.uc_book.specs.Openings.{opening_of}
 use Rattle.uc_rows.specs.RowViews.{FactsView}
 use Rattle.uc_book.specs.Parts.{state_of, IsSteady}
-use Rattle.uc_book.specs.Drawing.{CanGive}
 use Rattle.uc_book.specs.Answers.{reply_of, IfTask}
-use Rattle.uc_book.proofs.Steady.{steady_fit, steady_give, give_on, steady_self}
+use Rattle.uc_book.proofs.Steady.{steady_give, give_on, steady_self}
 use Rattle.uc_book.proofs.Giving.{unmet_given, found_none}
 use Rattle.uc_book.proofs.parts.Parts.draw_fact.Goals as goal
 

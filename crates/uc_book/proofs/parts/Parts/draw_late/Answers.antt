@@ -1,4 +1,4 @@
-use Rattle.std.proofs.Common.{arith, refl, ◌≡◌, length, sym, ◌∙◌, ap}
+use Rattle.std.proofs.Common.{refl}
 use Rattle.uc_machine.specs.declared.task.Job.TheVariants.{More}
 use Rattle.uc_machine.specs.State.{first_continued}
 use Rattle.uc_book.specs.Openings.{opening_of}

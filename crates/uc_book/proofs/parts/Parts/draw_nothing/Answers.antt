@@ -1,4 +1,4 @@
-use Rattle.std.proofs.Common.{arith, ◌≡◌, length, sym, ◌∙◌, ap}
+use Rattle.std.proofs.Common.{length, ◌∙◌}
 use Rattle.std.specs.Prelude.{vec_len}
 use Rattle.uc_book.proofs.Waiting.{none_by, some_by, nothing_idle, nothing_drained}
 use Rattle.uc_book.proofs.parts.Parts.draw_nothing.Goals as goal

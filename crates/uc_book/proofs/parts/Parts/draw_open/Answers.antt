@@ -1,4 +1,4 @@
-use Rattle.std.proofs.Common.{rules, arith, refl, ◌≡◌, None, List, sym, ◌∙◌, ap, subst}
+use Rattle.std.proofs.Common.{refl, ◌≡◌, List, sym, ◌∙◌, ap, subst}
 use Rattle.std.specs.Prelude.{IfOk, OnErr}
 use Rattle.uc_shelf.specs.Sights.{Sight}
 use Rattle.uc_machine.specs.Draws.{Draws}
@@ -6,7 +6,7 @@ use Rattle.uc_machine.specs.declared.task.Job.TheVariants.{Goal}
 use Rattle.uc_book.specs.declared.token.Task.{Task}
 use Rattle.uc_book.specs.Answers.{reply_of, IfTask}
 use Rattle.uc_machine.specs.Lists.{first}
-use Rattle.uc_machine.specs.State.{State, Target, is_due, first_due}
+use Rattle.uc_machine.specs.State.{State, Target, is_due}
 use Rattle.uc_book.specs.declared.parts.Parts.{Parts}
 use Rattle.uc_book.specs.Openings.{opening_of}
 use Rattle.uc_book.specs.Parts.{state_of, IsSteady}

@@ -1,9 +1,9 @@
-use Rattle.std.proofs.Common.{arith, refl, ◌≡◌, Some, length, sym, ◌∙◌, ap}
+use Rattle.std.proofs.Common.{refl, Some, ◌∙◌, ap}
 use Rattle.std.specs.Prelude.{option_map}
 use Rattle.uc_queue.specs.declared.entry.Entry.{Entry as Place}
 use Rattle.uc_machine.specs.declared.task.Job.TheVariants.{Join}
 use Rattle.uc_book.specs.Openings.{opening_of}
-use Rattle.uc_rows.specs.PairRows.{IsHead, head_in}
+use Rattle.uc_rows.specs.PairRows.{IsHead}
 use Rattle.uc_book.specs.Parts.{state_of}
 use Rattle.uc_book.proofs.Rules.{pair_drawn}
 use Rattle.uc_book.proofs.Giving.{given}

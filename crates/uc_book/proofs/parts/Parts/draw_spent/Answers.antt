@@ -1,4 +1,4 @@
-use Rattle.std.proofs.Common.{arith, refl, ◌≡◌, length, sym, ◌∙◌, ap}
+use Rattle.std.proofs.Common.{refl, length, ◌∙◌, ap}
 use Rattle.std.specs.Prelude.{vec_len}
 use Rattle.uc_machine.specs.declared.event.Happening.TheVariants.{Close}
 use Rattle.uc_machine.specs.declared.event.Verdict.TheVariants.{BudgetOut}

@@ -1,4 +1,4 @@
-use Rattle.std.proofs.Common.{rules, arith, refl, ◌≡◌, ◌+◌, ◌≤◌, length, sym, ap, ◌∙◌}
+use Rattle.std.proofs.Common.{arith, ◌≡◌, ◌+◌, length, ◌∙◌}
 use Rattle.uc_machine.specs.State.{queue}
 use Rattle.uc_book.specs.Parts.{state_of}
 use Rattle.uc_book.proofs.Dropping.{dropped_fewer, dropped_met, dropped_ticket, dropped_leads}

@@ -1,8 +1,5 @@
-use Rattle.std.proofs.Common.{rules, arith, ◌≡◌, ◌+◌, ◌++◌, ◌∷◌, [], length, map, sym, ap, ◌∙◌}
-use Rattle.std.specs.Prelude.{slice_index_or}
+use Rattle.std.proofs.Common.{◌≡◌, ◌+◌, ◌++◌, ◌∷◌, [], length, map, ap, ◌∙◌}
 use Rattle.uc_shelf.specs.Sights.{Sight}
-use Rattle.uc_machine.specs.declared.event.Event.{Event}
-use Rattle.uc_rows.specs.declared.tasks.TaskRow.{TaskRow}
 use Rattle.uc_machine.specs.Lists.{change}
 use Rattle.uc_machine.specs.Effects.{draw_event, one_drawn, unit_of}
 use Rattle.uc_rows.specs.TaskRows.{out_of}

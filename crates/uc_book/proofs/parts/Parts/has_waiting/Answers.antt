@@ -1,4 +1,4 @@
-use Rattle.std.proofs.Common.{◌≡◌, true, false, sym, ◌∙◌, refl}
+use Rattle.std.proofs.Common.{sym}
 use Rattle.std.proofs.lemmas.Bool.{false≢true}
 use Rattle.uc_book.specs.Parts.{state_of}
 use Rattle.uc_book.proofs.Waiting.{goal_found_waits, none_continued, head_found_waits, none_at_head}

@@ -1,4 +1,4 @@
-use Rattle.std.proofs.Common.{rules, arith, refl, ◌≡◌, ◌+◌, ◌<◌, ◌≤◌, ◌^◌, length, sym, ◌∙◌, ap}
+use Rattle.std.proofs.Common.{arith, refl}
 use Rattle.uc_book.proofs.Steady.{steady_by}
 use Rattle.uc_book.specs.declared.parts.Parts.{Parts}
 use Rattle.uc_book.proofs.parts.Parts.make_room.Goals as goal

@@ -1,17 +1,16 @@
-use Rattle.std.proofs.Common.{rules, arith, ◌≡◌, ◌+◌, ◌-◌, ◌<◌, ◌≤◌, ◌++◌, ◌∷◌, [], length, map, sym, ap, ◌∙◌}
-use Rattle.std.specs.Prelude.{remove, Vec}
+use Rattle.std.proofs.Common.{◌≡◌, ◌-◌, ◌++◌, ◌∷◌, [], map, sym, ap, ◌∙◌}
+use Rattle.std.specs.Prelude.{Vec}
 use Rattle.std.specs.declared.alloc.Global.{Global}
 use Rattle.uc_machine.specs.declared.event.Event.{Event}
 use Rattle.uc_machine.specs.declared.state.Numbers.{Numbers}
 use Rattle.uc_machine.specs.declared.task.Job.{Job}
-use Rattle.uc_rows.specs.declared.tasks.TaskRow.{TaskRow}
 use Rattle.uc_machine.specs.Lists.{change}
 use Rattle.uc_machine.specs.State.{State, Out, without}
 use Rattle.uc_machine.specs.Effects.{unit_of, one_reclaim, restores, reclaim_event}
 use Rattle.uc_rows.specs.TaskRows.{out_of}
-use Rattle.uc_book.specs.Parts.{state_of, IsSubjectOut}
+use Rattle.uc_book.specs.Parts.{state_of}
 use Rattle.uc_book.proofs.Handing.{returned}
-use Rattle.uc_book.proofs.Standing.{row_out, unit_few, still_out}
+use Rattle.uc_book.proofs.Standing.{row_out}
 use Rattle.uc_book.proofs.parts.Parts.put_back.Goals as goal
 
 pub returns-clause-state : goal.returns-clause-state

@@ -1,9 +1,7 @@
-use Rattle.std.proofs.Common.{rules, arith, refl, ◌≡◌, ◌≤◌, ◌+◌, ◌<◌, Some, None, length, get_or, map, sym, ◌∙◌, ap, subst, List}
-use Rattle.std.specs.Prelude.{◌≢◌}
-use Rattle.uc_machine.specs.State.{Out, out_at}
-use Rattle.uc_rows.specs.declared.tasks.TaskRow.{TaskRow}
+use Rattle.std.proofs.Common.{◌≡◌, sym, ◌∙◌, ap}
+use Rattle.uc_machine.specs.State.{Out}
 use Rattle.uc_book.specs.Openings.{opening_of}
-use Rattle.uc_rows.specs.TaskRows.{out_of, StandsAt}
+use Rattle.uc_rows.specs.TaskRows.{out_of}
 use Rattle.uc_book.specs.Parts.{state_of}
 use Rattle.uc_book.proofs.Standing.{row_out, can_return, returned_fit}
 use Rattle.uc_book.proofs.Fitting.{room_ended}
