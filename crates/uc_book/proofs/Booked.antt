@@ -1,5 +1,5 @@
 -- The parts of a book after each of its calls are those of a book.
-use Rattle.std.proofs.Common.{◌≡◌, ℕ, ◌+◌, ◌<◌, ◌≤◌, ◌^◌, List, [], ◌∷◌, length, take, map, Option, Some, None, refl, ap, sym, ◌∙◌, arith, inl, inr, subst}
+use Rattle.std.proofs.Common.{◌≡◌, ℕ, ◌<◌, List, [], ◌∷◌, length, take, Some, refl, ap, sym, ◌∙◌, arith, inl, inr, subst}
 use Rattle.std.specs.Prelude.{Result, Ok, Err, IfOk, OnErr, ◌==◌}
 use Rattle.std.proofs.lemmas.Bool.{cases_Bool, eqb-true}
 use Rattle.uc_order.specs.Laws.{Meaning}
@@ -10,9 +10,9 @@ use Rattle.uc_machine.specs.declared.task.Job.{Job}
 use Rattle.uc_book.specs.declared.token.Done.{Done}
 use Rattle.uc_machine.specs.State.{Opening, State, Out, out_at}
 use Rattle.uc_machine.specs.Draws.{Draws}
-use Rattle.uc_machine.specs.Effects.{reclaims, closes}
+use Rattle.uc_machine.specs.Effects.{closes}
 use Rattle.uc_machine.specs.Results.{IsResult}
-use Rattle.uc_machine.specs.Runs.{Reaches, starts, draws_on, commits_on, reclaims_on, recalls_on, audits_on, closes_on, Starts, Audits, MayAudit, Closes, converges, has_large, has_stuck}
+use Rattle.uc_machine.specs.Runs.{Reaches, draws_on, commits_on, reclaims_on, audits_on, Audits, MayAudit, Closes, converges, has_large, has_stuck}
 use Rattle.uc_machine.specs.declared.task.Missing.{Missing}
 use Rattle.uc_machine.specs.declared.task.Outcome.{Outcome}
 use Rattle.uc_machine.specs.declared.task.Outcome.TheVariants.{Convergent, Missing as Lacks, Large, GoalUnsettled}

@@ -1,20 +1,16 @@
 -- What the job of a drawn task names is there.
-use Rattle.std.proofs.Common.{◌≡◌, ℕ, zero, suc, ◌+◌, ◌<◌, List, [], ◌∷◌, length, slice_get, Option, Some, None, refl, ap, sym, ◌∙◌, arith, subst}
+use Rattle.std.proofs.Common.{◌≡◌, ℕ, zero, suc, ◌+◌, ◌<◌, List, [], ◌∷◌, length, slice_get, Some, ap, sym, ◌∙◌, arith, subst}
 use Rattle.std.specs.Prelude.{◌≢◌}
-use Rattle.uc_term.specs.declared.equation.Equation.{Equation}
 use Rattle.uc_order.specs.Laws.{Meaning}
-use Rattle.uc_fact.specs.declared.fact.Origin.{Origin}
-use Rattle.uc_ledger.specs.declared.ledger.State.{State as Condition}
 use Rattle.uc_ledger.specs.declared.ledger.State.TheVariants.{Waiting, Orphan, Large}
 use Rattle.uc_shelf.specs.declared.entry.Entry.{Entry}
 use Rattle.uc_shelf.specs.Entries.{born}
 use Rattle.uc_queue.specs.declared.entry.Entry.{Entry as Place}
-use Rattle.uc_machine.specs.declared.task.Job.TheVariants.{Goal, More, Meet, Join}
 use Rattle.uc_machine.specs.Lists.{Each, change}
 use Rattle.uc_machine.specs.State.{Opening, State, Pair, Out, peek, is_unmet, is_due, is_continued, Target}
 use Rattle.uc_machine.specs.Effects.{drops}
 use Rattle.uc_machine.specs.Draws.{Reply, Drew, Idle, Drained, Closed, Draws, verdict_stands, goal_is_due, fact_is_unmet, orphan_is_dropped, goal_is_continued, pair_is_drawn, budget_is_out, budget_is_spent, all_is_out, all_is_done}
-use Rattle.uc_machine.specs.Origins.{IsKnownOrigin, OriginsAreKnown, CanCompute}
+use Rattle.uc_machine.specs.Origins.{IsKnownOrigin, CanCompute}
 use Rattle.uc_machine.proofs.Lists.{below}
 use Rattle.uc_machine.proofs.Calls.{waits_is}
 use Rattle.uc_machine.proofs.Found.{IsPlace, peek_is, first_is}

@@ -1,15 +1,13 @@
 -- There are always as many goals as the problem has.
-use Rattle.std.proofs.Common.{◌≡◌, ℕ, List, [], ◌∷◌, ◌<◌, ◌^◌, length, Bool, true, false, cond, refl, ap, sym, ◌∙◌, map, inl, inr, arith, subst}
+use Rattle.std.proofs.Common.{◌≡◌, ℕ, List, [], ◌∷◌, ◌<◌, ◌^◌, length, refl, ap, ◌∙◌, map, inl, inr, arith}
 use Rattle.std.specs.Prelude.{Result, Ok, Err, IfOk, Vec}
 use Rattle.std.specs.declared.alloc.Global.{Global}
 use Rattle.std.proofs.lemmas.Bool.{cases_Bool}
 use Rattle.std.proofs.lemmas.List.{length-map}
-use Rattle.uc_term.specs.declared.equation.Equation.{Equation}
 use Rattle.uc_order.specs.Laws.{Meaning}
 use Rattle.uc_fact.specs.declared.chain.Chain.{Chain}
 use Rattle.uc_fact.specs.declared.fact.Fact.{Fact}
 use Rattle.uc_fact.specs.declared.fact.Stop.{Stop}
-use Rattle.uc_pair.specs.declared.formed.Formed.{Formed}
 use Rattle.uc_shelf.specs.Entries.{is_dead}
 use Rattle.uc_machine.specs.declared.event.GoalEnd.{GoalEnd}
 use Rattle.uc_machine.specs.declared.event.Happening.{Happening}
@@ -21,7 +19,7 @@ use Rattle.uc_machine.specs.declared.task.Job.{Job}
 use Rattle.uc_machine.specs.declared.task.Job.TheVariants.{Goal, More, Meet, Join}
 use Rattle.uc_machine.specs.Lists.{each, change}
 use Rattle.uc_machine.specs.State.{Opening, State, Target, Out}
-use Rattle.uc_machine.specs.Effects.{hands_out, drops, reclaims, recalls, kills, visits, forms, goes_on}
+use Rattle.uc_machine.specs.Effects.{hands_out, drops, reclaims, kills, visits, goes_on}
 use Rattle.uc_machine.specs.Draws.{Reply, Draws, verdict_stands, goal_is_due, fact_is_unmet, orphan_is_dropped, goal_is_continued, pair_is_drawn, budget_is_out, budget_is_spent, all_is_out, all_is_done, with_ends}
 use Rattle.uc_machine.specs.Commits.{Commits, GoalEnds, ends_meet, ends_differ, Meets, within_limit, past_limit, is_late, goal_ends, more_ends, pair_joins, fact_is_kept, fact_is_stale, fact_is_dead, fact_meets}
 use Rattle.uc_machine.specs.Runs.{Reaches, starts, draws_on, commits_on, reclaims_on, recalls_on, audits_on, closes_on, Starts, axioms_wait, too_many_axioms, Audits, AuditReply, is_closed, is_spent, is_kept, Closes, converges, has_large, has_stuck, goal_of}

@@ -1,5 +1,5 @@
 -- The numbers of a state of a run are small.
-use Rattle.std.proofs.Common.{◌≡◌, ℕ, zero, suc, ◌+◌, ◌<◌, ◌≤◌, ◌^◌, List, [], ◌∷◌, length, get_or, map, slice_get, Option, Some, None, refl, ap, sym, ◌∙◌, arith, subst}
+use Rattle.std.proofs.Common.{◌≡◌, ℕ, ◌<◌, ◌≤◌, ◌^◌, List, length, map, slice_get, Some, sym, arith, subst}
 use Rattle.std.specs.Prelude.{◌&&◌, ◌==◌}
 use Rattle.std.specs.List.{sum_by}
 use Rattle.std.proofs.lemmas.List.Sums.{count_by-le-length}
@@ -14,15 +14,15 @@ use Rattle.uc_machine.specs.declared.state.Stage.TheVariants.{Busy}
 use Rattle.uc_machine.specs.declared.state.Meeting.TheVariants.{Visiting}
 use Rattle.uc_shelf.specs.Entries.{born}
 use Rattle.uc_machine.specs.Lists.{map_option}
-use Rattle.uc_machine.specs.State.{Opening, State, Target, Out, is_draw, draws_in, out_at}
+use Rattle.uc_machine.specs.State.{Opening, Target, Out, is_draw, draws_in}
 use Rattle.uc_machine.specs.Effects.{unit_of}
-use Rattle.uc_machine.specs.Events.{numbers_of, draws_by, commits_by, reclaims_by, is_commit_what, is_reclaim_what}
+use Rattle.uc_machine.specs.Events.{numbers_of, is_commit_what, is_reclaim_what}
 use Rattle.uc_book.specs.Openings.{Opened, opening_of}
 use Rattle.uc_rows.specs.TaskRows.{out_of}
 use Rattle.uc_book.specs.Parts.{state_of, Fit, HasRoom, IsBook, IsSubjectOut}
 use Rattle.uc_rows.specs.Bounds.{IsSmall}
 use Rattle.uc_book.specs.Drawing.{IsSound}
-use Rattle.uc_book.specs.Ending.{CanEnd, IsOut}
+use Rattle.uc_book.specs.Ending.{CanEnd}
 use Rattle.uc_machine.proofs.Kept.{Kept, IsBusy}
 use Rattle.uc_machine.proofs.Lists.{sum-without, below}
 use Rattle.uc_machine.proofs.Steps.{at_task, has_item}

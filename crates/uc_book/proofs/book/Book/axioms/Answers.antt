@@ -1,4 +1,4 @@
-use Rattle.std.proofs.Common.{◌≡◌, ◌<◌, ◌^◌, length, sym, subst}
+use Rattle.std.proofs.Common.{◌<◌, ◌^◌, length, sym, subst}
 use Rattle.uc_term.specs.declared.equation.Equation.{Equation}
 use Rattle.std.specs.Prelude.{List}
 use Rattle.uc_book.proofs.book.Book.axioms.Goals as goal

@@ -1,4 +1,4 @@
-use Rattle.std.proofs.Common.{rules, arith, refl, ◌≡◌, ◌<◌, length, sym, ◌∙◌, ap, subst}
+use Rattle.std.proofs.Common.{arith, ◌≡◌, length}
 use Rattle.uc_book.specs.Openings.{Opened, opening_of}
 use Rattle.uc_book.specs.Parts.{state_of}
 use Rattle.uc_book.proofs.GoalCount.{as_many_goals}

@@ -1,4 +1,4 @@
-use Rattle.std.proofs.Common.{rules, arith, refl, ◌≡◌, ◌<◌, ◌≤◌, ◌^◌, length, sym, ◌∙◌, ap, subst}
+use Rattle.std.proofs.Common.{arith, ◌≡◌, ◌<◌, ◌^◌, length, sym, ap, subst}
 use Rattle.uc_shelf.specs.Fronts.{IsOf}
 use Rattle.uc_book.specs.Openings.{Opened, opening_of}
 use Rattle.uc_book.specs.Answers.{IsRefused}

@@ -1,6 +1,5 @@
-use Rattle.std.proofs.Common.{rules, refl, ◌≡◌, sym, ◌∙◌, ap, subst}
+use Rattle.std.proofs.Common.{sym, subst}
 use Rattle.uc_shelf.specs.Fronts.{IsOf}
-use Rattle.uc_shelf.specs.Sights.{Sight}
 use Rattle.uc_book.proofs.book.Book.front.Goals as goal
 
 pub returns-clause-of : goal.returns-clause-of

@@ -1,7 +1,4 @@
-use Rattle.std.proofs.Common.{rules, arith, ◌≡◌, ◌<◌, ◌==◌, length, map, sym, ◌∙◌, ap, true}
-use Rattle.std.proofs.lemmas.List.{length-map}
-use Rattle.std.proofs.lemmas.Bool.Decides.{nat_tests}
-use Rattle.uc_rows.specs.TaskRows.{out_of}
+use Rattle.std.proofs.Common.{◌==◌, ◌∙◌, ap}
 use Rattle.uc_book.proofs.Waiting.{has_some}
 use Rattle.uc_book.proofs.book.Book.has_task_out.Goals as goal
 

@@ -1,4 +1,4 @@
-use Rattle.std.proofs.Common.{rules, refl, ◌≡◌, sym, ◌∙◌, ap}
+use Rattle.std.proofs.Common.{sym}
 use Rattle.uc_book.proofs.book.Book.history.Goals as goal
 
 pub returns-clause-run : goal.returns-clause-run

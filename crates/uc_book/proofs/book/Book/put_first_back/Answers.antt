@@ -1,4 +1,4 @@
-use Rattle.std.proofs.Common.{rules, arith, refl, ◌≡◌, ◌<◌, ◌≤◌, ◌^◌, ◌+◌, length, map, sym, ◌∙◌, ap, subst}
+use Rattle.std.proofs.Common.{arith, refl, ◌≡◌, ◌<◌, ◌^◌, ◌+◌, length, sym, ◌∙◌, ap, subst}
 use Rattle.std.proofs.lemmas.List.{length-map}
 use Rattle.uc_machine.specs.Runs.{Reaches, reclaims_on}
 use Rattle.uc_book.specs.Openings.{Opened, opening_of}

@@ -1,4 +1,4 @@
-use Rattle.std.proofs.Common.{rules, arith, refl, ◌≡◌, ◌<◌, ◌≤◌, ◌^◌, length, sym, ◌∙◌, ap, subst}
+use Rattle.std.proofs.Common.{arith, ◌<◌, ◌^◌, length, sym, subst}
 use Rattle.uc_book.specs.Openings.{Opened, opening_of}
 use Rattle.uc_book.specs.Ending.{CanEnd}
 use Rattle.uc_book.proofs.Sound.{book_can_end}

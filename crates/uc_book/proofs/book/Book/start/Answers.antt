@@ -1,4 +1,4 @@
-use Rattle.std.proofs.Common.{rules, arith, ◌≡◌, ◌≤◌}
+use Rattle.std.proofs.Common.{arith}
 use Rattle.uc_machine.specs.Runs.{starts}
 use Rattle.uc_book.proofs.book.Book.start.Goals as goal
 

@@ -1,14 +1,11 @@
-use Rattle.std.proofs.Common.{rules, arith, ◌≡◌, ◌+◌, ◌-◌, ◌<◌, ◌≤◌, ◌++◌, ◌∷◌, [], length, map, sym, ap, ◌∙◌}
-use Rattle.std.specs.Prelude.{remove}
-use Rattle.uc_machine.specs.declared.task.Job.{Job}
-use Rattle.uc_rows.specs.declared.tasks.TaskRow.{TaskRow}
+use Rattle.std.proofs.Common.{◌≡◌, ◌+◌, ◌-◌, ◌++◌, ◌∷◌, [], map, sym, ap, ◌∙◌}
 use Rattle.uc_machine.specs.Lists.{change}
 use Rattle.uc_machine.specs.State.{Out, without}
 use Rattle.uc_machine.specs.Effects.{unit_of, one_commit}
 use Rattle.uc_rows.specs.TaskRows.{out_of}
 use Rattle.uc_book.specs.Parts.{state_of}
 use Rattle.uc_book.proofs.Handing.{accepted}
-use Rattle.uc_book.proofs.Standing.{row_out, unit_few}
+use Rattle.uc_book.proofs.Standing.{row_out}
 use Rattle.uc_book.proofs.parts.Parts.accept.Goals as goal
 
 pub returns-clause-state : goal.returns-clause-state
