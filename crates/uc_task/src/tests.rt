@@ -1,17 +1,20 @@
-ghost use Rattle.std.specs.Prelude.{◌≡◌, ◌+◌, ◌<◌, length, IsTrue, IfOk};
+ghost use Rattle.std.specs.Prelude.{◌≡◌, ◌+◌, ◌++◌, ◌∷◌, [], length, IsTrue, IfOk};
 ghost use Rattle.uc_term.specs.Table.{Has};
 ghost use Rattle.uc_order.specs.Members.{Each};
 ghost use Rattle.uc_kbo.specs.Faults.{HasConstant};
 ghost use Rattle.uc_shelf.specs.Entries.{born};
 ghost use Rattle.uc_shelf.specs.Fronts.{IsOf};
+ghost use Rattle.uc_machine.specs.Origins.{IsKnownOrigin};
+ghost use Rattle.uc_task.specs.Jobs.{CanBeDone};
 
-use crate::finding_of;
+use crate::{LiveFact, Tried, finding_of, live_facts, try_pair};
 use std::alloc::{AllocError, Global};
 use std::sync::Wait;
 use std::test::Fail;
-use uc_fact::{By, Chain, Equation, Fact, Origin, Side, Stop};
+use uc_fact::{By, Chain, Equation, Fact, Origin, Overlap, Side, Step, Stop};
 use uc_kbo::Kbo;
 use uc_machine::{Finding, Job};
+use uc_order::Order;
 use uc_pair::{Formed, Size};
 use uc_shelf::{Entry, Front, Shelf};
 use uc_term::{Pos, Seq, Sym, Symbols, Term, TermFault};
@@ -27,12 +30,14 @@ const G: Sym = Sym(3);
 // Two constants and two unary symbols, the least first.
 const PRECEDENCE: &[Sym] = &[A, B, F, G];
 
+// Their names, in the order of their numbers, with the numbers of their arguments.
+const NAMES: &[(&[u8], u32)] = &[(b"a", 0), (b"b", 0), (b"f", 1), (b"g", 1)];
+
 fn symbols(alloc: Global) -> Result<Symbols, AllocError> {
     let mut symbols = Symbols::new(alloc);
-    symbols.intern(alloc, b"a", 0)?;
-    symbols.intern(alloc, b"b", 0)?;
-    symbols.intern(alloc, b"f", 1)?;
-    symbols.intern(alloc, b"g", 1)?;
+    for (name, arity) in NAMES {
+        symbols.intern(alloc, name, *arity)?;
+    }
     Ok(symbols)
 }
 
@@ -62,16 +67,16 @@ fn has_constant(symbols: &Symbols, list: &[Sym]) -> bool
 }
 
 // The order in which each symbol and each variable weighs 1.
-fn order(alloc: Global) -> Result<Kbo, Fail> {
-    let symbols = symbols(alloc)?;
-    if !are_known(&symbols, PRECEDENCE) || !has_constant(&symbols, PRECEDENCE) {
+fn order_over(alloc: Global, symbols: &Symbols) -> Result<Kbo, Fail> {
+    if !are_known(symbols, PRECEDENCE) || !has_constant(symbols, PRECEDENCE) {
         return Err(Fail::from("no constant"));
     }
-    Ok(Kbo::new(alloc, PRECEDENCE, &symbols, 1, &[1, 1, 1, 1], PRECEDENCE)?)
+    Ok(Kbo::new(alloc, PRECEDENCE, symbols, 1, &[1, 1, 1, 1], PRECEDENCE)?)
 }
 
-fn over(alloc: Global, f: Sym, inner: Term) -> Result<Term, TermFault> {
-    Term::app(alloc, f, &[inner])
+fn order(alloc: Global) -> Result<Kbo, Fail> {
+    let symbols = symbols(alloc)?;
+    order_over(alloc, &symbols)
 }
 
 // The term of a letter around another one: X and Y are the variables 0 and 1.
@@ -79,8 +84,8 @@ fn around(alloc: Global, letter: u8, inner: Term) -> Result<Term, TermFault> {
     match letter {
         b'a' => Term::app(alloc, A, &[]),
         b'b' => Term::app(alloc, B, &[]),
-        b'f' => over(alloc, F, inner),
-        b'g' => over(alloc, G, inner),
+        b'f' => Term::app(alloc, F, &[inner]),
+        b'g' => Term::app(alloc, G, &[inner]),
         b'Y' => Ok(Term::var(alloc, 1)?),
         _ => Ok(Term::var(alloc, 0)?),
     }
@@ -97,16 +102,25 @@ fn term(alloc: Global, letters: &[u8]) -> Result<Term, TermFault> {
 
 type Sides = (&'static [u8], &'static [u8]);
 
-fn fact(alloc: Global, sides: Sides) -> Result<Fact, TermFault> {
-    let left = term(alloc, sides.0)?;
-    let start = left.copy(alloc)?;
+fn equations(alloc: Global, list: &[Sides]) -> Result<Vec<Equation>, TermFault> {
+    let mut equations = Vec::new(alloc);
+    for sides in list {
+        equations.push(Equation {
+            left: term(alloc, sides.0)?,
+            right: term(alloc, sides.1)?,
+        })?;
+    }
+    Ok(equations)
+}
+
+fn fact(alloc: Global, sides: &Sides) -> Result<Fact, TermFault> {
     Ok(Fact {
-        left,
+        left: term(alloc, sides.0)?,
         right: term(alloc, sides.1)?,
         oriented: false,
         origin: Origin::Axiom(0),
         chain: Chain {
-            start,
+            start: term(alloc, sides.0)?,
             steps: Seq::new(alloc),
         },
         front: 0,
@@ -114,194 +128,447 @@ fn fact(alloc: Global, sides: Sides) -> Result<Fact, TermFault> {
     })
 }
 
-// One fact more, on a front that is short.
-fn add<R: Wait>(
+// One entry more, on a front that is short.
+fn put<R: Wait>(
     rt: &R,
     alloc: Global,
     shelf: &Shelf,
     front: &mut Front,
-    sides: Sides,
+    entry: Entry,
+) -> Result<(), Fail>
+    requires of { IsOf shelf.now front.old }
+    ensures of { IsOf shelf.now front.new }
+    ensures more { IfOk result (λ _. front.new.entries ≡ front.old.entries ++ entry ∷ []) }
+{
+    if front.len() >= 9 {
+        return Err(Fail::from("too long"));
+    }
+    Ok(shelf.publish(rt, alloc, front, entry)?)
+}
+
+// One fact more.
+fn put_fact<R: Wait>(
+    rt: &R,
+    alloc: Global,
+    shelf: &Shelf,
+    front: &mut Front,
+    sides: &Sides,
 ) -> Result<(), Fail>
     requires of { IsOf shelf.now front.old }
     ensures of { IsOf shelf.now front.new }
     ensures one { IfOk result (λ _. length (born front.new.entries) ≡ length (born front.old.entries) + 1) }
 {
-    if front.len() >= 1000 {
-        return Err(Fail::from("too long"));
-    }
-    let entry = Entry::Born(fact(alloc, sides)?);
-    shelf.publish(rt, alloc, front, entry)?;
+    let fact = fact(alloc, sides)?;
+    put(rt, alloc, shelf, front, Entry::Born(fact))?;
     Ok(())
+}
+
+// The front on which facts with these sides are born.
+fn front_of<R: Wait>(rt: &R, alloc: Global, shelf: &Shelf, facts: &[Sides]) -> Result<Front, Fail>
+    ensures of { IfOk result (λ front. IsOf shelf.now front) }
+    ensures all { IfOk result (λ front. length (born front.entries) ≡ length facts.now) }
+{
+    let mut front = Front::empty(alloc);
+    for sides in facts {
+        put_fact(rt, alloc, shelf, &mut front, sides)?;
+    }
+    Ok(front)
+}
+
+// Whether a pair comes from an axiom or a fact that is there.
+fn is_known<O: Order>(
+    origin: &Origin,
+    facts: usize,
+    axioms: &[Equation],
+    front: &Front,
+    _order: &O,
+) -> bool
+    requires { length (born front.now.entries) ≡ facts }
+    ensures { IsTrue result → IsKnownOrigin (O.meaning _order.now) axioms.now front.now.entries origin.now }
+{
+    match origin {
+        Origin::Axiom(number) => (*number as usize) < axioms.len(),
+        Origin::Overlap(_) => false,
+        Origin::Revived(number) => (*number as usize) < facts,
+    }
+}
+
+// Whether a job names what is there.
+fn can_be_done<O: Order>(
+    job: &Job,
+    facts: usize,
+    axioms: &[Equation],
+    front: &Front,
+    order: &O,
+) -> bool
+    requires { length (born front.now.entries) ≡ facts }
+    ensures { IsTrue result → CanBeDone (O.meaning order.now) axioms.now front.now.entries job.now }
+{
+    match job {
+        Job::Goal { .. } => true,
+        Job::More { .. } => true,
+        Job::Meet(number) => (*number as usize) < facts,
+        Job::Join { origin, .. } => is_known(origin, facts, axioms, front, order),
+    }
+}
+
+// What a job comes to over a front with so many facts.
+fn found_on<O: Order>(
+    alloc: Global,
+    job: &Job,
+    facts: usize,
+    shelf: &Shelf,
+    front: &Front,
+    axioms: &[Equation],
+    order: &O,
+) -> Result<Finding, Fail>
+    requires of { IsOf shelf.now front.now }
+    requires all { length (born front.now.entries) ≡ facts }
+{
+    if !can_be_done(job, facts, axioms, front, order) {
+        return Err(Fail::from("nothing of this number"));
+    }
+    Ok(finding_of(alloc, job, shelf, front, axioms, order)?)
+}
+
+fn found_by(
+    alloc: Global,
+    job: &Job,
+    facts: usize,
+    shelf: &Shelf,
+    front: &Front,
+    axioms: &[Sides],
+) -> Result<Finding, Fail>
+    requires of { IsOf shelf.now front.now }
+    requires all { length (born front.now.entries) ≡ facts }
+{
+    let axioms = equations(alloc, axioms)?;
+    let order = order(alloc)?;
+    found_on(alloc, job, facts, shelf, front, axioms.as_slice(), &order)
+}
+
+// What a job comes to over facts with these sides.
+fn found<R: Wait>(
+    rt: &R,
+    alloc: Global,
+    job: &Job,
+    facts: &[Sides],
+    axioms: &[Sides],
+) -> Result<Finding, Fail> {
+    let shelf = Shelf::new(alloc)?;
+    let front = front_of(rt, alloc, &shelf, facts)?;
+    found_by(alloc, job, facts.len(), &shelf, &front, axioms)
 }
 
 // Whether the term is the one that the letters spell.
-fn is(alloc: Global, t: &Term, letters: &[u8]) -> Result<bool, TermFault> {
-    Ok(t.same(&term(alloc, letters)?))
+fn is(alloc: Global, t: &Term, letters: &[u8]) -> Result<bool, Fail> {
+    let wanted = term(alloc, letters)?;
+    Ok(t.same(&wanted))
 }
 
-// Whether the chain has these ends and this one step, from left to right.
-fn is_step(
-    alloc: Global,
-    chain: &Chain,
-    sides: Sides,
+// A step from left to right: from this term to that one, by an equation, at a place.
+#[derive(Clone, Copy)]
+struct Row {
+    from: &'static [u8],
+    to: &'static [u8],
     by: By,
-    position: Pos,
-) -> Result<bool, TermFault> {
-    let steps = chain.steps.as_slice();
-    if steps.len() != 1 {
+    place: u32,
+}
+
+fn is_step(alloc: Global, step: &Step, row: &Row) -> Result<bool, Fail> {
+    if step.by != row.by || step.position != Pos(row.place) || !step.left_to_right {
         return Ok(false);
     }
-    let step = &steps[0];
-    Ok(
-        is(alloc, &chain.start, sides.0)?
-            && step.by == by
-            && step.left_to_right
-            && step.position == position
-            && is(alloc, &step.to, sides.1)?,
-    )
+    is(alloc, &step.to, row.to)
 }
 
-// Over f(a) = b the goal f(f(a)) = a goes on by one step to f(b), at the argument; over f(b) = a as well from there to a.
+// Whether the chain has this one step.
+fn is_one_step(alloc: Global, chain: &Chain, row: &Row) -> Result<bool, Fail> {
+    let steps = chain.steps.as_slice();
+    if steps.len() != 1 || !is(alloc, &chain.start, row.from)? {
+        return Ok(false);
+    }
+    is_step(alloc, &steps[0], row)
+}
+
+// Whether the left end goes on by this step to where it can't, and the right end by none.
+fn is_gone_on(alloc: Global, finding: &Finding, row: &Row) -> Result<bool, Fail> {
+    match finding {
+        Finding::Ends { left, right, stop } => {
+            if right.steps.len() != 0 || *stop != Stop::Full {
+                return Ok(false);
+            }
+            is_one_step(alloc, left, row)
+        }
+        _ => Ok(false),
+    }
+}
+
+fn goal(alloc: Global, left: &[u8], right: &[u8]) -> Result<Job, TermFault> {
+    Ok(Job::Goal {
+        goal: 0,
+        left: term(alloc, left)?,
+        right: term(alloc, right)?,
+    })
+}
+
+fn more(alloc: Global, left: &[u8], right: &[u8]) -> Result<Job, TermFault> {
+    Ok(Job::More {
+        goal: 0,
+        left: term(alloc, left)?,
+        right: term(alloc, right)?,
+    })
+}
+
+// Whether a job goes on by this step over these facts.
+fn goes_on<R: Wait>(
+    rt: &R,
+    alloc: Global,
+    job: &Job,
+    facts: &[Sides],
+    row: &Row,
+) -> Result<bool, Fail> {
+    let finding = found(rt, alloc, job, facts, &[])?;
+    is_gone_on(alloc, &finding, row)
+}
+
+// f(a) = b
+const ONE: &[Sides] = &[(b"af", b"b")];
+
+// f(a) = b and f(b) = a
+const TURNS: &[Sides] = &[(b"af", b"b"), (b"bf", b"a")];
+
+const FIRST: Row = Row {
+    from: b"aff",
+    to: b"bf",
+    by: By::Fact(0),
+    place: 1,
+};
+
+const SECOND: Row = Row {
+    from: b"bf",
+    to: b"a",
+    by: By::Fact(1),
+    place: 0,
+};
+
+// Over f(a) = b the goal f(f(a)) = a goes on by one step to f(b), at the argument.
 #[test]
-fn goals_go_on(rt: HostRuntime) -> Result<(), Fail> {
-    let alloc = rt.alloc();
-    let order = order(alloc)?;
-    let shelf = Shelf::new(alloc)?;
-    let mut front = Front::empty(alloc);
-    add(&rt, alloc, &shelf, &mut front, (b"af", b"b"))?;
-    let job = Job::Goal {
-        goal: 0,
-        left: term(alloc, b"aff")?,
-        right: term(alloc, b"a")?,
-    };
-    let found = finding_of(alloc, &job, &shelf, &front, &[], &order)?;
-    let Finding::Ends { left, right, stop } = found else {
-        return Err(Fail::from("no ends"));
-    };
-    assert!(rt; is_step(alloc, &left, (b"aff", b"bf"), By::Fact(0), Pos(1))?);
-    assert_eq!(rt; right.steps.len(), 0);
-    assert_eq!(rt; stop, Stop::Full);
-    add(&rt, alloc, &shelf, &mut front, (b"bf", b"a"))?;
-    let job = Job::More {
-        goal: 0,
-        left: term(alloc, b"bf")?,
-        right: term(alloc, b"a")?,
-    };
-    let found = finding_of(alloc, &job, &shelf, &front, &[], &order)?;
-    let Finding::Ends { left, right, .. } = found else {
-        return Err(Fail::from("no ends"));
-    };
-    assert!(rt; is_step(alloc, &left, (b"bf", b"a"), By::Fact(1), Pos(0))?);
-    assert!(rt; is(alloc, &right.start, b"a")?);
+fn a_goal_goes_on(rt: HostRuntime) -> Result<(), Fail> {
+    let goal = goal(rt.alloc(), b"aff", b"a")?;
+    assert!(rt; goes_on(&rt, rt.alloc(), &goal, ONE, &FIRST)?);
     Ok(())
 }
 
-// The axiom f(b) = a is kept over f(a) = b, with its greater side left.
+// Over f(a) = b and f(b) = a it goes on from there by one step to a.
 #[test]
-fn an_axiom_is_kept(rt: HostRuntime) -> Result<(), Fail> {
-    let alloc = rt.alloc();
-    let order = order(alloc)?;
-    let axioms = [
-        Equation {
-            left: term(alloc, b"af")?,
-            right: term(alloc, b"b")?,
-        },
-        Equation {
-            left: term(alloc, b"bf")?,
-            right: term(alloc, b"a")?,
-        },
-    ];
+fn more_of_it_goes_on(rt: HostRuntime) -> Result<(), Fail> {
+    let more = more(rt.alloc(), b"bf", b"a")?;
+    assert!(rt; goes_on(&rt, rt.alloc(), &more, TURNS, &SECOND)?);
+    Ok(())
+}
+
+fn has_sides(alloc: Global, fact: &Fact, sides: &Sides) -> Result<bool, Fail> {
+    if !is(alloc, &fact.left, sides.0)? {
+        return Ok(false);
+    }
+    is(alloc, &fact.right, sides.1)
+}
+
+fn by_axiom(number: u32) -> Row {
+    Row {
+        from: b"bf",
+        to: b"a",
+        by: By::Axiom(number),
+        place: 0,
+    }
+}
+
+// Whether the fact is f(b) = a, with its greater side left, by an axiom of this number over so many entries.
+fn is_kept(alloc: Global, fact: &Fact, number: u32, front: u32) -> Result<bool, Fail> {
+    if !fact.oriented || fact.origin != Origin::Axiom(number) || fact.front != front {
+        return Ok(false);
+    }
+    if !has_sides(alloc, fact, &(b"bf", b"a"))? {
+        return Ok(false);
+    }
+    is_one_step(alloc, &fact.chain, &by_axiom(number))
+}
+
+// Whether the axiom f(b) = a is kept over these facts.
+fn keeps<R: Wait>(rt: &R, alloc: Global, job: &Job, facts: &[Sides]) -> Result<bool, Fail> {
+    let finding = found(rt, alloc, job, facts, TURNS)?;
+    match &finding {
+        Finding::Kept(fact) => is_kept(alloc, fact, 1, 1),
+        _ => Ok(false),
+    }
+}
+
+// Whether it is joined over these facts.
+fn joins<R: Wait>(rt: &R, alloc: Global, job: &Job, facts: &[Sides]) -> Result<bool, Fail> {
+    let finding = found(rt, alloc, job, facts, TURNS)?;
+    Ok(matches!(&finding, Finding::Joined(_)))
+}
+
+// What the trial of the first axiom comes to where no fact lives.
+fn tried_on<O: Order>(alloc: Global, axioms: &[Equation], order: &O) -> Result<Tried, Fail> {
+    if axioms.is_empty() {
+        return Err(Fail::from("no axiom"));
+    }
     let shelf = Shelf::new(alloc)?;
-    let mut front = Front::empty(alloc);
-    add(&rt, alloc, &shelf, &mut front, (b"af", b"b"))?;
+    let front = Front::empty(alloc);
+    Ok(try_pair(alloc, &Origin::Axiom(0), &shelf, &front, axioms, order)?)
+}
+
+fn tried(alloc: Global, sides: Sides) -> Result<Tried, Fail> {
+    let axioms = equations(alloc, &[sides])?;
+    let order = order(alloc)?;
+    tried_on(alloc, axioms.as_slice(), &order)
+}
+
+// Whether the two sides of f(b) = a are open where no fact lives.
+fn is_open(alloc: Global) -> Result<bool, Fail> {
+    let tried = tried(alloc, (b"bf", b"a"))?;
+    match &tried {
+        Tried::Joined(_) => Ok(false),
+        Tried::Open { fact, .. } => is_kept(alloc, fact, 0, 0),
+    }
+}
+
+// Over f(a) = b the axiom f(b) = a is kept; over f(b) = a too its two sides come to a.
+#[test]
+fn axioms_are_kept_or_joined(rt: HostRuntime) -> Result<(), Fail> {
     let job = Job::Join {
         pair: 1,
         origin: Origin::Axiom(1),
     };
-    let Finding::Kept(fact) = finding_of(alloc, &job, &shelf, &front, &axioms, &order)? else {
-        return Err(Fail::from("not kept"));
-    };
-    assert!(rt; is(alloc, &fact.left, b"bf")?);
-    assert!(rt; is(alloc, &fact.right, b"a")?);
-    assert!(rt; fact.oriented);
-    assert_eq!(rt; fact.origin, Origin::Axiom(1));
-    assert!(rt; is_step(alloc, &fact.chain, (b"bf", b"a"), By::Axiom(1), Pos(0))?);
-    assert_eq!(rt; fact.front, 1);
+    assert!(rt; keeps(&rt, rt.alloc(), &job, ONE)?);
+    assert!(rt; joins(&rt, rt.alloc(), &job, TURNS)?);
     Ok(())
 }
 
-// The axiom f(b) = b isn't kept over f(X) = X: both sides come to b.
 #[test]
-fn an_axiom_is_joined(rt: HostRuntime) -> Result<(), Fail> {
-    let alloc = rt.alloc();
-    let axioms = [Equation {
-        left: term(alloc, b"bf")?,
-        right: term(alloc, b"b")?,
-    }];
-    let shelf = Shelf::new(alloc)?;
-    let mut front = Front::empty(alloc);
-    add(&rt, alloc, &shelf, &mut front, (b"Xf", b"X"))?;
-    let job = Job::Join {
-        pair: 0,
-        origin: Origin::Axiom(0),
-    };
-    let found = finding_of(alloc, &job, &shelf, &front, &axioms, &order(alloc)?)?;
-    let Finding::Joined(_) = found else {
-        return Err(Fail::from("not joined"));
-    };
+fn an_axiom_is_open(rt: HostRuntime) -> Result<(), Fail> {
+    assert!(rt; is_open(rt.alloc())?);
     Ok(())
 }
 
-fn is_root_overlap(formed: &Formed, side: Side) -> bool {
-    let overlap = &formed.overlap;
-    overlap.outer == 0
-        && overlap.outer_side == side
-        && overlap.inner == 0
-        && overlap.inner_side == side
-        && overlap.position == Pos(0)
-        && formed.size == Size::Weight(4)
+// An overlap of a fact's side with the same side of another one, by the nodes of its pair.
+fn overlap(outer: u32, inner: u32, side: Side, place: u32, nodes: u32) -> Formed {
+    Formed {
+        overlap: Overlap {
+            outer,
+            outer_side: side,
+            inner,
+            inner_side: side,
+            position: Pos(place),
+        },
+        size: Size::Weight(nodes),
+    }
 }
+
+fn is_met(finding: &Finding, killed: &[u32], wanted: &[Formed]) -> bool {
+    match finding {
+        Finding::Met { kills, overlaps } => {
+            kills.as_slice() == killed && overlaps.as_slice() == wanted
+        }
+        _ => false,
+    }
+}
+
+// Whether a fact meets the others so.
+fn meets<R: Wait>(
+    rt: &R,
+    alloc: Global,
+    job: &Job,
+    facts: &[Sides],
+    killed: &[u32],
+    wanted: &[Formed],
+) -> Result<bool, Fail> {
+    let finding = found(rt, alloc, job, facts, &[])?;
+    Ok(is_met(&finding, killed, wanted))
+}
+
+// By which fact a fact is stale.
+fn stale_by<R: Wait>(
+    rt: &R,
+    alloc: Global,
+    job: &Job,
+    facts: &[Sides],
+) -> Result<Option<u32>, Fail> {
+    let finding = found(rt, alloc, job, facts, &[])?;
+    match &finding {
+        Finding::Stale(other) => Ok(Some(*other)),
+        _ => Ok(None),
+    }
+}
+
+// f(X) = g(Y)
+const TURNED: &[Sides] = &[(b"Xf", b"Yg")];
+
+// g(f(X)) = X and f(X) = X
+const REDUCED: &[Sides] = &[(b"Xfg", b"X"), (b"Xf", b"X")];
 
 // The fact f(X) = g(Y) is overlapped with itself at both roots, as g(X) = g(Y) and f(X) = f(Y).
 #[test]
 fn a_fact_meets_itself(rt: HostRuntime) -> Result<(), Fail> {
-    let alloc = rt.alloc();
-    let shelf = Shelf::new(alloc)?;
-    let mut front = Front::empty(alloc);
-    add(&rt, alloc, &shelf, &mut front, (b"Xf", b"Yg"))?;
-    let found = finding_of(alloc, &Job::Meet(0), &shelf, &front, &[], &order(alloc)?)?;
-    let Finding::Met { kills, overlaps } = found else {
-        return Err(Fail::from("not met"));
-    };
-    assert_eq!(rt; kills.len(), 0);
-    if overlaps.len() != 2 {
-        return Err(Fail::from("another number of overlaps"));
-    }
-    let list = overlaps.as_slice();
-    assert!(rt; is_root_overlap(&list[0], Side::Left));
-    assert!(rt; is_root_overlap(&list[1], Side::Right));
+    let roots = [
+        overlap(0, 0, Side::Left, 0, 4),
+        overlap(0, 0, Side::Right, 0, 4),
+    ];
+    assert!(rt; meets(&rt, rt.alloc(), &Job::Meet(0), TURNED, &[], &roots)?);
     Ok(())
 }
 
-// Of g(f(X)) = X and f(X) = X the second makes a step in the first: it kills it, and the first is stale beside it.
+// The fact f(X) = X makes a step in g(f(X)) = X: it kills it, and their overlap is g(X) = X.
 #[test]
-fn facts_reduce_each_other(rt: HostRuntime) -> Result<(), Fail> {
-    let alloc = rt.alloc();
-    let order = order(alloc)?;
-    let shelf = Shelf::new(alloc)?;
-    let mut front = Front::empty(alloc);
-    add(&rt, alloc, &shelf, &mut front, (b"Xfg", b"X"))?;
-    add(&rt, alloc, &shelf, &mut front, (b"Xf", b"X"))?;
-    let found = finding_of(alloc, &Job::Meet(0), &shelf, &front, &[], &order)?;
-    let Finding::Stale(other) = found else {
-        return Err(Fail::from("not stale"));
-    };
-    assert_eq!(rt; other, 1);
-    let found = finding_of(alloc, &Job::Meet(1), &shelf, &front, &[], &order)?;
-    let Finding::Met { kills, overlaps } = found else {
-        return Err(Fail::from("not met"));
-    };
-    assert_eq!(rt; kills.as_slice(), [0].as_slice());
-    assert_eq!(rt; overlaps.len(), 1);
+fn a_fact_kills_another_one(rt: HostRuntime) -> Result<(), Fail> {
+    let inside = [overlap(0, 1, Side::Left, 1, 3)];
+    assert!(rt; meets(&rt, rt.alloc(), &Job::Meet(1), REDUCED, &[0], &inside)?);
+    Ok(())
+}
+
+// The fact g(f(X)) = X is stale beside it.
+#[test]
+fn a_fact_is_stale(rt: HostRuntime) -> Result<(), Fail> {
+    assert!(rt; stale_by(&rt, rt.alloc(), &Job::Meet(0), REDUCED)? == Some(1));
+    Ok(())
+}
+
+// Whether the second of these facts lives, and no other.
+fn is_second(alloc: Global, list: &[LiveFact]) -> Result<bool, Fail> {
+    if list.len() != 1 || list[0].number != 1 {
+        return Ok(false);
+    }
+    if !is(alloc, &list[0].equation.left, b"Xf")? {
+        return Ok(false);
+    }
+    is(alloc, &list[0].equation.right, b"X")
+}
+
+fn lives(alloc: Global, shelf: &Shelf, front: &Front) -> Result<bool, Fail>
+    requires { IsOf shelf.now front.now }
+{
+    let list = live_facts(alloc, shelf, front)?;
+    is_second(alloc, list.as_slice())
+}
+
+// Whether the second of these facts lives once the first dies.
+fn lives_on<R: Wait>(rt: &R, alloc: Global, shelf: &Shelf) -> Result<bool, Fail> {
+    let mut front = front_of(rt, alloc, shelf, REDUCED)?;
+    put(
+        rt,
+        alloc,
+        shelf,
+        &mut front,
+        Entry::Dies { fact: 0, killer: 1 },
+    )?;
+    lives(alloc, shelf, &front)
+}
+
+#[test]
+fn what_lives_is_listed(rt: HostRuntime) -> Result<(), Fail> {
+    let shelf = Shelf::new(rt.alloc())?;
+    assert!(rt; lives_on(&rt, rt.alloc(), &shelf)?);
     Ok(())
 }
