@@ -22,3 +22,4 @@ pub mod Waiting
 pub mod Reclaiming
 pub mod Publishing
 pub mod Beginning
+pub mod TestTurns

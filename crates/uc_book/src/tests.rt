@@ -1,353 +1,291 @@
-ghost use Rattle.std.specs.Prelude.{◌<◌, ◌^◌, length, IsTrue, IfOk};
-ghost use Rattle.uc_term.specs.Table.{Has};
-ghost use Rattle.uc_order.specs.Members.{Each};
-ghost use Rattle.uc_kbo.specs.Faults.{HasConstant};
+mod order;
+mod problems;
+mod turns;
 
-mod images;
-mod invention;
-mod machine;
-mod runs;
-mod taking;
-
-use crate::tests::runs::run;
-use crate::{Book, CommitFault, Done, Drawn, Pass};
-use std::alloc::{AllocError, Global};
+use crate::tests::order::order;
+use crate::tests::problems::{Sides, problem};
+use crate::tests::turns::{commit, end, meet, next_done, turns};
+use crate::{Book, CommitFault, Drawn};
 use std::test::Fail;
-use uc_fact::{Chain, Equation, Stop, System};
-use uc_kbo::Kbo;
-use uc_machine::{Ending, Event, Finding, GoalEnd, Happening, Job, Outcome, Verdict};
-use uc_problem::{Encoded, Signature};
+use uc_machine::{Ending, Event, GoalEnd, Happening, Job, Stage, Verdict};
 use uc_shelf::Shelf;
-use uc_term::{Seq, Sym, Symbols, Term, TermFault};
 
-const A: Sym = Sym(0);
+// f(a) = b
+const SHORT: Sides = (b"af", b"b");
 
-const G: Sym = Sym(1);
+// f(f(b)) = a
+const LONG: Sides = (b"bff", b"a");
 
-const I: Sym = Sym(2);
+// f(b) = f(a)
+const EVEN: Sides = (b"bf", b"af");
 
-// A constant and two unary symbols, the least first.
-const PRECEDENCE: &[Sym] = &[A, G, I];
+// b = a
+const CONSTANTS: Sides = (b"b", b"a");
 
-fn symbols(alloc: Global) -> Result<Symbols, AllocError> {
-    let mut symbols = Symbols::new(alloc);
-    symbols.intern(alloc, b"a", 0)?;
-    symbols.intern(alloc, b"g", 1)?;
-    symbols.intern(alloc, b"i", 1)?;
-    Ok(symbols)
+// a = a
+const SAME: Sides = (b"a", b"a");
+
+fn by(worker: u32, what: Happening) -> Event {
+    Event { worker, what }
 }
 
-// Whether the table has all symbols of the list.
-fn are_known(symbols: &Symbols, list: &[Sym]) -> bool
-    ensures { IsTrue result → Each (Has symbols.now) list.now }
-{
-    for f in list {
-        if f.0 as usize >= symbols.len() {
-            return false;
-        }
+// The event of a goal's result that left its ends apart.
+fn goal_rests(goal: u32) -> Happening {
+    Happening::CommitGoal {
+        goal,
+        steps: 0,
+        end: GoalEnd::Full,
     }
-    true
 }
 
-// Whether one of the symbols is a constant.
-fn has_constant(symbols: &Symbols, list: &[Sym]) -> bool
-    requires { Each (Has symbols.now) list.now }
-    ensures { IsTrue result → HasConstant symbols.now list.now }
-{
-    for f in list {
-        if symbols.arity(*f) == 0 {
-            return true;
-        }
-    }
-    false
-}
-
-// The order in which each symbol and each variable weighs 1.
-fn order(alloc: Global) -> Result<Kbo, Fail> {
-    let symbols = symbols(alloc)?;
-    if !are_known(&symbols, PRECEDENCE) || !has_constant(&symbols, PRECEDENCE) {
-        return Err(Fail::from("no constant"));
-    }
-    Ok(Kbo::new(alloc, PRECEDENCE, &symbols, 1, &[1, 1, 1], PRECEDENCE)?)
-}
-
-// g(g(a)), with so many g.
-fn tower(alloc: Global, symbol: Sym, height: u32) -> Result<Term, TermFault> {
-    let mut term = Term::app(alloc, A, &[])?;
-    for _ in 0..height {
-        term = Term::app(alloc, symbol, &[term])?;
-    }
-    Ok(term)
-}
-
-// The equations of such towers with a.
-fn equations(alloc: Global, towers: &[(Sym, u32)]) -> Result<Seq<Equation>, Fail> {
-    let mut list = Seq::new(alloc);
-    for (symbol, height) in towers {
-        list.push(Equation {
-            left: tower(alloc, *symbol, *height)?,
-            right: tower(alloc, *symbol, 0)?,
-        })?;
-    }
-    Ok(list)
-}
-
-// The problem of these axioms and goals, of which there are few.
-fn problem(alloc: Global, axioms: &[(Sym, u32)], goals: &[(Sym, u32)]) -> Result<Encoded, Fail>
-    ensures axioms { IfOk result (λ p. length p.axioms < 2 ^ 31) }
-    ensures goals { IfOk result (λ p. length p.goals < 2 ^ 31) }
-{
-    let problem = Encoded {
-        axioms: equations(alloc, axioms)?,
-        sources: Seq::new(alloc),
-        goals: equations(alloc, goals)?,
-        goal_clauses: Seq::new(alloc),
-        fresh: None,
-        signature: Signature {
-            symbols: Seq::new(alloc),
-            least: A,
-            least_is_fresh: false,
-        },
-    };
-    if problem.axioms.len() >= 100 || problem.goals.len() >= 100 {
-        return Err(Fail::from("too many"));
-    }
-    Ok(problem)
-}
-
-// A chain without a step.
-fn rest_at(alloc: Global, start: &Term) -> Result<Chain, AllocError> {
-    Ok(Chain {
-        start: start.copy(alloc)?,
-        steps: Seq::new(alloc),
-    })
-}
-
-// What a goal comes to where no fact lives.
-fn at_rest(alloc: Global, job: &Job) -> Result<Finding, Fail> {
-    let Job::Goal { left, right, .. } = job else {
-        return Err(Fail::from("no goal"));
-    };
-    Ok(Finding::Ends {
-        left: rest_at(alloc, left)?,
-        right: rest_at(alloc, right)?,
-        stop: Stop::Full,
-    })
-}
-
-// The result of the goal that is drawn next, where no fact lives.
-fn next_goal(alloc: Global, book: &mut Book<Kbo>, pass: &mut Pass) -> Result<Done, Fail> {
-    let Drawn::Task(task) = book.draw(alloc, pass)? else {
-        return Err(Fail::from("no task"));
-    };
-    let found = at_rest(alloc, &task.job)?;
-    Ok(Done {
-        ticket: task.ticket,
-        job: task.job,
-        front: task.front,
-        found,
-        opening: task.opening,
-    })
-}
-
-// The goal comes first, then the pairs by weight; what is put back comes again under another ticket.
-#[test]
-fn tasks_in_order(rt: HostRuntime) -> Result<(), Fail> {
-    let alloc = rt.alloc();
-    let problem = problem(alloc, &[(G, 2), (G, 1), (I, 3)], &[(I, 1)])?;
-    let (order, shelf) = (order(alloc)?, Shelf::new(alloc)?);
-    let mut book = Book::start(alloc, &problem, &order, &shelf, 2, 3)?;
-    let mut pass = book.enroll(alloc, 7)?;
-    let Drawn::Task(goal) = book.draw(alloc, &mut pass)? else {
-        return Err(Fail::from("no goal"));
-    };
-    assert!(rt; matches!(goal.job, Job::Goal { goal: 0, .. }));
-    let Drawn::Task(light) = book.draw(alloc, &mut pass)? else {
-        return Err(Fail::from("no pair"));
-    };
-    assert!(rt; matches!(light.job, Job::Join { pair: 1, .. }));
-    assert!(rt; book.reclaim(&mut pass, light.ticket).is_ok());
-    assert_eq!(rt;
-        book.reclaim(&mut pass, light.ticket),
-        Err(CommitFault::NotOut(1))
-    );
-    let Drawn::Task(again) = book.draw(alloc, &mut pass)? else {
-        return Err(Fail::from("no pair again"));
-    };
-    assert!(rt; matches!(again.job, Job::Join { pair: 1, .. }));
-    assert_eq!(rt; again.ticket, 2);
-    book.recall();
-    assert_eq!(rt; book.history().len(), 6);
-    assert_eq!(rt; book.counted(), 0);
-    assert!(rt; book.verdict().is_none());
-    assert!(rt; book.front().is_empty());
-    Ok(())
-}
-
-// A result is taken in under the ticket that is out, and under no earlier one.
-#[test]
-fn an_old_ticket_is_refused(rt: HostRuntime) -> Result<(), Fail> {
-    let alloc = rt.alloc();
-    let problem = problem(alloc, &[(G, 1)], &[(I, 1)])?;
-    let (order, shelf) = (order(alloc)?, Shelf::new(alloc)?);
-    let mut book = Book::start(alloc, &problem, &order, &shelf, 9, 9)?;
-    let mut pass = book.enroll(alloc, 3)?;
-    let old = next_goal(alloc, &mut book, &mut pass)?;
-    assert!(rt; book.reclaim(&mut pass, old.ticket).is_ok());
-    let new = next_goal(alloc, &mut book, &mut pass)?;
-    assert_eq!(rt; (old.ticket, new.ticket), (0, 1));
-    let Err((old, fault)) = book.commit(&rt, alloc, &mut pass, old) else {
-        return Err(Fail::from("taken in"));
-    };
-    assert_eq!(rt; fault, CommitFault::NotOut(0));
-    assert_eq!(rt;
-        (old.ticket, book.history().len(), pass.commits()),
-        (0, 3, 0)
-    );
-    let Ok(receipt) = book.commit(&rt, alloc, &mut pass, new) else {
-        return Err(Fail::from("not taken in"));
-    };
-    assert_eq!(rt;
-        (receipt.event, book.history().len(), pass.commits()),
-        (4, 4, 1)
-    );
-    let Err((_, fault)) = book.commit(&rt, alloc, &mut pass, old) else {
-        return Err(Fail::from("taken in twice"));
-    };
-    assert_eq!(rt; fault, CommitFault::NotOut(0));
-    Ok(())
-}
-
-// A goal whose ends are equal is proved, and the book is closed; a result that comes later is counted and changes nothing.
+// Over f(a) = b the ends of the goal f(f(a)) = f(b) meet by one step on the left: it rests at first, and is due again when the
+// axiom is kept.
 #[test]
 fn a_goal_is_proved(rt: HostRuntime) -> Result<(), Fail> {
     let alloc = rt.alloc();
-    let problem = problem(alloc, &[], &[(I, 1), (I, 0)])?;
+    let problem = problem(alloc, &[SHORT], &[(b"aff", b"bf")])?;
+    let (order, shelf) = (order(alloc)?, Shelf::new(alloc)?);
+    let mut book = Book::start(alloc, &problem, &order, &shelf, 9, 9)?;
+    let mut pass = book.enroll(alloc, 0)?;
+    turns(
+        &rt, alloc, &problem, &order, &shelf, &mut book, &mut pass, 1,
+    )?;
+    assert_eq!(rt; book.stages(alloc)?.as_slice(), [Stage::Settled].as_slice());
+    turns(
+        &rt, alloc, &problem, &order, &shelf, &mut book, &mut pass, 2,
+    )?;
+    assert!(rt; meet(&book, &problem, (1, 0)));
+    assert_eq!(rt; book.verdict(), Some(&Verdict::Proved(0)));
+    assert_eq!(rt;
+        (book.counted(), book.front().len(), pass.commits()),
+        (1, 1, 3)
+    );
+    let met = Happening::CommitGoal {
+        goal: 0,
+        steps: 1,
+        end: GoalEnd::Met,
+    };
+    let events = [
+        by(0, Happening::DrawGoal { goal: 0, front: 0 }),
+        by(0, goal_rests(0)),
+        by(0, Happening::DrawJoin { pair: 0, front: 0 }),
+        by(0, Happening::CommitKept { pair: 0, fact: 0 }),
+        by(0, Happening::DrawGoal { goal: 0, front: 1 }),
+        by(0, met),
+        by(0, Happening::Close(Ending::Proved)),
+    ];
+    assert_eq!(rt; book.history(), events.as_slice());
+    Ok(())
+}
+
+// The fact f(b) = f(a) kills f(f(b)) = a, whose overlap with it is an orphan, and which comes back as f(f(a)) = a: pair 2.
+#[test]
+fn a_killed_fact_comes_back(rt: HostRuntime) -> Result<(), Fail> {
+    let alloc = rt.alloc();
+    let problem = problem(alloc, &[LONG, EVEN], &[])?;
+    let (order, shelf) = (order(alloc)?, Shelf::new(alloc)?);
+    let mut book = Book::start(alloc, &problem, &order, &shelf, 9, 9)?;
+    let mut pass = book.enroll(alloc, 3)?;
+    turns(
+        &rt, alloc, &problem, &order, &shelf, &mut book, &mut pass, 6,
+    )?;
+    assert_eq!(rt;
+        end(alloc, &order, &shelf, &mut book, &mut pass)?,
+        Verdict::Saturated
+    );
+    assert_eq!(rt;
+        (book.counted(), book.front().len(), pass.worker()),
+        (3, 4, 3)
+    );
+    let events = [
+        by(3, Happening::DrawJoin { pair: 0, front: 0 }),
+        by(3, Happening::CommitKept { pair: 0, fact: 0 }),
+        by(3, Happening::DrawMeet { fact: 0, front: 1 }),
+        by(
+            3,
+            Happening::CommitMeet {
+                fact: 0,
+                pairs: 0,
+                kills: 0,
+            },
+        ),
+        by(3, Happening::DrawJoin { pair: 1, front: 1 }),
+        by(3, Happening::CommitKept { pair: 1, fact: 1 }),
+        by(3, Happening::DrawMeet { fact: 1, front: 2 }),
+        by(
+            3,
+            Happening::CommitMeet {
+                fact: 1,
+                pairs: 0,
+                kills: 1,
+            },
+        ),
+        by(3, Happening::DrawJoin { pair: 2, front: 3 }),
+        by(3, Happening::CommitKept { pair: 2, fact: 2 }),
+        by(3, Happening::DrawMeet { fact: 2, front: 4 }),
+        by(
+            3,
+            Happening::CommitMeet {
+                fact: 2,
+                pairs: 0,
+                kills: 0,
+            },
+        ),
+        by(0, Happening::Close(Ending::Saturated)),
+    ];
+    assert_eq!(rt; book.history(), events.as_slice());
+    Ok(())
+}
+
+// A task is drawn, put back and drawn again: what was found under the old ticket is refused before and after what was found
+// under the new one, and changes nothing.
+#[test]
+fn an_old_ticket_is_refused(rt: HostRuntime) -> Result<(), Fail> {
+    let alloc = rt.alloc();
+    let problem = problem(alloc, &[], &[CONSTANTS])?;
+    let (order, shelf) = (order(alloc)?, Shelf::new(alloc)?);
+    let mut book = Book::start(alloc, &problem, &order, &shelf, 9, 9)?;
+    let mut pass = book.enroll(alloc, 1)?;
+    let old = next_done(alloc, &problem, &order, &shelf, &mut book, &mut pass)?;
+    assert_eq!(rt; book.reclaim(&mut pass, 0), Ok(()));
+    assert_eq!(rt; book.reclaim(&mut pass, 0), Err(CommitFault::NotOut(0)));
+    let new = next_done(alloc, &problem, &order, &shelf, &mut book, &mut pass)?;
+    assert_eq!(rt; (old.ticket, new.ticket), (0, 1));
+    let Err((old, fault)) = book.commit(&rt, alloc, &mut pass, old) else {
+        return Err(Fail::from("taken"));
+    };
+    assert_eq!(rt;
+        (fault, book.history().len(), pass.commits()),
+        (CommitFault::NotOut(0), 3, 0)
+    );
+    commit(&rt, alloc, &mut book, &mut pass, new)?;
+    let Err((_, fault)) = book.commit(&rt, alloc, &mut pass, old) else {
+        return Err(Fail::from("taken twice"));
+    };
+    assert_eq!(rt; (fault, pass.commits()), (CommitFault::NotOut(0), 1));
+    let events = [
+        by(1, Happening::DrawGoal { goal: 0, front: 0 }),
+        by(1, Happening::ReclaimGoal { goal: 0 }),
+        by(1, Happening::DrawGoal { goal: 0, front: 0 }),
+        by(1, goal_rests(0)),
+    ];
+    assert_eq!(rt; book.history(), events.as_slice());
+    Ok(())
+}
+
+// With the budget reserved nothing is drawn; what is out is recalled by ticket, and is drawn again under another one.
+#[test]
+fn what_is_out_is_recalled(rt: HostRuntime) -> Result<(), Fail> {
+    let alloc = rt.alloc();
+    let problem = problem(alloc, &[LONG, SHORT], &[CONSTANTS])?;
+    let (order, shelf) = (order(alloc)?, Shelf::new(alloc)?);
+    let mut book = Book::start(alloc, &problem, &order, &shelf, 1, 2)?;
+    let mut one = book.enroll(alloc, 3)?;
+    let mut other = book.enroll(alloc, 64)?;
+    assert!(rt; matches!(book.draw(alloc, &mut one)?, Drawn::Task(_)));
+    assert!(rt; matches!(book.draw(alloc, &mut other)?, Drawn::Task(_)));
+    assert!(rt; matches!(book.draw(alloc, &mut one)?, Drawn::Idle(2)));
+    book.recall();
+    let Drawn::Task(task) = book.draw(alloc, &mut other)? else {
+        return Err(Fail::from("no task"));
+    };
+    assert!(rt; matches!(task.job, Job::Goal { goal: 0, .. }));
+    assert_eq!(rt; task.ticket, 2);
+    assert_eq!(rt; book.reclaim(&mut one, 2), Err(CommitFault::NotOut(2)));
+    let events = [
+        by(3, Happening::DrawGoal { goal: 0, front: 0 }),
+        by(64, Happening::DrawJoin { pair: 1, front: 0 }),
+        by(3, Happening::ReclaimGoal { goal: 0 }),
+        by(64, Happening::ReclaimJoin { pair: 1 }),
+        by(64, Happening::DrawGoal { goal: 0, front: 0 }),
+    ];
+    assert_eq!(rt; book.history(), events.as_slice());
+    Ok(())
+}
+
+// A result that comes when the other goal is proved is counted, and changes nothing else.
+#[test]
+fn a_result_comes_late(rt: HostRuntime) -> Result<(), Fail> {
+    let alloc = rt.alloc();
+    let problem = problem(alloc, &[], &[CONSTANTS, SAME])?;
     let (order, shelf) = (order(alloc)?, Shelf::new(alloc)?);
     let mut book = Book::start(alloc, &problem, &order, &shelf, 9, 9)?;
     let mut one = book.enroll(alloc, 0)?;
     let mut other = book.enroll(alloc, 64)?;
-    let late = next_goal(alloc, &mut book, &mut one)?;
-    let first = next_goal(alloc, &mut book, &mut other)?;
-    assert!(rt; matches!(book.draw(alloc, &mut one)?, Drawn::Idle(2)));
-    assert!(rt; book.commit(&rt, alloc, &mut other, first).is_ok());
-    assert_eq!(rt; book.verdict(), Some(&Verdict::Proved(1)));
+    let late = next_done(alloc, &problem, &order, &shelf, &mut book, &mut one)?;
+    let first = next_done(alloc, &problem, &order, &shelf, &mut book, &mut other)?;
+    commit(&rt, alloc, &mut book, &mut other, first)?;
+    commit(&rt, alloc, &mut book, &mut one, late)?;
     assert!(rt;
         matches!(
             book.draw(alloc, &mut one)?,
             Drawn::Closed(Verdict::Proved(1))
         )
     );
-    assert!(rt; book.commit(&rt, alloc, &mut one, late).is_ok());
-    assert_eq!(rt; one.commits() + other.commits(), 2);
+    let met = Happening::CommitGoal {
+        goal: 1,
+        steps: 0,
+        end: GoalEnd::Met,
+    };
     let events = [
-        Happening::DrawGoal { goal: 0, front: 0 },
-        Happening::DrawGoal { goal: 1, front: 0 },
-        Happening::CommitGoal {
-            goal: 1,
-            steps: 0,
-            end: GoalEnd::Met,
-        },
-        Happening::Close(Ending::Proved),
-        Happening::CommitLate { ticket: 0 },
+        by(0, Happening::DrawGoal { goal: 0, front: 0 }),
+        by(64, Happening::DrawGoal { goal: 1, front: 0 }),
+        by(64, met),
+        by(64, Happening::Close(Ending::Proved)),
+        by(0, Happening::CommitLate { ticket: 0 }),
     ];
-    assert!(rt; are_events(book.history(), &[0, 64, 64, 64, 0], &events));
+    assert_eq!(rt; book.history(), events.as_slice());
     Ok(())
 }
 
-// Whether the events are these, of these workers.
-fn are_events(history: &[Event], workers: &[u32], events: &[Happening]) -> bool {
-    if history.len() != events.len() || history.len() != workers.len() {
-        return false;
-    }
-    for k in 0..history.len() {
-        if history[k].worker != workers[k] || history[k].what != events[k] {
-            return false;
-        }
-    }
-    true
-}
-
-// A book with nothing to do is drained, and is closed by what its final pass answers.
-#[test]
-fn an_empty_book_is_saturated(rt: HostRuntime) -> Result<(), Fail> {
-    let alloc = rt.alloc();
-    let problem = problem(alloc, &[], &[])?;
-    let (order, shelf) = (order(alloc)?, Shelf::new(alloc)?);
-    let mut book = Book::start(alloc, &problem, &order, &shelf, 0, 0)?;
-    let mut pass = book.enroll(alloc, 0)?;
-    assert!(rt; matches!(book.draw(alloc, &mut pass)?, Drawn::Drained));
-    let outcome = Outcome::Convergent(System {
-        facts: Seq::new(alloc),
-    });
-    assert_eq!(rt; book.close(&outcome), Verdict::Saturated);
-    assert_eq!(rt; book.verdict(), Some(&Verdict::Saturated));
-    assert!(rt; are_events(book.history(), &[0], &[Happening::Close(Ending::Saturated)]));
-    assert!(rt;
-        matches!(
-            book.draw(alloc, &mut pass)?,
-            Drawn::Closed(Verdict::Saturated)
-        )
-    );
-    Ok(())
-}
-
-// More axioms than may wait close the book at once; with as many as the limit it goes on, and the budget closes it.
+// More axioms than may wait close a book at once; with as many as the limit it goes on, until its budget closes it.
 #[test]
 fn limits_close_a_book(rt: HostRuntime) -> Result<(), Fail> {
     let alloc = rt.alloc();
-    let problem = problem(alloc, &[(G, 1), (G, 2)], &[])?;
+    let problem = problem(alloc, &[LONG, SHORT], &[])?;
     let (order, shelf) = (order(alloc)?, Shelf::new(alloc)?);
     let book = Book::start(alloc, &problem, &order, &shelf, 9, 1)?;
-    let closed = Verdict::PairsOut { waiting: 0, new: 2 };
-    assert_eq!(rt; book.verdict(), Some(&closed));
-    assert!(rt; are_events(book.history(), &[0], &[Happening::Close(Ending::Pairs)]));
-    let mut book = Book::start(alloc, &problem, &order, &shelf, 1, 2)?;
-    let mut pass = book.enroll(alloc, 5)?;
-    let Drawn::Task(task) = book.draw(alloc, &mut pass)? else {
-        return Err(Fail::from("no pair"));
-    };
-    assert!(rt; matches!(book.draw(alloc, &mut pass)?, Drawn::Idle(1)));
-    assert!(rt; book.reclaim(&mut pass, task.ticket).is_ok());
-    let book = Book::start(alloc, &problem, &order, &shelf, 0, 2)?;
     assert_eq!(rt;
-        spent(alloc, book)?,
-        Some(Verdict::BudgetOut { counted: 0 })
+        book.verdict(),
+        Some(&Verdict::PairsOut { waiting: 0, new: 2 })
+    );
+    assert_eq!(rt;
+        book.history(),
+        [by(0, Happening::Close(Ending::Pairs))].as_slice()
+    );
+    let mut book = Book::start(alloc, &problem, &order, &shelf, 0, 2)?;
+    assert!(rt; book.verdict().is_none());
+    let mut pass = book.enroll(alloc, 5)?;
+    let Drawn::Closed(verdict) = book.draw(alloc, &mut pass)? else {
+        return Err(Fail::from("not closed"));
+    };
+    assert_eq!(rt; verdict, Verdict::BudgetOut { counted: 0 });
+    assert_eq!(rt;
+        book.history(),
+        [by(5, Happening::Close(Ending::Budget))].as_slice()
     );
     Ok(())
 }
 
-// The verdict of a book whose budget is spent.
-fn spent(alloc: Global, mut book: Book<Kbo>) -> Result<Option<Verdict>, Fail> {
-    let mut pass = book.enroll(alloc, 5)?;
-    match book.draw(alloc, &mut pass)? {
-        Drawn::Closed(verdict) => Ok(Some(verdict)),
-        _ => Ok(None),
-    }
-}
-
-// Calls by chance, of four workers, with invented results: the book's parts and the slow machine answer alike, and stand alike
-// after each call.
+// To be made with each allocation failing in turn: a draw that finds no memory changes nothing, and is made again.
 #[test]
-fn runs_beside_the_machine(rt: HostRuntime) -> Result<(), Fail> {
+fn a_refused_draw_changes_nothing(rt: HostRuntime) -> Result<(), Fail> {
     let alloc = rt.alloc();
-    for seed in 1..=40 {
-        if let Err(trouble) = run(&rt, alloc, seed, 200) {
-            return Err(Fail::new(format_args!("seed {seed}: {trouble:?}")));
+    let problem = problem(alloc, &[SHORT], &[])?;
+    let (order, shelf) = (order(alloc)?, Shelf::new(alloc)?);
+    let mut book = Book::start(alloc, &problem, &order, &shelf, 9, 9)?;
+    let mut pass = book.enroll(alloc, 3)?;
+    let drawn = match book.draw(alloc, &mut pass) {
+        Ok(drawn) => drawn,
+        Err(_) => {
+            assert_eq!(rt; book.history().len(), 0);
+            book.draw(alloc, &mut pass)?
         }
-    }
-    Ok(())
-}
-
-// Shorter runs, to be made with each allocation failing in turn: a call that finds no memory changes nothing, and is made
-// again.
-#[test]
-fn a_refused_call_changes_nothing(rt: HostRuntime) -> Result<(), Fail> {
-    let alloc = rt.alloc();
-    for seed in 51..=53 {
-        if let Err(trouble) = run(&rt, alloc, seed, 60) {
-            return Err(Fail::new(format_args!("seed {seed}: {trouble:?}")));
-        }
-    }
+    };
+    assert!(rt; matches!(drawn, Drawn::Task(_)));
+    assert_eq!(rt;
+        book.history(),
+        [by(3, Happening::DrawJoin { pair: 0, front: 0 })].as_slice()
+    );
     Ok(())
 }

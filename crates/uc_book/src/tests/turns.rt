@@ -1,0 +1,161 @@
+//! The turns of a worker: a task is drawn and computed, and its result is committed.
+
+ghost use Rattle.std.specs.Prelude.{◌≡◌, IfOk, OnOk};
+ghost use Rattle.uc_shelf.specs.Fronts.{IsOf};
+ghost use Rattle.uc_task.specs.Jobs.{CanBeDone};
+ghost use Rattle.uc_book.specs.Answers.{IsRight, IsSameBook};
+
+use crate::{Book, CommitFault, Done, Drawn, Opened, Pass, Task, copy_job};
+use std::alloc::{AllocError, Global};
+use std::sync::Wait;
+use std::test::Fail;
+use uc_final::final_pass;
+use uc_machine::{Outcome, Verdict};
+use uc_order::Order;
+use uc_problem::Encoded;
+use uc_shelf::Shelf;
+use uc_task::finding_of;
+
+// The result of a task over the facts that live in its front.
+fn compute<O: Order>(
+    alloc: Global,
+    task: &Task,
+    problem: &Encoded,
+    order: &O,
+    shelf: &Shelf,
+) -> Result<Done, AllocError>
+    requires problem { task.now.opening.problem ≡ problem.now }
+    requires shelf { task.now.opening.shelf ≡ shelf.now }
+    requires of { IsOf shelf.now task.now.front }
+    requires can { CanBeDone (O.meaning order.now) problem.now.axioms task.now.front.entries task.now.job }
+    ensures opening { IfOk result (λ d. d.opening ≡ task.now.opening) }
+    ensures front { IfOk result (λ d. d.front ≡ task.now.front) }
+    ensures right { IfOk result (IsRight (O.meaning order.now)) }
+{
+    let axioms = problem.axioms.as_slice();
+    let found = finding_of(alloc, &task.job, shelf, &task.front, axioms, order)?;
+    let (budget, limit) = (task.opening.budget(), task.opening.limit());
+    Ok(Done {
+        ticket: task.ticket,
+        job: copy_job(alloc, &task.job)?,
+        front: task.front.copy(alloc)?,
+        found,
+        opening: Opened::new(problem, shelf, budget, limit),
+    })
+}
+
+/// The result of the task that the worker draws next.
+pub fn next_done<O: Order>(
+    alloc: Global,
+    problem: &Encoded,
+    order: &O,
+    shelf: &Shelf,
+    book: &mut Book<O>,
+    pass: &mut Pass,
+) -> Result<Done, Fail>
+    requires problem { book.old.opening.problem ≡ problem.now }
+    requires order { book.old.order ≡ order.now }
+    requires shelf { book.old.opening.shelf ≡ shelf.now }
+    requires pass { pass.old.opening ≡ book.old.opening }
+    ensures book { OnOk result (IsSameBook book.old book.new) }
+    ensures pass { OnOk result (pass.new.opening ≡ pass.old.opening) }
+    ensures opening { IfOk result (λ d. d.opening ≡ book.old.opening) }
+    ensures of { IfOk result (λ d. IsOf book.old.opening.shelf d.front) }
+    ensures right { IfOk result (IsRight (O.meaning book.old.order)) }
+{
+    let Drawn::Task(task) = book.draw(alloc, pass)? else {
+        return Err(Fail::from("no task"));
+    };
+    Ok(compute(alloc, &task, problem, order, shelf)?)
+}
+
+/// Commits a result. A commit that finds no memory changes nothing, and is made again.
+pub fn commit<R: Wait, O: Order>(
+    rt: &R,
+    alloc: Global,
+    book: &mut Book<O>,
+    pass: &mut Pass,
+    done: Done,
+) -> Result<(), Fail>
+    requires pass { pass.old.opening ≡ book.old.opening }
+    requires opening { done.opening ≡ book.old.opening }
+    requires of { IsOf book.old.opening.shelf done.front }
+    requires right { IsRight (O.meaning book.old.order) done }
+    ensures book { OnOk result (IsSameBook book.old book.new) }
+    ensures pass { OnOk result (pass.new.opening ≡ pass.old.opening) }
+{
+    let before = book.history().len();
+    let done = match book.commit(rt, alloc, pass, done) {
+        Ok(_) => return Ok(()),
+        Err((_, CommitFault::NotOut(_))) => return Err(Fail::from("not out")),
+        Err((done, CommitFault::NoMemory)) => done,
+    };
+    if book.history().len() != before {
+        return Err(Fail::from("a refused commit changed the book"));
+    }
+    match book.commit(rt, alloc, pass, done) {
+        Ok(_) => Ok(()),
+        Err(_) => Err(Fail::from("refused twice")),
+    }
+}
+
+/// So many turns.
+pub fn turns<R: Wait, O: Order>(
+    rt: &R,
+    alloc: Global,
+    problem: &Encoded,
+    order: &O,
+    shelf: &Shelf,
+    book: &mut Book<O>,
+    pass: &mut Pass,
+    count: u32,
+) -> Result<(), Fail>
+    requires problem { book.old.opening.problem ≡ problem.now }
+    requires order { book.old.order ≡ order.now }
+    requires shelf { book.old.opening.shelf ≡ shelf.now }
+    requires pass { pass.old.opening ≡ book.old.opening }
+    ensures book { OnOk result (IsSameBook book.old book.new) }
+    ensures pass { OnOk result (pass.new.opening ≡ pass.old.opening) }
+{
+    for _ in 0..count {
+        let done = next_done(alloc, problem, order, shelf, book, pass)?;
+        commit(rt, alloc, book, pass, done)?;
+    }
+    Ok(())
+}
+
+/// Whether the ends of the first goal are equal, with so many steps on the way to the left and to the right one.
+pub fn meet<O: Order>(book: &Book<O>, problem: &Encoded, steps: (usize, usize)) -> bool
+    requires { book.now.opening.problem ≡ problem.now }
+{
+    if problem.goals.len() == 0 {
+        return false;
+    }
+    let (left, right) = book.ends(0);
+    let (left_chain, right_chain) = book.chain(0);
+    left.same(right) && left_chain.steps.len() == steps.0 && right_chain.steps.len() == steps.1
+}
+
+/// Draws from a drained book, and closes it by what its final pass answers.
+pub fn end<O: Order>(
+    alloc: Global,
+    order: &O,
+    shelf: &Shelf,
+    book: &mut Book<O>,
+    pass: &mut Pass,
+) -> Result<Verdict, Fail>
+    requires order { book.old.order ≡ order.now }
+    requires shelf { book.old.opening.shelf ≡ shelf.now }
+    requires pass { pass.old.opening ≡ book.old.opening }
+{
+    let Drawn::Drained = book.draw(alloc, pass)? else {
+        return Err(Fail::from("not drained"));
+    };
+    let stages = book.stages(alloc)?;
+    let (front, axioms) = (book.front(), book.axioms());
+    let outcome = final_pass(alloc, shelf, front, axioms, stages.as_slice(), order)?;
+    match outcome {
+        Outcome::Missing(_) => Err(Fail::from("something is missing")),
+        _ => Ok(book.close(&outcome)),
+    }
+}
