@@ -4,6 +4,8 @@ pub mod Alone
 pub mod Moved
 pub mod Finishing
 pub mod Turning
+pub mod RoundEnds
+pub mod Births
 pub mod AllAudits
 pub mod Rests
 pub mod OneSearch

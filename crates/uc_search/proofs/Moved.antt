@@ -1,5 +1,5 @@
 -- What is said of a book is said of it also where its state alone has changed.
-use Rattle.std.proofs.Common.{◌≡◌, ℕ, List, Option, sym, ap, ◌∙◌, subst}
+use Rattle.std.proofs.Common.{◌≡◌, ℕ, List, Option, Result, Ok, Err, IfOk, sym, ap, ◌∙◌, subst}
 use Rattle.uc_order.specs.Laws.{Meaning}
 use Rattle.uc_machine.specs.declared.event.Verdict.{Verdict}
 use Rattle.uc_machine.specs.declared.task.Job.{Job}
@@ -8,9 +8,12 @@ use Rattle.uc_machine.specs.State.{Opening, State, Out}
 use Rattle.uc_machine.specs.Events.{commits_by}
 use Rattle.uc_machine.specs.Origins.{CanCompute}
 use Rattle.uc_machine.specs.Draws.{Draws, Drew}
+use Rattle.uc_machine.specs.declared.task.Missing.{Missing}
+use Rattle.uc_machine.specs.Runs.{Audits, MayAudit}
 use Rattle.uc_shelf.specs.declared.entry.Entry.{Entry}
 use Rattle.uc_task.specs.Jobs.{CanBeDone}
-use Rattle.uc_book.specs.Answers.{IsSameBook}
+use Rattle.uc_book.specs.declared.answer.Audited.{Audited}
+use Rattle.uc_book.specs.Answers.{IsSameBook, audit_reply_of}
 use Rattle.uc_book.specs.Openings.{Opened, BookView, PassView, opening_of}
 use Rattle.uc_search.specs.declared.working.Turn.{Turn}
 use Rattle.uc_search.specs.declared.working.Turn.TheVariants.{Worked, Ends}
@@ -37,6 +40,15 @@ can_be_done m o es (More g l r) c = tt
 can_be_done m o es (Meet i) c = c
 can_be_done m o es (Join p a) c = c
 
+-- an audit, as its book makes it
+pub audits_as : (p q : Opened) (x : Missing) (s : State) (a b : Audited) (u : State) → p ≡ q → a ≡ b → Audits (opening_of p) x.fact s (audit_reply_of a) u → Audits (opening_of q) x.fact s (audit_reply_of b) u
+audits_as p q x s a b u e is h = subst (λ (o : Opened). Audits (opening_of o) x.fact s (audit_reply_of b) u) e (subst (λ (y : Audited). Audits (opening_of p) x.fact s (audit_reply_of y) u) is h)
+
+-- what holds anyway
+pub if_ok : {X Y : Type 0} (r : Result X Y) (P : Type 0) → P → IfOk r (λ x. P)
+if_ok (Ok x) P h = h
+if_ok (Err y) P h = tt
+
 module _ {O : Type 0} (meaning : O → Meaning) (a b : BookView O) (same : IsSameBook a b) where
   pub moved_turn : (v w : ℕ) (s : State) (t : Turn) (u : State) → v ≡ w → TurnsTo (meaning b.order) (opening_of b.opening) v s t u → TurnsTo (meaning a.order) (opening_of a.opening) w s t u
   moved_turn v w s t u e x =
@@ -54,6 +66,11 @@ module _ {O : Type 0} (meaning : O → Meaning) (a b : BookView O) (same : IsSam
   moved_end s r u x =
       subst (λ (o : Opened). EndsRound (meaning a.order) (opening_of o) s r u) same.opening
       (subst (λ (p : O). EndsRound (meaning p) (opening_of b.opening) s r u) same.order x)
+
+  pub moved_may : (s : State) (x : Missing) → MayAudit (meaning a.order) (opening_of a.opening) s x → MayAudit (meaning b.order) (opening_of b.opening) s x
+  moved_may s x h =
+      subst (λ (p : O). MayAudit (meaning p) (opening_of b.opening) s x) (sym same.order)
+      (subst (λ (o : Opened). MayAudit (meaning a.order) (opening_of o) s x) (sym same.opening) h)
 
   -- a task that is drawn and then ends, as its book draws it
   pub drawn_task : (w : ℕ) (s : State) (t : Out) (u : State) (turn : Turn) (v : State) → Draws (opening_of a.opening) w s (Drew t) u → EndsTask (meaning b.order) (opening_of b.opening) t u turn v → TurnsTo (meaning a.order) (opening_of a.opening) w s turn v

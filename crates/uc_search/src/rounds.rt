@@ -1,8 +1,8 @@
 //! The rounds of a search.
 
-ghost use Rattle.std.specs.Prelude.{◌≡◌, ℕ, [], Some, IfOk};
+ghost use Rattle.std.specs.Prelude.{◌≡◌, ℕ, [], Some, IfOk, IfErr};
 ghost use Rattle.uc_book.specs.Openings.{opening_of};
-ghost use Rattle.uc_book.specs.Answers.{IsSameBook};
+ghost use Rattle.uc_book.specs.Answers.{IsSameBook, IsAnEnd};
 ghost use Rattle.uc_machine.specs.Events.{commits_by};
 ghost use Rattle.uc_machine.specs.Finals.{IsFinal};
 ghost use Rattle.uc_machine.specs.Runs.{IsDrained};
@@ -103,11 +103,25 @@ fn end_round<R: Wait, O: Order>(
     ensures book { IsSameBook book.old book.new }
 {
     let stages = book.stages(alloc)?;
-    let (front, axioms) = (book.front(), book.axioms());
+    let front = book.front();
+    let axioms = book.axioms();
     let outcome = final_pass(alloc, shelf, front, axioms, stages.as_slice(), order)?;
+    match missing_or_end(outcome) {
+        Ok(all) => audit_all(rt, alloc, book, all),
+        Err(end) => Ok(Some(book.close(&end))),
+    }
+}
+
+/// The equations that are missing; or, where that isn't the outcome, the outcome.
+fn missing_or_end(outcome: Outcome) -> Result<Seq<Missing>, Outcome>
+    ensures missing { IfOk result (λ all. outcome ≡ Lacks all) }
+    ensures end { IfErr result (λ end. (outcome ≡ end) × IsAnEnd end) }
+{
     match outcome {
-        Outcome::Missing(all) => audit_all(rt, alloc, book, all),
-        _ => Ok(Some(book.close(&outcome))),
+        Outcome::Convergent(facts) => Err(Outcome::Convergent(facts)),
+        Outcome::Missing(all) => Ok(all),
+        Outcome::Large(overlap) => Err(Outcome::Large(overlap)),
+        Outcome::GoalUnsettled(goal) => Err(Outcome::GoalUnsettled(goal)),
     }
 }
 

@@ -1,0 +1,25 @@
+use Rattle.std.proofs.Common.{◌∙◌}
+use Rattle.std.proofs.lemmas.Result.{IfOk-weaker}
+use Rattle.uc_book.specs.Openings.{opening_of}
+use Rattle.uc_search.specs.Searching.{EndsRound, Rounds}
+use Rattle.uc_search.proofs.Moved.{moved_end}
+use Rattle.uc_search.proofs.RoundEnds.{is_drained_alone, drained_round, closed_round}
+use Rattle.uc_search.proofs.rounds.round.Goals as goal
+
+pub end_round-requires-clause-drained : goal.end_round-requires-clause-drained
+end_round-requires-clause-drained g c =
+    let a = c.args.book.now in
+    is_drained_alone (g.O.Order.meaning a.order) (opening_of a.opening) c.args.pass.now.worker a.state c.work_alone.result c.work_alone.new.book.state c.in-Drained.is c.work_alone.ensures.ended
+
+pub returns-in-Drained-clause-round : goal.returns-in-Drained-clause-round
+returns-in-Drained-clause-round g c =
+    let a = c.args.book.now in
+    let b = c.work_alone.new.book in
+    let u = c.end_round.new.book.state in
+    IfOk-weaker c.end_round.result (λ v. EndsRound (g.O.Order.meaning b.order) (opening_of b.opening) b.state v u) (λ v. Rounds (g.O.Order.meaning a.order) (opening_of a.opening) c.args.pass.now.worker a.state v u)
+    (λ v e. drained_round (g.O.Order.meaning a.order) (opening_of a.opening) c.args.pass.now.worker a.state c.work_alone.result b.state v u c.in-Drained.is c.work_alone.ensures.ended (moved_end g.O.Order.meaning a b c.work_alone.ensures.book b.state v u e)) c.end_round.ensures.ends
+
+pub returns-in-Closed-clause-round : goal.returns-in-Closed-clause-round
+returns-in-Closed-clause-round g c =
+    let a = c.args.book.now in
+    closed_round (g.O.Order.meaning a.order) (opening_of a.opening) c.args.pass.now.worker a.state c.work_alone.result c.work_alone.new.book.state c.copied.result c.in-Closed.is c.work_alone.ensures.ended (c.copied.ensures ∙ c.verdict.ensures)

@@ -1,0 +1,37 @@
+use Rattle.std.proofs.Common.{refl, Some, None, subst}
+use Rattle.uc_book.specs.Openings.{opening_of}
+use Rattle.uc_search.specs.Searching.{Rounds, last_round, next_round}
+use Rattle.uc_search.proofs.Moved.{moved_round, same_book_on, same_pass_on}
+use Rattle.uc_search.proofs.rounds.search_alone.Goals as goal
+
+pub loop-init : goal.loop-init
+loop-init g c = record {
+  searches = λ v u s. s;
+  none_out = c.requires.none_out;
+  book = record { opening = refl; order = refl; enrolled = refl };
+  pass = record { worker = refl; opening = refl };
+  count = c.requires.count;
+}
+
+pub loop-preserved : goal.loop-preserved
+loop-preserved g c =
+    let a = c.args.book.now in
+    let b = c.loop.book in
+    let w = c.args.pass.now.worker in
+    let r = moved_round g.O.Order.meaning a b c.loop.invariant.book c.loop.pass.worker w b.state c.in_ok-verdict.field-0 c.round.new.book.state c.loop.invariant.pass.worker c.in_ok-verdict.ensures.round in
+    let n = subst (λ x. Rounds (g.O.Order.meaning a.order) (opening_of a.opening) w b.state x c.round.new.book.state) c.in_default.is r in
+    record {
+      searches = λ v u s. c.loop.invariant.searches v u (next_round n s);
+      none_out = c.in_ok-verdict.ensures.none_out;
+      book = same_book_on a b c.round.new.book c.loop.invariant.book c.in_ok-verdict.ensures.book;
+      pass = same_pass_on c.args.pass.now c.loop.pass c.round.new.pass c.loop.invariant.pass c.in_ok-verdict.ensures.pass;
+      count = c.in_ok-verdict.ensures.count;
+    }
+
+pub returns-in-Some-clause-searched : goal.returns-in-Some-clause-searched
+returns-in-Some-clause-searched g c =
+    let a = c.args.book.now in
+    let b = c.loop.book in
+    let w = c.args.pass.now.worker in
+    let r = moved_round g.O.Order.meaning a b c.loop.invariant.book c.loop.pass.worker w b.state c.in_ok-verdict.field-0 c.round.new.book.state c.loop.invariant.pass.worker c.in_ok-verdict.ensures.round in
+    c.loop.invariant.searches c.in-Some.verdict c.round.new.book.state (last_round (subst (λ x. Rounds (g.O.Order.meaning a.order) (opening_of a.opening) w b.state x c.round.new.book.state) c.in-Some.is r))
