@@ -4,7 +4,7 @@
 use std::alloc::{AllocError, Global};
 use uc_fact::{Origin, Stop};
 use uc_ledger::State;
-use uc_machine::{Ending, Event, Happening, Meeting, Numbers, Stage, Verdict};
+use uc_machine::{Ending, Event, Happening, Meeting, Stage, Verdict};
 use uc_pair::Formed;
 
 /// A fact: how many nodes its sides have together, and a mark by which it is told from others.
@@ -104,28 +104,24 @@ pub struct Machine {
     pub limit: u32,
     pub verdict: Option<Verdict>,
     pub history: Vec<Event>,
+    /// How many results and tickets weren't out.
+    pub refused: u64,
 }
 
-/// What an event counts as.
-#[derive(Clone, Copy, PartialEq, Eq, Debug)]
-enum Kind {
-    Draw,
-    Commit,
-    Reclaim,
-    Other,
-}
-
-fn kind_of(what: Happening) -> Kind {
+fn is_draw(what: Happening) -> bool {
     match what {
-        Happening::DrawGoal { .. } | Happening::DrawMore { .. } => Kind::Draw,
-        Happening::DrawMeet { .. } | Happening::DrawJoin { .. } => Kind::Draw,
-        Happening::CommitGoal { .. } | Happening::CommitMore { .. } => Kind::Commit,
-        Happening::CommitMeet { .. } | Happening::CommitJoined { .. } => Kind::Commit,
-        Happening::CommitKept { .. } | Happening::CommitLate { .. } => Kind::Commit,
-        Happening::ReclaimGoal { .. } | Happening::ReclaimMore { .. } => Kind::Reclaim,
-        Happening::ReclaimMeet { .. } | Happening::ReclaimJoin { .. } => Kind::Reclaim,
-        Happening::Dropped { .. } | Happening::AuditKept { .. } => Kind::Other,
-        Happening::Close(_) => Kind::Other,
+        Happening::DrawGoal { .. } | Happening::DrawMore { .. } => true,
+        Happening::DrawMeet { .. } | Happening::DrawJoin { .. } => true,
+        _ => false,
+    }
+}
+
+fn is_commit(what: Happening) -> bool {
+    match what {
+        Happening::CommitGoal { .. } | Happening::CommitMore { .. } => true,
+        Happening::CommitMeet { .. } | Happening::CommitJoined { .. } => true,
+        Happening::CommitKept { .. } | Happening::CommitLate { .. } => true,
+        _ => false,
     }
 }
 
@@ -203,6 +199,7 @@ pub fn start(
         limit,
         verdict: None,
         history: Vec::new(alloc),
+        refused: 0,
     };
     machine.adds_goals(alloc, goals)?;
     if axioms.len() > limit as usize {
@@ -284,7 +281,7 @@ impl Machine {
     pub fn draws(&self) -> u64 {
         let mut count: u64 = 0;
         for k in 0..self.history.len() {
-            if kind_of(self.history[k].what) == Kind::Draw {
+            if is_draw(self.history[k].what) {
                 count = count.saturating_add(1);
             }
         }
@@ -296,7 +293,7 @@ impl Machine {
         let mut count: u64 = 0;
         for k in 0..self.history.len() {
             let what = self.history[k].what;
-            if kind_of(what) == Kind::Draw {
+            if is_draw(what) {
                 if count == ticket {
                     return match what {
                         Happening::DrawMore { .. } | Happening::DrawJoin { .. } => true,
@@ -330,7 +327,7 @@ impl Machine {
     }
 
     // how many draws of the queue gave a pair
-    fn taken(&self) -> u64 {
+    pub fn taken(&self) -> u64 {
         let mut count: u64 = 0;
         for k in 0..self.history.len() {
             match self.history[k].what {
@@ -343,24 +340,16 @@ impl Machine {
         count
     }
 
-    // how many events of a kind a worker has
-    fn events_of(&self, worker: u32, kind: Kind) -> u64 {
+    // how many commits a worker made
+    pub fn commits_of(&self, worker: u32) -> u64 {
         let mut count: u64 = 0;
         for k in 0..self.history.len() {
             let event = self.history[k];
-            if event.worker == worker && kind_of(event.what) == kind {
+            if event.worker == worker && is_commit(event.what) {
                 count = count.saturating_add(1);
             }
         }
         count
-    }
-
-    pub fn numbers(&self, worker: u32) -> Numbers {
-        Numbers {
-            drawn: self.events_of(worker, Kind::Draw),
-            commits: self.events_of(worker, Kind::Commit),
-            reclaims: self.events_of(worker, Kind::Reclaim),
-        }
     }
 
     // the least pair that waits
@@ -512,6 +501,10 @@ impl Machine {
         Ok(())
     }
 
+    pub fn refuses(&mut self) {
+        self.refused = self.refused.saturating_add(1);
+    }
+
     pub fn publishes(&mut self, sides: Sides) -> Result<(), AllocError> {
         self.enters(Line::Born(sides))?;
         self.meetings.push(Meeting::Unmet)?;
@@ -629,6 +622,7 @@ impl Machine {
                 return Ok(true);
             }
         }
+        self.refuses();
         Ok(false)
     }
 

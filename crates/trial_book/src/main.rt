@@ -1,6 +1,6 @@
-//! Runs a book beside the machine as a plain slow program: forty word problems by chance, two hundred calls of three workers
-//! on each, and after each call the two are compared in all that the book tells. Prints each difference, and how many runs
-//! there were.
+//! Runs a book beside the machine as a plain slow program: forty problems by chance, some hundred calls of three workers on
+//! each, and after each call the two are compared in all that the book tells. Prints each difference, how many runs there
+//! were, and how often each kind of happening was there.
 #![tactic(auto)]
 
 mod agreeing;
@@ -12,6 +12,7 @@ mod problems;
 mod rest;
 mod runs;
 mod taking;
+mod tally;
 mod trouble;
 
 use order::default_order;
@@ -19,6 +20,7 @@ use runs::run;
 use std::io;
 use std::io::Print;
 use std::sync::Wait;
+use tally::Tally;
 
 const RUNS: u32 = 40;
 
@@ -29,12 +31,12 @@ fn main(rt: HostRuntime) -> io::Result<()> {
     let Some(order) = default_order(alloc) else {
         return println!(rt; "no memory");
     };
-    let mut events: usize = 0;
+    let mut tally = Tally::new();
     for seed in 1..=RUNS {
         match run(&rt, alloc, &order, seed, CALLS) {
-            Ok(more) => events = events.saturating_add(more),
+            Ok(machine) => tally.adds(&machine),
             Err(trouble) => println!(rt; "seed {seed}: {trouble:?}")?,
         }
     }
-    println!(rt; "{RUNS} runs, {events} events")
+    println!(rt; "{RUNS} runs, {} events: {tally}", tally.events)
 }

@@ -1,4 +1,4 @@
-//! The Knuth-Bendix order of a constant and two letters, in which all weighs 1.
+//! The Knuth-Bendix order of a constant, two letters and a binary symbol, in which all weighs 1.
 
 ghost use Rattle.std.specs.Prelude.{IsTrue};
 ghost use Rattle.uc_term.specs.Table.{Has};
@@ -9,7 +9,18 @@ use std::alloc::Global;
 use uc_kbo::Kbo;
 use uc_term::{Sym, Symbols};
 
-const PRECEDENCE: [Sym; 3] = [Sym(0), Sym(1), Sym(2)];
+/// The constant.
+pub const A: Sym = Sym(0);
+
+/// The letters.
+pub const G: Sym = Sym(1);
+
+pub const I: Sym = Sym(2);
+
+/// The binary symbol.
+pub const F: Sym = Sym(3);
+
+const PRECEDENCE: [Sym; 4] = [A, G, I, F];
 
 // Whether the table has all symbols of the list.
 fn are_known(symbols: &Symbols, list: &[Sym]) -> bool
@@ -42,9 +53,10 @@ pub fn default_order(alloc: Global) -> Option<Kbo> {
     symbols.intern(alloc, b"a", 0).ok()?;
     symbols.intern(alloc, b"g", 1).ok()?;
     symbols.intern(alloc, b"i", 1).ok()?;
+    symbols.intern(alloc, b"f", 2).ok()?;
     let signature = PRECEDENCE;
     if !are_known(&symbols, &signature) || !has_constant(&symbols, &signature) {
         return None;
     }
-    Kbo::new(alloc, &signature, &symbols, 1, &[1, 1, 1], &signature).ok()
+    Kbo::new(alloc, &signature, &symbols, 1, &[1, 1, 1, 1], &signature).ok()
 }

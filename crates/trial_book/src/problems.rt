@@ -1,13 +1,21 @@
-//! Problems by chance: word problems over two letters.
+//! Problems by chance: of words over two letters, and of terms with a binary symbol besides.
 
 use crate::images::mark_of;
+use crate::order::{A, F, G, I};
 use std::alloc::{AllocError, Global};
 use uc_problem::{Encoded, Signature};
-use uc_term::{Equation, Seq, Sym, Term, TermFault};
+use uc_term::{Equation, Seq, Term, TermFault};
 
-const END: Sym = Sym(0);
-
-const LETTERS: [Sym; 2] = [Sym(1), Sym(2)];
+/// What the terms of an equation are made of.
+#[derive(Clone, Copy)]
+struct Shape {
+    /// In how many ways a term may grow: the first two are the letters.
+    ways: u32,
+    /// How many variables there are.
+    variables: u32,
+    /// How often a term may grow.
+    length: u32,
+}
 
 /// Numbers that are each made of the one before.
 #[derive(Clone, Copy)]
@@ -42,62 +50,78 @@ impl Generator {
         }
     }
 
-    // a word of at most so many letters, before this end
-    fn word(&mut self, alloc: Global, length: u32, end: &Term) -> Result<Term, TermFault> {
-        let mut word = end.copy(alloc)?;
-        for _ in 0..self.below(length.saturating_add(1)) {
-            let letter = LETTERS[self.below(2) as usize];
-            word = Term::app(alloc, letter, &[word])?;
+    // the constant, or a variable
+    fn leaf(&mut self, alloc: Global, shape: Shape) -> Result<Term, TermFault> {
+        match self.below(shape.variables.saturating_add(1)) {
+            0 => Term::app(alloc, A, &[]),
+            n => Ok(Term::var(alloc, n - 1)?),
         }
-        Ok(word)
     }
 
-    // two words with one end
-    fn equation(&mut self, alloc: Global, length: u32, end: &Term) -> Result<Equation, TermFault> {
+    // a term with one symbol more at its head
+    fn grown(&mut self, alloc: Global, term: Term, shape: Shape) -> Result<Term, TermFault> {
+        match self.below(shape.ways) {
+            0 => Term::app(alloc, G, &[term]),
+            1 => Term::app(alloc, I, &[term]),
+            2 => Term::app(alloc, F, &[term, self.leaf(alloc, shape)?]),
+            _ => Term::app(alloc, F, &[self.leaf(alloc, shape)?, term]),
+        }
+    }
+
+    // a term that grew from this one
+    fn term(&mut self, alloc: Global, end: &Term, shape: Shape) -> Result<Term, TermFault> {
+        let mut term = end.copy(alloc)?;
+        for _ in 0..self.below(shape.length.saturating_add(1)) {
+            term = self.grown(alloc, term, shape)?;
+        }
+        Ok(term)
+    }
+
+    // two terms that grew from one
+    fn equation(&mut self, alloc: Global, shape: Shape) -> Result<Equation, TermFault> {
+        let end = self.leaf(alloc, shape)?;
         Ok(Equation {
-            left: self.word(alloc, length, end)?,
-            right: self.word(alloc, length, end)?,
+            left: self.term(alloc, &end, shape)?,
+            right: self.term(alloc, &end, shape)?,
         })
     }
 
-    // the end of an axiom's words: mostly a variable
-    fn end(&mut self, alloc: Global) -> Result<Term, TermFault> {
-        if self.below(3) == 0 {
-            Term::app(alloc, END, &[])
-        } else {
-            Ok(Term::var(alloc, 0)?)
-        }
-    }
-
-    fn axioms(&mut self, alloc: Global) -> Result<Seq<Equation>, TermFault> {
+    // at most so many equations
+    fn equations(
+        &mut self,
+        alloc: Global,
+        most: u32,
+        shape: Shape,
+    ) -> Result<Seq<Equation>, TermFault> {
         let mut list = Seq::new(alloc);
-        for _ in 0..self.below(5) {
-            let end = self.end(alloc)?;
-            list.push(self.equation(alloc, 4, &end)?)?;
+        for _ in 0..self.below(most.saturating_add(1)) {
+            list.push(self.equation(alloc, shape)?)?;
         }
         Ok(list)
     }
 
-    fn goals(&mut self, alloc: Global) -> Result<Seq<Equation>, TermFault> {
-        let end = Term::app(alloc, END, &[])?;
-        let mut list = Seq::new(alloc);
-        for _ in 0..self.below(4) {
-            list.push(self.equation(alloc, 5, &end)?)?;
-        }
-        Ok(list)
-    }
-
-    /// A problem of few short axioms and goals.
+    /// A problem of few axioms and goals.
     pub fn problem(&mut self, alloc: Global) -> Result<Encoded, TermFault> {
+        let ways = if self.below(3) == 0 { 4 } else { 2 };
+        let of_axioms = Shape {
+            ways,
+            variables: ways / 2,
+            length: 5,
+        };
+        let of_goals = Shape {
+            ways,
+            variables: 0,
+            length: 6,
+        };
         Ok(Encoded {
-            axioms: self.axioms(alloc)?,
+            axioms: self.equations(alloc, 5, of_axioms)?,
             sources: Seq::new(alloc),
-            goals: self.goals(alloc)?,
+            goals: self.equations(alloc, 3, of_goals)?,
             goal_clauses: Seq::new(alloc),
             fresh: None,
             signature: Signature {
                 symbols: Seq::new(alloc),
-                least: END,
+                least: A,
                 least_is_fresh: false,
             },
         })

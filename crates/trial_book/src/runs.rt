@@ -11,7 +11,7 @@ use crate::hand::{Hand, commit, draw, put_back};
 use crate::machine::{Machine, start};
 use crate::problems::{Generator, marks, weights};
 use crate::rest::end_round;
-use crate::trouble::Trouble;
+use crate::trouble::{Trouble, check};
 use std::alloc::Global;
 use std::sync::Wait;
 use uc_book::Book;
@@ -27,14 +27,14 @@ struct Team {
     last: Hand,
 }
 
-/// A run of so many calls over a problem by chance. The answer is how many events there are.
+/// A run of so many calls over a problem by chance. The answer is the machine at its end.
 pub fn run<R: Wait, O: Order>(
     rt: &R,
     alloc: Global,
     order: &O,
     seed: u32,
     calls: u32,
-) -> Result<usize, Trouble> {
+) -> Result<Machine, Trouble> {
     let mut chance = Generator::from(seed);
     let problem = chance.problem(alloc)?;
     let (budget, limit) = (chance.often_large(), chance.often_large());
@@ -57,8 +57,18 @@ pub fn run<R: Wait, O: Order>(
             &mut chance,
         )?;
         agree(alloc, &book, &shelf, &problem, &machine)?;
+        agree_on_commits(&team, &machine)?;
     }
-    Ok(machine.history.len())
+    Ok(machine)
+}
+
+// The passes count the commits.
+fn agree_on_commits(team: &Team, machine: &Machine) -> Result<(), Trouble> {
+    for pass in [&team.one.pass, &team.other.pass, &team.last.pass] {
+        let count = machine.commits_of(pass.worker());
+        check(pass.commits() == count, "the commits of a worker")?;
+    }
+    Ok(())
 }
 
 // Three workers, with nothing in their hands.

@@ -75,6 +75,7 @@ impl Machine {
         found: &Found,
     ) -> Result<Option<usize>, AllocError> {
         let Some(out) = self.ends(worker, ticket, work, lines) else {
+            self.refuses();
             return Ok(None);
         };
         let event = self.history.len().saturating_add(1);
