@@ -31,11 +31,11 @@ pub fn draw<O: Order>(
     machine: &mut Machine,
     hand: &mut Hand,
 ) -> Result<bool, Trouble>
-    requires hand { IsHandOf (O.meaning book.old.order) book.old hand.old }
+    requires hand { IsHandOf (O.meaning book.old.order) book.old.opening hand.old }
     requires shelf { book.old.opening.shelf ≡ shelf.now }
     ensures drained { IfOk result (λ is_drained. IsTrue is_drained → IsDrained book.new.state) }
     ensures book { OnOk result (IsSameBook book.old book.new) }
-    ensures hand { OnOk result (IsHandOf (O.meaning book.new.order) book.new hand.new) }
+    ensures hand { OnOk result (IsHandOf (O.meaning book.old.order) book.old.opening hand.new) }
 {
     let drawn = book.draw(alloc, &mut hand.pass)?;
     let answer = machine.draw(hand.pass.worker())?;
@@ -61,12 +61,12 @@ pub fn commit<R: Wait, O: Order>(
     machine: &mut Machine,
     hand: &mut Hand,
 ) -> Result<(), Trouble>
-    requires hand { IsHandOf (O.meaning book.old.order) book.old hand.old }
+    requires hand { IsHandOf (O.meaning book.old.order) book.old.opening hand.old }
     requires problem { book.old.opening.problem ≡ problem.now }
     requires shelf { book.old.opening.shelf ≡ shelf.now }
     requires order { book.old.order ≡ order.now }
     ensures book { OnOk result (IsSameBook book.old book.new) }
-    ensures hand { OnOk result (IsHandOf (O.meaning book.new.order) book.new hand.new) }
+    ensures hand { OnOk result (IsHandOf (O.meaning book.old.order) book.old.opening hand.new) }
 {
     let Some(task) = hand.task.take() else {
         return Ok(());
@@ -100,9 +100,9 @@ pub fn put_back<O: Order>(
     machine: &mut Machine,
     hand: &mut Hand,
 ) -> Result<(), Trouble>
-    requires hand { IsHandOf (O.meaning book.old.order) book.old hand.old }
+    requires hand { IsHandOf (O.meaning book.old.order) book.old.opening hand.old }
     ensures book { OnOk result (IsSameBook book.old book.new) }
-    ensures hand { OnOk result (IsHandOf (O.meaning book.new.order) book.new hand.new) }
+    ensures hand { OnOk result (IsHandOf (O.meaning book.old.order) book.old.opening hand.new) }
 {
     let Some(ticket) = ticket_of(&hand.task) else {
         return Ok(());

@@ -1,5 +1,8 @@
 //! What the book's own types say, in the slow machine's.
 
+ghost use Rattle.uc_shelf.specs.Fronts.{IsOf};
+ghost use Rattle.uc_book.specs.Answers.{IfTask};
+
 use crate::machine::{Answer, Found, Leg, Line, Machine, Sides, Way, Work};
 use std::alloc::{AllocError, Global};
 use uc_book::Drawn;
@@ -66,7 +69,10 @@ fn line_of(entry: &Entry) -> Line {
     }
 }
 
-pub fn lines_of(alloc: Global, shelf: &Shelf, front: &Front) -> Result<Vec<Line>, AllocError> {
+/// The entries of a front.
+pub fn lines_of(alloc: Global, shelf: &Shelf, front: &Front) -> Result<Vec<Line>, AllocError>
+    requires { IsOf shelf.now front.now }
+{
     let mut lines = Vec::new(alloc);
     for k in 0..front.len() {
         lines.push(line_of(shelf.read(front, k)))?;
@@ -75,7 +81,9 @@ pub fn lines_of(alloc: Global, shelf: &Shelf, front: &Front) -> Result<Vec<Line>
 }
 
 /// Whether the front has the first entries of the machine, so many of them.
-pub fn has_lines(shelf: &Shelf, front: &Front, machine: &Machine, count: usize) -> bool {
+pub fn has_lines(shelf: &Shelf, front: &Front, machine: &Machine, count: usize) -> bool
+    requires { IsOf shelf.now front.now }
+{
     if front.len() as usize != count || count > machine.lines.len() {
         return false;
     }
@@ -134,7 +142,9 @@ pub fn found_of(alloc: Global, found: &Finding) -> Result<Found, AllocError> {
 }
 
 /// Whether a draw was answered alike.
-pub fn is_drawn(shelf: &Shelf, machine: &Machine, answer: &Answer, drawn: &Drawn) -> bool {
+pub fn is_drawn(shelf: &Shelf, machine: &Machine, answer: &Answer, drawn: &Drawn) -> bool
+    requires { IfTask drawn.now (λ task. IsOf shelf.now task.front) }
+{
     match (answer, drawn) {
         (Answer::Task(out), Drawn::Task(task)) => {
             out.ticket == task.ticket

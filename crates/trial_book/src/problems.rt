@@ -1,5 +1,7 @@
 //! Problems by chance: of words over two letters, and of terms with a binary symbol besides.
 
+ghost use Rattle.std.specs.Prelude.{◌≤◌};
+
 use crate::images::mark_of;
 use crate::order::{A, F, G, I};
 use std::alloc::{AllocError, Global};
@@ -31,7 +33,9 @@ impl Generator {
     }
 
     /// The next number below a bound.
-    pub fn below(&mut self, bound: u32) -> u32 {
+    pub fn below(&mut self, bound: u32) -> u32
+        ensures { result ≤ bound }
+    {
         let next = self.state.wrapping_mul(1_103_515_245).wrapping_add(12_345);
         self.state = next % 2_147_483_648;
         if bound == 0 {
@@ -42,7 +46,9 @@ impl Generator {
     }
 
     /// A small number, or one that is larger.
-    pub fn often_large(&mut self) -> u32 {
+    pub fn often_large(&mut self) -> u32
+        ensures { result ≤ 1000 }
+    {
         if self.below(4) == 0 {
             self.below(8)
         } else {
@@ -102,11 +108,12 @@ impl Generator {
 
     /// A problem of few axioms and goals.
     pub fn problem(&mut self, alloc: Global) -> Result<Encoded, TermFault> {
-        let ways = if self.below(3) == 0 { 4 } else { 2 };
+        let of_words = self.below(3) != 0;
+        let (ways, variables, length) = if of_words { (2, 1, 5) } else { (4, 2, 4) };
         let of_axioms = Shape {
             ways,
-            variables: ways / 2,
-            length: 5,
+            variables,
+            length,
         };
         let of_goals = Shape {
             ways,
@@ -114,7 +121,7 @@ impl Generator {
             length: 6,
         };
         Ok(Encoded {
-            axioms: self.equations(alloc, 5, of_axioms)?,
+            axioms: self.equations(alloc, 6, of_axioms)?,
             sources: Seq::new(alloc),
             goals: self.equations(alloc, 3, of_goals)?,
             goal_clauses: Seq::new(alloc),

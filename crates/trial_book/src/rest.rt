@@ -1,10 +1,10 @@
 //! What is made of a drained book: the final pass, and then audits or a close.
 
-ghost use Rattle.std.specs.Prelude.{◌≡◌, ◌<◌, ◌^◌, length, OnOk};
+ghost use Rattle.std.specs.Prelude.{◌≡◌, OnOk, IfOk, IfErr};
 ghost use Rattle.uc_machine.specs.Finals.{IsFinal};
 ghost use Rattle.uc_machine.specs.Runs.{IsDrained};
 ghost use Rattle.uc_machine.specs.declared.task.Outcome.TheVariants.{Missing as Lacks};
-ghost use Rattle.uc_book.specs.Answers.{IsSameBook};
+ghost use Rattle.uc_book.specs.Answers.{IsSameBook, IsAnEnd};
 
 use crate::images::sides_of;
 use crate::machine::Machine;
@@ -15,7 +15,6 @@ use uc_book::{Audited, Book};
 use uc_final::final_pass;
 use uc_machine::{Missing, Outcome};
 use uc_order::Order;
-use uc_problem::Encoded;
 use uc_shelf::Shelf;
 use uc_term::Seq;
 
@@ -25,26 +24,38 @@ pub fn end_round<R: Wait, O: Order>(
     alloc: Global,
     book: &mut Book<O>,
     shelf: &Shelf,
-    problem: &Encoded,
     order: &O,
     machine: &mut Machine,
 ) -> Result<(), Trouble>
-    requires problem { book.old.opening.problem ≡ problem.now }
     requires shelf { book.old.opening.shelf ≡ shelf.now }
     requires order { book.old.order ≡ order.now }
     requires drained { IsDrained book.old.state }
     ensures book { OnOk result (IsSameBook book.old book.new) }
 {
     let stages = book.stages(alloc)?;
-    let axioms = problem.axioms.as_slice();
-    let outcome = final_pass(alloc, shelf, book.front(), axioms, stages.as_slice(), order)?;
-    match outcome {
-        Outcome::Missing(all) => audit_all(rt, alloc, book, machine, all),
-        _ => {
-            let verdict = book.close(&outcome);
+    let front = book.front();
+    let axioms = book.axioms();
+    let outcome = final_pass(alloc, shelf, front, axioms, stages.as_slice(), order)?;
+    match missing_or_end(outcome) {
+        Ok(all) => audit_all(rt, alloc, book, machine, all),
+        Err(end) => {
+            let verdict = book.close(&end);
             machine.close(verdict)?;
             Ok(())
         }
+    }
+}
+
+// The equations that are missing; or, where that isn't the outcome, the outcome.
+fn missing_or_end(outcome: Outcome) -> Result<Seq<Missing>, Outcome>
+    ensures missing { IfOk result (λ all. outcome ≡ Lacks all) }
+    ensures end { IfErr result (λ end. (outcome ≡ end) × IsAnEnd end) }
+{
+    match outcome {
+        Outcome::Convergent(facts) => Err(Outcome::Convergent(facts)),
+        Outcome::Missing(all) => Ok(all),
+        Outcome::Large(overlap) => Err(Outcome::Large(overlap)),
+        Outcome::GoalUnsettled(goal) => Err(Outcome::GoalUnsettled(goal)),
     }
 }
 
@@ -62,13 +73,17 @@ fn audit_all<R: Wait, O: Order>(
 {
     for missing in all.into_vec() {
         let number = machine.audit(sides_of(&missing.fact))?;
-        match (book.audit(rt, alloc, missing)?, number) {
-            (Audited::Kept(fact), Some(other)) => check(fact == other, "an audit")?,
-            (Audited::Closed(verdict), None) => {
-                check(machine.verdict == Some(verdict), "an audit refused")?
-            }
-            _ => check(false, "an audit")?,
-        }
+        let audited = book.audit(rt, alloc, missing)?;
+        check(is_audited(machine, audited, number), "an audit")?;
     }
     Ok(())
+}
+
+// Whether an audit was answered alike.
+fn is_audited(machine: &Machine, audited: Audited, number: Option<u32>) -> bool {
+    match (audited, number) {
+        (Audited::Kept(fact), Some(other)) => fact == other,
+        (Audited::Closed(verdict), None) => machine.verdict == Some(verdict),
+        _ => false,
+    }
 }

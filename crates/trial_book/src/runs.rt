@@ -75,7 +75,7 @@ fn agree_on_commits(team: &Team, machine: &Machine) -> Result<(), Trouble> {
 fn enrolled<O: Order>(alloc: Global, book: &mut Book<O>) -> Result<Team, Trouble>
     requires none { book.old.enrolled ≡ [] }
     ensures book { OnOk result (IsSameOpening book.old book.new) }
-    ensures team { IfOk result (IsTeamOf (O.meaning book.new.order) book.new) }
+    ensures team { IfOk result (IsTeamOf (O.meaning book.old.order) book.old.opening) }
 {
     Ok(Team {
         one: Hand {
@@ -105,12 +105,12 @@ fn call<R: Wait, O: Order>(
     team: &mut Team,
     chance: &mut Generator,
 ) -> Result<(), Trouble>
-    requires team { IsTeamOf (O.meaning book.old.order) book.old team.old }
+    requires team { IsTeamOf (O.meaning book.old.order) book.old.opening team.old }
     requires problem { book.old.opening.problem ≡ problem.now }
     requires shelf { book.old.opening.shelf ≡ shelf.now }
     requires order { book.old.order ≡ order.now }
     ensures book { OnOk result (IsSameBook book.old book.new) }
-    ensures team { OnOk result (IsTeamOf (O.meaning book.new.order) book.new team.new) }
+    ensures team { OnOk result (IsTeamOf (O.meaning book.old.order) book.old.opening team.new) }
 {
     let hand = match chance.below(3) {
         0 => &mut team.one,
@@ -134,15 +134,15 @@ fn turn<R: Wait, O: Order>(
     hand: &mut Hand,
     chance: &mut Generator,
 ) -> Result<(), Trouble>
-    requires hand { IsHandOf (O.meaning book.old.order) book.old hand.old }
+    requires hand { IsHandOf (O.meaning book.old.order) book.old.opening hand.old }
     requires problem { book.old.opening.problem ≡ problem.now }
     requires shelf { book.old.opening.shelf ≡ shelf.now }
     requires order { book.old.order ≡ order.now }
     ensures book { OnOk result (IsSameBook book.old book.new) }
-    ensures hand { OnOk result (IsHandOf (O.meaning book.new.order) book.new hand.new) }
+    ensures hand { OnOk result (IsHandOf (O.meaning book.old.order) book.old.opening hand.new) }
 {
     match chance.below(16) {
-        0..=6 => go_on(rt, alloc, book, shelf, problem, order, machine, hand),
+        0..=6 => go_on(rt, alloc, book, shelf, order, machine, hand),
         7..=13 => commit(rt, alloc, book, shelf, problem, order, machine, hand),
         14 => put_back(book, machine, hand),
         _ => recall(book, machine),
@@ -155,20 +155,18 @@ fn go_on<R: Wait, O: Order>(
     alloc: Global,
     book: &mut Book<O>,
     shelf: &Shelf,
-    problem: &Encoded,
     order: &O,
     machine: &mut Machine,
     hand: &mut Hand,
 ) -> Result<(), Trouble>
-    requires hand { IsHandOf (O.meaning book.old.order) book.old hand.old }
-    requires problem { book.old.opening.problem ≡ problem.now }
+    requires hand { IsHandOf (O.meaning book.old.order) book.old.opening hand.old }
     requires shelf { book.old.opening.shelf ≡ shelf.now }
     requires order { book.old.order ≡ order.now }
     ensures book { OnOk result (IsSameBook book.old book.new) }
-    ensures hand { OnOk result (IsHandOf (O.meaning book.new.order) book.new hand.new) }
+    ensures hand { OnOk result (IsHandOf (O.meaning book.old.order) book.old.opening hand.new) }
 {
     if draw(alloc, book, shelf, machine, hand)? {
-        end_round(rt, alloc, book, shelf, problem, order, machine)
+        end_round(rt, alloc, book, shelf, order, machine)
     } else {
         Ok(())
     }

@@ -27,8 +27,9 @@ pub struct Tally {
     pub proved: u64,
     pub saturated: u64,
     pub spent: u64,
-    /// Books that a meeting closed for its pairs.
+    /// Books that were closed for their pairs: by a meeting, and at the start.
     pub crowded: u64,
+    pub too_many: u64,
 }
 
 fn raised(count: &mut u64) {
@@ -54,6 +55,7 @@ impl Tally {
             saturated: 0,
             spent: 0,
             crowded: 0,
+            too_many: 0,
         }
     }
 
@@ -61,7 +63,7 @@ impl Tally {
     pub fn adds(&mut self, machine: &Machine) {
         for k in 0..machine.history.len() {
             raised(&mut self.events);
-            self.adds_event(machine.history[k].what);
+            self.adds_event(k, machine.history[k].what);
         }
         for k in 0..machine.pairs.len() {
             self.adds_pair(machine.pairs[k]);
@@ -77,7 +79,7 @@ impl Tally {
         }
     }
 
-    fn adds_event(&mut self, what: Happening) {
+    fn adds_event(&mut self, number: usize, what: Happening) {
         match what {
             Happening::DrawGoal { .. } | Happening::DrawMore { .. } => raised(&mut self.draws),
             Happening::DrawMeet { .. } | Happening::DrawJoin { .. } => raised(&mut self.draws),
@@ -89,7 +91,7 @@ impl Tally {
             Happening::ReclaimMeet { .. } => raised(&mut self.reclaims),
             Happening::ReclaimJoin { .. } => raised(&mut self.reclaims),
             Happening::AuditKept { .. } => raised(&mut self.audits),
-            Happening::Close(ending) => self.adds_close(ending),
+            Happening::Close(ending) => self.adds_close(number, ending),
             _ => (),
         }
     }
@@ -100,11 +102,12 @@ impl Tally {
         self.pairs = self.pairs.saturating_add(pairs);
     }
 
-    fn adds_close(&mut self, ending: Ending) {
+    fn adds_close(&mut self, number: usize, ending: Ending) {
         match ending {
             Ending::Proved => raised(&mut self.proved),
             Ending::Saturated => raised(&mut self.saturated),
             Ending::Budget => raised(&mut self.spent),
+            Ending::Pairs if number == 0 => raised(&mut self.too_many),
             Ending::Pairs => raised(&mut self.crowded),
             Ending::Size => (),
         }
@@ -113,23 +116,13 @@ impl Tally {
 
 impl fmt::Display for Tally {
     fn fmt<W: fmt::Write>(&self, f: &mut fmt::Formatter<W>) -> fmt::Result {
-        write!(
-            f,
-            "draws {} meets {} kills {} ",
-            self.draws, self.meets, self.kills
-        )?;
-        write!(
-            f,
-            "pairs {} revived {} oldest {} ",
-            self.pairs, self.revived, self.oldest
-        )?;
-        write!(
-            f,
-            "drops {} late {} refused {} ",
-            self.drops, self.late, self.refused
-        )?;
-        write!(f, "reclaims {} audits {} ", self.reclaims, self.audits)?;
-        write!(f, "proved {} saturated {} ", self.proved, self.saturated)?;
-        write!(f, "spent {} crowded {}", self.spent, self.crowded)
+        write!(f, "draws {} meets {} ", self.draws, self.meets)?;
+        write!(f, "kills {} pairs {} ", self.kills, self.pairs)?;
+        write!(f, "revived {} oldest {} ", self.revived, self.oldest)?;
+        write!(f, "drops {} late {} ", self.drops, self.late)?;
+        write!(f, "refused {} reclaims {} ", self.refused, self.reclaims)?;
+        write!(f, "audits {} proved {} ", self.audits, self.proved)?;
+        write!(f, "saturated {} spent {} ", self.saturated, self.spent)?;
+        write!(f, "crowded {} too many {}", self.crowded, self.too_many)
     }
 }
