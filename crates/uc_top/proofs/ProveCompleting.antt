@@ -1,5 +1,7 @@
 -- How `prove` ends.
-use Rattle.std.proofs.Common.{◌⊎◌, inl, inr, ℕ, ◌≡◌, ◌≤◌, List, [], ◌∷◌, position, Option, Some, None, Ok, Err, refl, sym, ap, ◌∙◌, subst, arith}
+use Rattle.std.proofs.Common.{◌⊎◌, inl, inr, ℕ, ◌≡◌, ◌≤◌, List, [], ◌∷◌, position, Option, Some, None, Result, Ok, Err, refl, sym, ap, ◌∙◌, subst, arith}
+use Rattle.std.specs.Result.{IfOk}
+use Rattle.std.specs.declared.alloc.AllocError.{AllocError}
 use Rattle.std.specs.Io.KnownBytes.{Appends}
 use Rattle.uc_term.specs.Table.{Table, IsDistinct}
 use Rattle.uc_edge.specs.Files.{Files}
@@ -16,6 +18,8 @@ use Rattle.uc_words.specs.declared.command.Verb.TheVariants as verb
 use Rattle.uc_words.specs.Reads.{Reads}
 use Rattle.uc_words.proofs.Only.{only}
 use Rattle.uc_ordering.specs.Choice.{IsChosen, chosen}
+use Rattle.uc_top.specs.declared.output.Answer.{Answer}
+use Rattle.uc_top.specs.Lines.{joined}
 use Rattle.uc_top.specs.Told.{IsTold, told, cut_short}
 use Rattle.uc_top.specs.ProveAnswers.{is_unordered, is_searched, has_large_goal, ProveAnswers, fetch_fails, is_refused, is_loaded}
 use Rattle.uc_top.specs.Runs.{MayAnswer, is_answer, wants_memory, IsRun}
@@ -90,3 +94,7 @@ pub promised_by : (files : Files) (words : List (List ℕ)) (command : Command) 
 promised_by files words command status text reads h other read v =
     let one : command ≡ other = only words command other reads read in
     subst (λ (k : Command). KeepsCommand files k status text) one (h (ap (λ (k : Command). k.verb) one ∙ v))
+
+pub promised_answers : (words : List (List ℕ)) (command : Command) (holds : Option Files) (r : Result Answer AllocError) → Reads words command → (command.verb ≡ verb.Prove → IfOk r (λ answer. answer.status ≤ 2 → (files : Files) → holds ≡ Some files → KeepsCommand files command answer.status (joined answer.lines))) → IfOk r (λ answer. answer.status ≤ 2 → (files : Files) → holds ≡ Some files → (other : Command) → Reads words other → other.verb ≡ verb.Prove → KeepsCommand files other answer.status (joined answer.lines))
+promised_answers words command holds (Ok answer) reads h = λ few files told. promised_by files words command answer.status (joined answer.lines) reads (λ v. h v few files told)
+promised_answers words command holds (Err fault) reads h = tt

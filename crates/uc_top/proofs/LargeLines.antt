@@ -1,0 +1,59 @@
+-- The overlap that a search names as too large is one of its book's facts.
+use Rattle.std.proofs.Common.{ℕ, ◌≡◌, ◌<◌, List, length, slice_get, Some, refl, sym, subst, ap, ◌∙◌, arith}
+use Rattle.std.proofs.lemmas.Option.{slice_get_within}
+use Rattle.uc_term.specs.declared.equation.Side.{Side}
+use Rattle.uc_term.specs.declared.equation.Side.TheVariants.{Left, Right}
+use Rattle.uc_term.specs.declared.equation.Equation.{Equation}
+use Rattle.uc_term.specs.Equations.{side_of}
+use Rattle.uc_term.specs.Positions.{IsPlaceOf}
+use Rattle.uc_term.specs.Tree.{nodes}
+use Rattle.uc_term.specs.Table.{Table}
+use Rattle.uc_order.specs.Laws.{Meaning}
+use Rattle.uc_order.specs.declared.spec.OrderSpec.{OrderSpec}
+use Rattle.uc_fact.specs.declared.fact.Fact.{Fact}
+use Rattle.uc_fact.specs.declared.fact.Overlap.{Overlap}
+use Rattle.uc_fact.specs.Live.{equation_of}
+use Rattle.uc_pair.specs.Overlapping.{read_from}
+use Rattle.uc_problem.specs.declared.problem.Problem.{Problem}
+use Rattle.uc_problem.specs.declared.problem.Encoded.{Encoded}
+use Rattle.uc_machine.specs.declared.event.Verdict.TheVariants.{LargeOverlap}
+use Rattle.uc_machine.specs.State.{Opening, State}
+use Rattle.uc_shelf.specs.Entries.{born}
+use Rattle.uc_runs.specs.Large.{IsLargeOverlap}
+use Rattle.uc_runs.proofs.LargeOverlaps.{large_of_live}
+use Rattle.uc_search.specs.Causes.{HasCause, overlap_is_large}
+use Rattle.uc_search.proofs.Caused.{searched_told}
+use Rattle.uc_words.specs.declared.command.Command.{Command}
+use Rattle.uc_ordering.specs.Meaning.{meaning_of}
+use Rattle.uc_top.specs.ProveAnswers.{HasEnded, opening_for, overlap_line, IsLimitLine, pair_is_large}
+
+from_side : (n : ℕ) (s : Side) (e : Equation) → (read_from n s e).from ≡ side_of s e
+from_side n Left e = refl
+from_side n Right e = refl
+
+large_in : (m : Meaning) (o : Opening) (s : State) (x : Overlap) → HasCause m o s (LargeOverlap x) → IsLargeOverlap s.entries x
+large_in m o s x (overlap_is_large {drained = d} drained final is) = rw is (large_of_live m o.axioms d x final)
+
+module _ (table : Table) (command : Command) (problem : Problem) (encoded : Encoded) (spec : OrderSpec) (s : State) (x : Overlap) (h : HasEnded table command problem encoded spec (LargeOverlap x) s) where
+  large : IsLargeOverlap s.entries x
+  large = large_in (meaning_of table spec) (opening_for command encoded) s x (searched_told (meaning_of table spec) (opening_for command encoded) 0 (omega arith) (LargeOverlap x) s h.searched)
+
+  module _ (facts : List Fact) (are : facts ≡ born s.entries) where
+    fact_is : slice_get facts x.outer ≡ Some large.outer
+    fact_is = ap (λ (fs : List Fact). slice_get fs x.outer) are ∙ large.outer_is
+
+    pub outer_within : x.outer < length facts
+    outer_within = slice_get_within facts x.outer large.outer fact_is
+
+    module _ (fact : Fact) (outer : Equation) (at : slice_get facts x.outer ≡ Some fact) (left : outer.left ≡ fact.left) (right : outer.right ≡ fact.right) where
+      same : large.outer ≡ fact
+      same = let p : Some large.outer ≡ Some fact = sym fact_is ∙ at in cc
+
+      outer_is : equation_of large.outer ≡ outer
+      outer_is = rw (same, left, right) refl
+
+      pub inside : x.position.0 < nodes (side_of x.outer_side outer)
+      inside = rw (sym outer_is, sym (from_side x.outer x.outer_side (equation_of large.outer))) large.formed.overlaps.inside
+
+      pub large_line_is : (path text : List ℕ) → IsPlaceOf (side_of x.outer_side outer) path x.position.0 → text ≡ overlap_line x path → IsLimitLine command s (LargeOverlap x) text
+      large_line_is path text place is = rw is (pair_is_large large.outer path large.outer_is (rw outer_is place))

@@ -1,0 +1,176 @@
+-- From what the calls beneath `prove` promise to its answers.
+use Rattle.std.proofs.Common.{◌⊎◌, inl, inr, ℕ, ◌≡◌, ◌<◌, ◌≤◌, ◌&&◌, Bool, true, false, List, [], ◌∷◌, ◌++◌, codes, length, get_or, Option, Some, None, Result, Ok, Err, refl, sym, ap, ◌∙◌, subst, arith, nat_le}
+use Rattle.std.specs.List.{list_all}
+use Rattle.std.specs.Result.{IfOk}
+use Rattle.std.specs.declared.alloc.AllocError.{AllocError}
+use Rattle.std.specs.Prelude.{not}
+use Rattle.std.proofs.lemmas.Bool.{and_parts, leb-true, ne_eqb}
+use Rattle.std.proofs.lemmas.Option.{slice_get_read}
+use Rattle.uc_term.specs.Table.{Table, Grows}
+use Rattle.uc_edge.specs.Files.{Files}
+use Rattle.uc_clause.specs.Bytes.{in_line}
+use Rattle.uc_clause.specs.declared.clause.Sourced.{Sourced}
+use Rattle.uc_clause.specs.declared.fault.ClauseFault.{ClauseFault}
+use Rattle.uc_clause.specs.declared.fault.ClauseFault.TheVariants as clause
+use Rattle.uc_problem.specs.declared.fault.LoadFault.{LoadFault}
+use Rattle.uc_problem.specs.declared.fault.LoadFault.TheVariants as load
+use Rattle.uc_problem.specs.declared.fault.EncodeFault.TheVariants.{GoalTooLarge}
+use Rattle.uc_problem.specs.declared.problem.Problem.{Problem}
+use Rattle.uc_problem.specs.declared.problem.Encoded.{Encoded}
+use Rattle.uc_problem.specs.Holds.{Agrees, Holds, IsProblem, IsLoadFault}
+use Rattle.uc_problem.specs.Encodes.{Encodes, IsEncoded}
+use Rattle.uc_problem.proofs.Later.{Grows-refl}
+use Rattle.uc_order.specs.declared.spec.OrderSpec.{OrderSpec}
+use Rattle.uc_order.specs.Laws.{Meaning}
+use Rattle.uc_machine.specs.declared.event.Verdict.{Verdict}
+use Rattle.uc_machine.specs.Events.{commits_by}
+use Rattle.uc_machine.specs.State.{Opening, State}
+use Rattle.uc_machine.specs.Runs.{Starts, axioms_wait, too_many_axioms}
+use Rattle.uc_search.specs.Searching.{Searches}
+use Rattle.uc_words.specs.declared.command.Command.{Command}
+use Rattle.uc_ordering.specs.declared.fault.ChoiceFault.{ChoiceFault}
+use Rattle.uc_ordering.specs.declared.fault.ChoiceFault.TheVariants.{NoMemory}
+use Rattle.uc_ordering.specs.Choice.{IsChosen, IsChoiceFault}
+use Rattle.uc_ordering.specs.Fits.{Fits}
+use Rattle.uc_ordering.specs.Meaning.{meaning_of}
+use Rattle.uc_top.specs.declared.output.Answer.{Answer}
+use Rattle.uc_top.specs.Lines.{joined, load_line}
+use Rattle.uc_top.specs.OrderAnswers.{choice_line}
+use Rattle.uc_top.specs.Refusals.{load_status, large_line}
+use Rattle.uc_top.specs.PrintableProblems.{are_seen, IsRootSeen, CanBePrinted}
+use Rattle.uc_top.specs.ProveAnswers.{status_line, unloaded_word, verdict_status, trace_if, opening_for, HasEnded, VerdictAnswers, IsProveAnswer, has_large_goal, is_unordered, is_searched, ProveAnswers, fetch_fails, is_refused, is_loaded}
+use Rattle.uc_top.specs.ProveRuns.{Keeps, IsKept}
+use Rattle.uc_top.proofs.Answering.{one_line, refuses, fails, held_problem, large_within}
+use Rattle.uc_top.proofs.PrintableFiles.{held_printable}
+
+-- A STATUS ABOVE 2
+
+-- an answer with such a status promises nothing
+pub no_promise : (Q : Answer → Type 0) (n : ℕ) (line : List ℕ) (r : Result Answer AllocError) → 2 < n → IfOk r (λ answer. (answer.status ≡ n) × (joined answer.lines ≡ line)) → IfOk r (λ answer. answer.status ≤ 2 → Q answer)
+no_promise Q n line (Ok answer) high h = λ few. absurd (omega (arith, high, few, h.0))
+no_promise Q n line (Err fault) high h = tt
+
+high_clause : (file : List ℕ) (why : ClauseFault) → 2 < load_status (load.Clause file why)
+high_clause file (clause.Syntax p) = omega arith
+high_clause file (clause.NotUnit p) = omega arith
+high_clause file (clause.NotEquality p) = omega arith
+high_clause file (clause.BadRole p w) = omega arith
+high_clause file (clause.Unsupported p w) = omega arith
+high_clause file (clause.Limit p w) = omega arith
+high_clause file clause.NoMemory = omega arith
+
+pub high_status : (why : LoadFault) → 2 < load_status why
+high_status (load.Absent f from) = omega arith
+high_status (load.ReadFault f) = omega arith
+high_status (load.TooDeep f p) = omega arith
+high_status (load.NoSuchName f p n) = omega arith
+high_status (load.ArityClash f p n a b) = omega arith
+high_status (load.Limit f p w) = omega arith
+high_status (load.Clause f w) = high_clause f w
+high_status load.NoMemory = omega arith
+
+-- A PROBLEM THAT ISN'T LOADED
+
+module _ (table : Table) (command : Command) (name : List ℕ) (holds : Option Files) (before now : ℕ) where
+  refused : (o : Option Files) (why : LoadFault) → load_status why ≡ 3 → IsLoadFault table o before now command.root name why → ProveAnswers table command name o before now 3 (status_line (unloaded_word why) name ++ load_line why)
+  refused None why e h = is_refused why tt e
+  refused (Some files) why e h = is_refused why (refuses table before now (λ _ _ _. Unit {0}) command.root name files why e h) e
+
+  refused_clause : (file : List ℕ) (why : ClauseFault) → (load_status (load.Clause file why) ≡ 7 → ⊥) → IsLoadFault table holds before now command.root name (load.Clause file why) → ProveAnswers table command name holds before now (load_status (load.Clause file why)) (status_line (unloaded_word (load.Clause file why)) name ++ load_line (load.Clause file why))
+  refused_clause file (clause.Syntax p) n h = refused holds (load.Clause file (clause.Syntax p)) refl h
+  refused_clause file (clause.NotUnit p) n h = refused holds (load.Clause file (clause.NotUnit p)) refl h
+  refused_clause file (clause.NotEquality p) n h = refused holds (load.Clause file (clause.NotEquality p)) refl h
+  refused_clause file (clause.BadRole p w) n h = refused holds (load.Clause file (clause.BadRole p w)) refl h
+  refused_clause file (clause.Unsupported p w) n h = refused holds (load.Clause file (clause.Unsupported p w)) refl h
+  refused_clause file (clause.Limit p w) n h = refused holds (load.Clause file (clause.Limit p w)) refl h
+  refused_clause file clause.NoMemory n h = absurd (n refl)
+
+  not_loaded : (why : LoadFault) → (load_status why ≡ 7 → ⊥) → IsLoadFault table holds before now command.root name why → ProveAnswers table command name holds before now (load_status why) (status_line (unloaded_word why) name ++ load_line why)
+  not_loaded (load.Absent f from) n h = refused holds (load.Absent f from) refl h
+  not_loaded (load.ReadFault f) n h = fetch_fails f h.0 (fails table before now (λ _ _ _. Unit {0}) command.root name holds f h)
+  not_loaded (load.TooDeep f p) n h = refused holds (load.TooDeep f p) refl h
+  not_loaded (load.NoSuchName f p m) n h = refused holds (load.NoSuchName f p m) refl h
+  not_loaded (load.ArityClash f p m a b) n h = refused holds (load.ArityClash f p m a b) refl h
+  not_loaded (load.Limit f p w) n h = refused holds (load.Limit f p w) refl h
+  not_loaded (load.Clause f w) n h = refused_clause f w n h
+  not_loaded load.NoMemory n h = absurd (n refl)
+
+  pub unloaded : (why : LoadFault) (r : Result Answer AllocError) → IsLoadFault table holds before now command.root name why → IfOk r (λ answer. (answer.status ≡ load_status why) × (joined answer.lines ≡ status_line (unloaded_word why) name ++ load_line why)) → IfOk r (λ answer. answer.status ≡ 7 → ⊥) → IfOk r (λ answer. ProveAnswers table command name holds before now answer.status (joined answer.lines))
+  unloaded why (Ok answer) h line n = one_line (Ok answer) (ProveAnswers table command name holds before now) (load_status why) (status_line (unloaded_word why) name ++ load_line why) line (not_loaded why (λ e. n (line.0 ∙ e)) h)
+  unloaded why (Err fault) h line n = tt
+
+-- A PROBLEM THAT IS LOADED
+
+pub loaded : (table later : Table) (command : Command) (name : List ℕ) (holds : Option Files) (before now : ℕ) (problem : Problem) (r : Result Answer AllocError) → Grows table later → IsProblem table holds command.root name problem → IfOk r (λ answer. IsProveAnswer later command name problem answer.status (joined answer.lines)) → IfOk r (λ answer. ProveAnswers later command name holds before now answer.status (joined answer.lines))
+loaded table later command name holds before now problem (Ok answer) g h a = is_loaded (held_problem table later holds command.root name problem g h) a
+loaded table later command name holds before now problem (Err fault) g h a = tt
+
+-- visible bytes and spaces end no line
+byte_in_line : (b : ℕ) → 32 ≤ b → in_line b ≡ true
+byte_in_line b h = ap not (ne_eqb b 10 (λ e. omega (arith, h, e)))
+
+seen_in_line : (bytes : List ℕ) → are_seen bytes ≡ true → list_all in_line bytes ≡ true
+seen_in_line [] e = refl
+seen_in_line (b ∷ bs) e =
+    let p = and_parts (nat_le 32 b && nat_le b 126) (are_seen bs) e in
+    let low = leb-true 32 b (and_parts (nat_le 32 b) (nat_le b 126) p.0).0 in
+    rw (byte_in_line b low) (seen_in_line bs p.1)
+
+pub loaded_kept : (table later : Table) (command : Command) (name : List ℕ) (holds : Option Files) (problem : Problem) (r : Result Answer AllocError) → Grows table later → IsProblem table holds command.root name problem → are_seen name ≡ true → 0 < length name → IsRootSeen command.root → IfOk r (λ answer. answer.status ≤ 2 → CanBePrinted later name problem → Keeps later command name problem answer.status (joined answer.lines)) → IfOk r (λ answer. answer.status ≤ 2 → (files : Files) → holds ≡ Some files → IsKept later files command name answer.status (joined answer.lines))
+loaded_kept table later command name holds problem (Ok answer) g h seen some root k = λ few files told.
+    let held : Holds later files command.root name problem = subst (λ (o : Option Files). IsProblem table o command.root name problem) told h later g in
+    let can : CanBePrinted later name problem = record { name = (some, seen_in_line name seen); clauses = held_printable later files command.root name problem (some, seen) root held } in
+    record { problem = problem; holds = held; keeps = k few can }
+loaded_kept table later command name holds problem (Err fault) g h seen some root k = tt
+
+-- A PROBLEM THAT IS ENCODED
+
+module _ (table : Table) (command : Command) (name : List ℕ) (problem : Problem) where
+  abbrev pub Answers : Result Answer AllocError → Type 0
+  Answers r = IfOk r (λ answer. IsProveAnswer table command name problem answer.status (joined answer.lines))
+
+  abbrev pub Promises : Result Answer AllocError → Type 0
+  Promises r = IfOk r (λ answer. answer.status ≤ 2 → CanBePrinted table name problem → Keeps table command name problem answer.status (joined answer.lines))
+
+  -- by a later table
+  pub large : (number : ℕ) (goal : Sourced) (told : Answer) (r : Result Answer AllocError) → IsEncoded table problem (Err (GoalTooLarge number)) → goal ≡ get_or problem.clauses number goal → (told.status ≡ 3) × (joined told.lines ≡ large_line goal) → IfOk r (λ made. (made.status ≡ told.status) × (joined made.lines ≡ status_line (codes "InputError") name ++ joined told.lines)) → Answers r
+  large number goal told (Ok made) h at line m = rw (m.0 ∙ line.0, m.1, line.1) (has_large_goal {number = number} (h table (Grows-refl table)) (slice_get_read problem.clauses (length problem.clauses) number goal refl (large_within table problem number h) at))
+  large number goal told (Err fault) h at line m = tt
+
+  pub large_promises : (told : Answer) (line : List ℕ) (r : Result Answer AllocError) → told.status ≡ 3 → IfOk r (λ made. (made.status ≡ told.status) × (joined made.lines ≡ line)) → Promises r
+  large_promises told line (Ok made) three m = λ few. absurd (omega (arith, few, three, m.0))
+  large_promises told line (Err fault) three m = tt
+
+  -- AN ORDER
+
+  pub unordered : (encoded : Encoded) (why : ChoiceFault) (r : Result Answer AllocError) → Encodes table problem (Ok encoded) → IsChoiceFault table problem.signature command.order why → IfOk r (λ answer. (answer.status ≡ 4) × (joined answer.lines ≡ choice_line why)) → IfOk r (λ _. why ≡ NoMemory → ⊥) → Answers r
+  unordered encoded why (Ok answer) e h line n = one_line (Ok answer) (IsProveAnswer table command name problem) 4 (choice_line why) line (is_unordered e h n)
+  unordered encoded why (Err fault) e h line n = tt
+
+  pub unordered_promises : (line : List ℕ) (r : Result Answer AllocError) → IfOk r (λ answer. (answer.status ≡ 4) × (joined answer.lines ≡ line)) → Promises r
+  unordered_promises line r h = no_promise (λ (answer : Answer). CanBePrinted table name problem → Keeps table command name problem answer.status (joined answer.lines)) 4 line r (omega arith) h
+
+  -- A SEARCH
+
+  module _ (encoded : Encoded) (spec : OrderSpec) (v : Verdict) (s : State) where
+    pub searched : (r : Result Answer AllocError) → HasEnded table command problem encoded spec v s → IfOk r (λ answer. answer.status ≡ verdict_status v) → IfOk r (λ answer. (text : List ℕ) × VerdictAnswers table command name problem encoded spec s v text × (joined answer.lines ≡ text ++ trace_if command s)) → Answers r
+    searched (Ok answer) h e a = rw (e, a.2) (is_searched h.encodes h.chosen h.searched a.1)
+    searched (Err fault) h e a = tt
+
+    pub searched_promises : (r : Result Answer AllocError) → IfOk r (λ answer. answer.status ≡ verdict_status v) → IfOk r (λ answer. CanBePrinted table name problem → Keeps table command name problem (verdict_status v) (joined answer.lines)) → Promises r
+    searched_promises (Ok answer) e k = λ few can. rw e (k can)
+    searched_promises (Err fault) e k = tt
+
+    pub ended : (start : State) (m : Meaning) (o : Opening) (w : ℕ) → Agrees table problem → Encodes table problem (Ok encoded) → IsChosen table problem.signature command.order encoded.fresh spec → Fits table encoded.signature.symbols spec → m ≡ meaning_of table spec → o ≡ opening_for command encoded → w ≡ 0 → Starts o start → Searches m o w start v s → HasEnded table command problem encoded spec v s
+    ended start m o w agrees encodes is_chosen fits is_m is_o is_w starts searches = record {
+      agrees = agrees;
+      encodes = encodes;
+      chosen = is_chosen;
+      fits = fits;
+      searched = record { start = start; starts = rw is_o at starts; searches = rw (is_m, is_o, is_w) at searches };
+    }
+
+-- a book that has just been opened has no commits, and no task is out
+pub starts_fresh : (o : Opening) (s : State) (w : ℕ) → Starts o s → (0 ≡ commits_by w s.history) × (s.out ≡ [])
+starts_fresh o s w (axioms_wait le) = (refl, refl)
+starts_fresh o s w (too_many_axioms lt) = (refl, refl)
