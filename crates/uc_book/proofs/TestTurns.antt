@@ -24,7 +24,7 @@ pub can_be_done : (m : Meaning) (o : Opening) (axioms : List Equation) (es : Lis
 can_be_done m o axioms es (Goal g l r) e c = tt
 can_be_done m o axioms es (More g l r) e c = tt
 can_be_done m o axioms es (Meet i) e c = c
-can_be_done m o axioms es (Join p origin) e c = subst (λ as. CanBeDone m as es (Join p origin)) e c
+can_be_done m o axioms es (Join p origin) e c = subst (λ others. CanBeDone m others es (Join p origin)) e c
 
 abbrev IfDrained : Reply → State → Type 0
 IfDrained (Drew t) u = ⊤

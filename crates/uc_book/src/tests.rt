@@ -38,6 +38,24 @@ fn goal_rests(goal: u32) -> Happening {
     }
 }
 
+// The events by which the goal is proved.
+fn proving() -> [Event; 7] {
+    let met = Happening::CommitGoal {
+        goal: 0,
+        steps: 1,
+        end: GoalEnd::Met,
+    };
+    [
+        by(0, Happening::DrawGoal { goal: 0, front: 0 }),
+        by(0, goal_rests(0)),
+        by(0, Happening::DrawJoin { pair: 0, front: 0 }),
+        by(0, Happening::CommitKept { pair: 0, fact: 0 }),
+        by(0, Happening::DrawGoal { goal: 0, front: 1 }),
+        by(0, met),
+        by(0, Happening::Close(Ending::Proved)),
+    ]
+}
+
 // Over f(a) = b the ends of the goal f(f(a)) = f(b) meet by one step on the left: it rests at first, and is due again when the
 // axiom is kept.
 #[test]
@@ -60,44 +78,13 @@ fn a_goal_is_proved(rt: HostRuntime) -> Result<(), Fail> {
         (book.counted(), book.front().len(), pass.commits()),
         (1, 1, 3)
     );
-    let met = Happening::CommitGoal {
-        goal: 0,
-        steps: 1,
-        end: GoalEnd::Met,
-    };
-    let events = [
-        by(0, Happening::DrawGoal { goal: 0, front: 0 }),
-        by(0, goal_rests(0)),
-        by(0, Happening::DrawJoin { pair: 0, front: 0 }),
-        by(0, Happening::CommitKept { pair: 0, fact: 0 }),
-        by(0, Happening::DrawGoal { goal: 0, front: 1 }),
-        by(0, met),
-        by(0, Happening::Close(Ending::Proved)),
-    ];
-    assert_eq!(rt; book.history(), events.as_slice());
+    assert_eq!(rt; book.history(), proving().as_slice());
     Ok(())
 }
 
-// The fact f(b) = f(a) kills f(f(b)) = a, whose overlap with it is an orphan, and which comes back as f(f(a)) = a: pair 2.
-#[test]
-fn a_killed_fact_comes_back(rt: HostRuntime) -> Result<(), Fail> {
-    let alloc = rt.alloc();
-    let problem = problem(alloc, &[LONG, EVEN], &[])?;
-    let (order, shelf) = (order(alloc)?, Shelf::new(alloc)?);
-    let mut book = Book::start(alloc, &problem, &order, &shelf, 9, 9)?;
-    let mut pass = book.enroll(alloc, 3)?;
-    turns(
-        &rt, alloc, &problem, &order, &shelf, &mut book, &mut pass, 6,
-    )?;
-    assert_eq!(rt;
-        end(alloc, &order, &shelf, &mut book, &mut pass)?,
-        Verdict::Saturated
-    );
-    assert_eq!(rt;
-        (book.counted(), book.front().len(), pass.worker()),
-        (3, 4, 3)
-    );
-    let events = [
+// The events by which the first fact dies and comes back.
+fn killing() -> [Event; 13] {
+    [
         by(3, Happening::DrawJoin { pair: 0, front: 0 }),
         by(3, Happening::CommitKept { pair: 0, fact: 0 }),
         by(3, Happening::DrawMeet { fact: 0, front: 1 }),
@@ -132,9 +119,40 @@ fn a_killed_fact_comes_back(rt: HostRuntime) -> Result<(), Fail> {
             },
         ),
         by(0, Happening::Close(Ending::Saturated)),
-    ];
-    assert_eq!(rt; book.history(), events.as_slice());
+    ]
+}
+
+// The fact f(b) = f(a) kills f(f(b)) = a, whose overlap with it is an orphan, and which comes back as f(f(a)) = a: pair 2.
+#[test]
+fn a_killed_fact_comes_back(rt: HostRuntime) -> Result<(), Fail> {
+    let alloc = rt.alloc();
+    let problem = problem(alloc, &[LONG, EVEN], &[])?;
+    let (order, shelf) = (order(alloc)?, Shelf::new(alloc)?);
+    let mut book = Book::start(alloc, &problem, &order, &shelf, 9, 9)?;
+    let mut pass = book.enroll(alloc, 3)?;
+    turns(
+        &rt, alloc, &problem, &order, &shelf, &mut book, &mut pass, 6,
+    )?;
+    assert_eq!(rt;
+        end(alloc, &order, &shelf, &mut book, &mut pass)?,
+        Verdict::Saturated
+    );
+    assert_eq!(rt;
+        (book.counted(), book.front().len(), pass.worker()),
+        (3, 4, 3)
+    );
+    assert_eq!(rt; book.history(), killing().as_slice());
     Ok(())
+}
+
+// The events of a goal that is drawn twice.
+fn drawing_again() -> [Event; 4] {
+    [
+        by(1, Happening::DrawGoal { goal: 0, front: 0 }),
+        by(1, Happening::ReclaimGoal { goal: 0 }),
+        by(1, Happening::DrawGoal { goal: 0, front: 0 }),
+        by(1, goal_rests(0)),
+    ]
 }
 
 // A task is drawn, put back and drawn again: what was found under the old ticket is refused before and after what was found
@@ -163,13 +181,7 @@ fn an_old_ticket_is_refused(rt: HostRuntime) -> Result<(), Fail> {
         return Err(Fail::from("taken twice"));
     };
     assert_eq!(rt; (fault, pass.commits()), (CommitFault::NotOut(0), 1));
-    let events = [
-        by(1, Happening::DrawGoal { goal: 0, front: 0 }),
-        by(1, Happening::ReclaimGoal { goal: 0 }),
-        by(1, Happening::DrawGoal { goal: 0, front: 0 }),
-        by(1, goal_rests(0)),
-    ];
-    assert_eq!(rt; book.history(), events.as_slice());
+    assert_eq!(rt; book.history(), drawing_again().as_slice());
     Ok(())
 }
 
@@ -203,6 +215,22 @@ fn what_is_out_is_recalled(rt: HostRuntime) -> Result<(), Fail> {
     Ok(())
 }
 
+// The events of two goals, of which the second is proved first.
+fn coming_late() -> [Event; 5] {
+    let met = Happening::CommitGoal {
+        goal: 1,
+        steps: 0,
+        end: GoalEnd::Met,
+    };
+    [
+        by(0, Happening::DrawGoal { goal: 0, front: 0 }),
+        by(64, Happening::DrawGoal { goal: 1, front: 0 }),
+        by(64, met),
+        by(64, Happening::Close(Ending::Proved)),
+        by(0, Happening::CommitLate { ticket: 0 }),
+    ]
+}
+
 // A result that comes when the other goal is proved is counted, and changes nothing else.
 #[test]
 fn a_result_comes_late(rt: HostRuntime) -> Result<(), Fail> {
@@ -222,19 +250,7 @@ fn a_result_comes_late(rt: HostRuntime) -> Result<(), Fail> {
             Drawn::Closed(Verdict::Proved(1))
         )
     );
-    let met = Happening::CommitGoal {
-        goal: 1,
-        steps: 0,
-        end: GoalEnd::Met,
-    };
-    let events = [
-        by(0, Happening::DrawGoal { goal: 0, front: 0 }),
-        by(64, Happening::DrawGoal { goal: 1, front: 0 }),
-        by(64, met),
-        by(64, Happening::Close(Ending::Proved)),
-        by(0, Happening::CommitLate { ticket: 0 }),
-    ];
-    assert_eq!(rt; book.history(), events.as_slice());
+    assert_eq!(rt; book.history(), coming_late().as_slice());
     Ok(())
 }
 
