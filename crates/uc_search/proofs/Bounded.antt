@@ -1,7 +1,6 @@
 -- How long a search by one worker is.
-use Rattle.std.proofs.Common.{◌≡◌, ℕ, zero, suc, ◌+◌, ◌*◌, ◌<◌, ◌≤◌, List, [], ◌∷◌, length, map, ◌≢◌, Option, Some, None, refl, ap, sym, ◌∙◌, arith, subst, mul-add, mul-one, mul-le-mul_left}
+use Rattle.std.proofs.Common.{◌≡◌, ℕ, suc, ◌+◌, ◌*◌, ◌<◌, ◌≤◌, List, [], ◌∷◌, length, map, ◌≢◌, Option, Some, None, refl, ap, ◌∙◌, arith, subst, mul-add, mul-one, mul-le-mul_left}
 use Rattle.std.specs.List.{sum_by}
-use Rattle.std.proofs.lemmas.List.{length-map}
 use Rattle.std.proofs.lemmas.List.Sums.{sum_by-cons}
 use Rattle.uc_order.specs.Laws.{Meaning}
 use Rattle.uc_shelf.specs.declared.entry.Entry.{Entry}
@@ -11,17 +10,15 @@ use Rattle.uc_term.specs.declared.equation.Equation.{Equation}
 use Rattle.uc_machine.specs.declared.event.Verdict.{Verdict}
 use Rattle.uc_machine.specs.declared.event.Verdict.TheVariants.{PairsOut}
 use Rattle.uc_machine.specs.declared.task.Missing.{Missing}
-use Rattle.uc_machine.specs.declared.task.Outcome.{Outcome}
 use Rattle.uc_machine.specs.declared.task.Outcome.TheVariants.{Missing as Lacks}
 use Rattle.uc_machine.specs.State.{Opening, State, Pair, Out, dead_of, draws_in}
 use Rattle.uc_machine.specs.Effects.{unit_of}
 use Rattle.uc_machine.specs.Draws.{Drew, Drained, Closed}
 use Rattle.uc_machine.specs.Finals.{IsFinal, some_missing}
-use Rattle.uc_machine.specs.Runs.{Reaches, draws_on, goal_of, axiom_pairs, opened, Starts, axioms_wait, too_many_axioms, AuditReply, KeptAs, ClosedBy, Audits, is_closed, is_spent, is_kept, Closes, converges, has_large, has_stuck}
-use Rattle.uc_machine.proofs.Kept.{Kept}
+use Rattle.uc_machine.specs.Runs.{Reaches, draws_on, goal_of, axiom_pairs, opened, Starts, axioms_wait, too_many_axioms, KeptAs, ClosedBy, Audits, is_closed, is_spent, is_kept, converges, has_large, has_stuck}
 use Rattle.uc_machine.proofs.Runs.{kept_reaches}
 use Rattle.uc_runs.proofs.Replaying.{chains_replay}
-use Rattle.uc_search.specs.Working.{TakesTurn, Works, no_turn, one_more_turn, WorksUntil}
+use Rattle.uc_search.specs.Working.{TakesTurn, Works, no_turn, one_more_turn}
 use Rattle.uc_search.specs.Searching.{AuditsAll, all_are_kept, one_is_kept, book_is_closed, EndsRound, is_closed_by, audits_missing, Rounds, gets_verdict, gets_drained, Searches, last_round, next_round, IsSearched}
 use Rattle.uc_search.specs.Bounds.{rounds_in, IsBounded}
 use Rattle.uc_search.proofs.Distinct.{few_distinct}

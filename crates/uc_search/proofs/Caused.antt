@@ -1,32 +1,32 @@
 -- A search that ends at a limit has its cause.
-use Rattle.std.proofs.Common.{◌≡◌, ℕ, ◌+◌, ◌<◌, ◌≤◌, List, [], ◌∷◌, length, count_by, Option, Some, None, refl, ap, sym, ◌∙◌, arith, subst}
+use Rattle.std.proofs.Common.{◌≡◌, ℕ, ◌+◌, ◌<◌, ◌≤◌, List, [], ◌∷◌, length, count_by, Some, None, refl, ap, ◌∙◌, arith, subst}
 use Rattle.uc_order.specs.Laws.{Meaning}
 use Rattle.uc_fact.specs.declared.chain.Chain.{Chain}
 use Rattle.uc_fact.specs.declared.fact.Stop.{Stop}
 use Rattle.uc_machine.specs.declared.event.Verdict.{Verdict}
-use Rattle.uc_machine.specs.declared.event.Verdict.TheVariants.{Proved, Saturated, BudgetOut, PairsOut, LargeOverlap, LargeGoal}
+use Rattle.uc_machine.specs.declared.event.Verdict.TheVariants.{Proved, BudgetOut, PairsOut}
 use Rattle.uc_machine.specs.declared.event.GoalEnd.{GoalEnd}
 use Rattle.uc_machine.specs.declared.event.Happening.{Happening}
-use Rattle.uc_machine.specs.declared.event.Happening.TheVariants.{CommitGoal, CommitMore, CommitMeet}
+use Rattle.uc_machine.specs.declared.event.Happening.TheVariants.{CommitGoal, CommitMore}
 use Rattle.uc_machine.specs.declared.task.Finding.{Finding}
 use Rattle.uc_machine.specs.declared.task.Job.TheVariants.{Meet}
 use Rattle.uc_machine.specs.declared.task.Missing.{Missing}
 use Rattle.uc_machine.specs.declared.task.Outcome.{Outcome}
 use Rattle.uc_machine.specs.Lists.{each}
 use Rattle.uc_machine.specs.State.{Opening, State, Out, waiting, is_unit}
-use Rattle.uc_machine.specs.Effects.{accepts, closes, drops, is_met, kills, visits}
-use Rattle.uc_machine.specs.Draws.{Reply, Drew, Drained, Closed, Draws, verdict_stands, goal_is_due, fact_is_unmet, orphan_is_dropped, goal_is_continued, pair_is_drawn, budget_is_out, budget_is_spent, all_is_out, all_is_done, Waits, goal_waits, pair_waits}
+use Rattle.uc_machine.specs.Effects.{closes, drops, kills, visits}
+use Rattle.uc_machine.specs.Draws.{Reply, Drained, Closed, Draws, verdict_stands, goal_is_due, fact_is_unmet, orphan_is_dropped, goal_is_continued, pair_is_drawn, budget_is_out, budget_is_spent, all_is_out, all_is_done, Waits, goal_waits, pair_waits}
 use Rattle.uc_machine.specs.Commits.{GoalEnds, ends_meet, ends_differ, Meets, within_limit, past_limit, newly_waiting, stays, Commits, is_late, goal_ends, more_ends, pair_joins, fact_is_kept, fact_is_stale, fact_is_dead, fact_meets}
 use Rattle.uc_machine.specs.Finals.{IsFinal}
 use Rattle.uc_machine.specs.Promises.{CountsUnits}
-use Rattle.uc_machine.specs.Runs.{Reaches, Starts, axioms_wait, too_many_axioms, opened, KeptAs, ClosedBy, Audits, is_closed, is_spent, is_kept, Closes, converges, has_large, has_stuck, IsDrained}
+use Rattle.uc_machine.specs.Runs.{Starts, axioms_wait, too_many_axioms, opened, KeptAs, ClosedBy, Audits, is_closed, is_spent, Closes, converges, has_large, has_stuck, IsDrained}
 use Rattle.uc_machine.proofs.Runs.{kept_reaches}
 use Rattle.uc_machine.proofs.Promises.{counts_units, ends_pairs_once}
-use Rattle.uc_search.specs.Working.{TakesTurn, Works, no_turn, one_more_turn, WorksUntil}
-use Rattle.uc_search.specs.Searching.{AuditsAll, all_are_kept, one_is_kept, book_is_closed, EndsRound, is_closed_by, audits_missing, Rounds, gets_verdict, gets_drained, Searches, last_round, next_round, IsSearched}
-use Rattle.uc_search.specs.Causes.{SomethingWaits, waits_in_book, waits_for_audit, WouldWait, at_start, at_meeting, HasCause, budget_is_spent as is_spent_all, pairs_are_too_many, overlap_is_large, goal_is_stuck, HasCauseIfStopped}
+use Rattle.uc_search.specs.Working.{TakesTurn, Works, no_turn, one_more_turn}
+use Rattle.uc_search.specs.Searching.{AuditsAll, one_is_kept, book_is_closed, EndsRound, is_closed_by, audits_missing, Rounds, gets_verdict, gets_drained, Searches, last_round, next_round, IsSearched}
+use Rattle.uc_search.specs.Causes.{waits_in_book, waits_for_audit, at_start, at_meeting, budget_is_spent as is_spent_all, pairs_are_too_many, overlap_is_large, goal_is_stuck, HasCauseIfStopped}
 use Rattle.uc_search.proofs.Turns.{leaves, Stays, kills_stay, visits_stay}
-use Rattle.uc_search.proofs.Rests.{Rests, WereMissing, may_audit, missing_on, missing_first, audit_leaves, start_rests, works_rest, draws_one, turn_rests, drained_rests, closed_rests, round_rests, round_verdict}
+use Rattle.uc_search.proofs.Rests.{Rests, WereMissing, may_audit, missing_on, missing_first, audit_leaves, start_rests, works_rest, draws_one, closed_rests, round_rests, round_verdict}
 
 two_verdicts : {A : Type 0} (s : State) (v : Verdict) → s.verdict ≡ None → s.verdict ≡ Some v → A
 two_verdicts s v e f = absurd (cc)

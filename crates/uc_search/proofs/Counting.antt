@@ -1,5 +1,5 @@
 -- How many commits a history has of a worker, call by call.
-use Rattle.std.proofs.Common.{◌≡◌, ℕ, ◌+◌, ◌-◌, ◌^◌, ◌<◌, List, [], ◌∷◌, ◌++◌, cond, true, false, ◌==◌, ◌&&◌, min, refl, ap, ◌∙◌, sym, arith}
+use Rattle.std.proofs.Common.{◌≡◌, ℕ, ◌+◌, ◌-◌, ◌^◌, ◌<◌, List, [], ◌∷◌, ◌++◌, cond, true, false, ◌==◌, ◌&&◌, min, refl, ap, ◌∙◌, arith}
 use Rattle.std.proofs.lemmas.Bool.{eq-eqb}
 use Rattle.std.proofs.lemmas.List.Sums.{sum_by_push}
 use Rattle.uc_fact.specs.declared.chain.Chain.{Chain}
@@ -10,7 +10,7 @@ use Rattle.uc_machine.specs.declared.event.Event.{Event}
 use Rattle.uc_machine.specs.declared.event.GoalEnd.{GoalEnd}
 use Rattle.uc_machine.specs.declared.event.GoalEnd.TheVariants.{Met as EndsMet}
 use Rattle.uc_machine.specs.declared.event.Happening.{Happening}
-use Rattle.uc_machine.specs.declared.event.Happening.TheVariants.{DrawGoal, DrawMore, DrawMeet, DrawJoin, Dropped, CommitGoal, CommitMore, CommitMeet, CommitJoined, CommitKept, CommitLate, ReclaimGoal, ReclaimMore, ReclaimMeet, ReclaimJoin, AuditKept, Close}
+use Rattle.uc_machine.specs.declared.event.Happening.TheVariants.{Dropped, CommitGoal, CommitMore, CommitMeet, CommitJoined, CommitKept, CommitLate}
 use Rattle.uc_machine.specs.declared.task.Finding.{Finding}
 use Rattle.uc_machine.specs.declared.task.Missing.{Missing}
 use Rattle.uc_machine.specs.declared.task.Outcome.{Outcome}

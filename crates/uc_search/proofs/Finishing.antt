@@ -3,7 +3,6 @@ use Rattle.std.proofs.Common.{◌≡◌, ℕ, ◌+◌, ◌-◌, ◌^◌, ◌<◌
 use Rattle.uc_order.specs.Laws.{Meaning}
 use Rattle.uc_term.specs.declared.equation.Equation.{Equation}
 use Rattle.uc_shelf.specs.declared.entry.Entry.{Entry}
-use Rattle.uc_machine.specs.declared.task.Finding.{Finding}
 use Rattle.uc_machine.specs.declared.task.Job.{Job}
 use Rattle.uc_machine.specs.State.{Opening, State, Out, out_at}
 use Rattle.uc_machine.specs.Effects.{reclaims}

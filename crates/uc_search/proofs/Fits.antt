@@ -1,6 +1,6 @@
 -- What bounds the draws of a search, step by step. Each draw of a goal has a goal that was Due, each draw of a meeting a fact that
 -- was Unmet, each other draw a unit. A goal is Due at the start and again after an entry at most.
-use Rattle.std.proofs.Common.{◌≡◌, ℕ, zero, suc, ◌+◌, ◌-◌, ◌*◌, ◌<◌, ◌≤◌, List, [], ◌∷◌, ◌++◌, length, map, count_by, Bool, true, false, cond, Some, None, refl, ap, ap₂, sym, ◌∙◌, arith, inl, inr, subst, mul-suc, length-append}
+use Rattle.std.proofs.Common.{◌≡◌, ℕ, suc, ◌+◌, ◌-◌, ◌*◌, ◌<◌, ◌≤◌, List, [], ◌∷◌, ◌++◌, length, count_by, true, false, cond, None, refl, ap, ap₂, ◌∙◌, arith, inl, inr, subst, mul-suc}
 use Rattle.std.proofs.lemmas.Bool.{cases_Bool}
 use Rattle.std.proofs.lemmas.List.Sums.{sum_by_push}
 use Rattle.std.proofs.lemmas.List.{append-nil, length_push, length-map}
@@ -8,8 +8,7 @@ use Rattle.uc_fact.specs.declared.chain.Chain.{Chain}
 use Rattle.uc_fact.specs.declared.fact.Fact.{Fact}
 use Rattle.uc_fact.specs.declared.fact.Stop.{Stop}
 use Rattle.uc_pair.specs.declared.formed.Formed.{Formed}
-use Rattle.uc_ledger.specs.declared.ledger.State.TheVariants.{Done, Orphan}
-use Rattle.uc_shelf.specs.declared.entry.Entry.{Entry}
+use Rattle.uc_ledger.specs.declared.ledger.State.TheVariants.{Done}
 use Rattle.uc_shelf.specs.declared.entry.Entry.TheVariants.{Born, Dies}
 use Rattle.uc_shelf.specs.Entries.{born, is_dead}
 use Rattle.uc_machine.specs.declared.state.Meeting.{Meeting}
@@ -22,20 +21,18 @@ use Rattle.uc_machine.specs.declared.event.GoalEnd.{GoalEnd}
 use Rattle.uc_machine.specs.declared.event.Happening.{Happening}
 use Rattle.uc_machine.specs.declared.event.Happening.TheVariants.{DrawGoal, DrawMore, DrawMeet, DrawJoin, Dropped, CommitGoal, CommitMore, CommitMeet, CommitJoined, CommitKept, AuditKept, Close}
 use Rattle.uc_machine.specs.declared.task.Finding.{Finding}
-use Rattle.uc_machine.specs.declared.task.Job.{Job}
-use Rattle.uc_machine.specs.declared.task.Job.TheVariants.{Goal, More, Meet, Join}
-use Rattle.uc_machine.specs.Lists.{At, change, each}
+use Rattle.uc_machine.specs.Lists.{change, each}
 use Rattle.uc_machine.specs.State.{Opening, State, Target, Out, draws_in, is_draw, is_due, is_unmet}
-use Rattle.uc_machine.specs.Effects.{accepts, closes, ending_of, dies, drops, draw_event, ends, forms, goes_on, hands_out, is_met, keeps, kills, meets_unmet, publishes, stages, takes_ends, task_for, turns, unit_of, visits, wakes}
+use Rattle.uc_machine.specs.Effects.{accepts, closes, ending_of, dies, drops, goes_on, is_met, keeps, kills, meets_unmet, publishes, stages, takes_ends, turns, unit_of, visits, wakes}
 use Rattle.uc_machine.specs.Events.{draw_in}
 use Rattle.uc_machine.specs.Draws.{Reply, Draws, verdict_stands, goal_is_due, fact_is_unmet, orphan_is_dropped, goal_is_continued, pair_is_drawn, budget_is_out, budget_is_spent, all_is_out, all_is_done}
 use Rattle.uc_machine.specs.Commits.{GoalEnds, ends_meet, ends_differ, StageAfter, after_steps, full_but_grown, size_but_grown, after_full, after_size, Meets, within_limit, past_limit, newly_waiting, stays, Commits, is_late, goal_ends, more_ends, pair_joins, fact_is_kept, fact_is_stale, fact_is_dead, fact_meets}
-use Rattle.uc_machine.proofs.Accounts.{draws_in-push, is_draw_event}
+use Rattle.uc_machine.proofs.Accounts.{draws_in-push}
 use Rattle.uc_machine.proofs.Blocks.{born-append, born-dies}
 use Rattle.uc_machine.proofs.Found.{first_is}
 use Rattle.uc_machine.proofs.Lists.{length-change}
-use Rattle.uc_search.specs.Bounds.{is_audit, is_audit_what}
-use Rattle.uc_search.proofs.Loads.{due_of, dues, dues-few, dues-wakes, dues-stage, dues-taken, dues-ends, unmet_of, unmets, unmets-change, met_less, died_less, unmets-taken, unmets-push}
+use Rattle.uc_search.specs.Bounds.{is_audit}
+use Rattle.uc_search.proofs.Loads.{due_of, dues, dues-few, dues-stage, dues-taken, dues-ends, unmets, unmets-change, met_less, died_less, unmets-taken, unmets-push}
 
 -- EVENTS
 

@@ -16,7 +16,6 @@ use Rattle.uc_book.specs.declared.answer.Audited.{Audited}
 use Rattle.uc_book.specs.Answers.{IsSameBook, audit_reply_of}
 use Rattle.uc_book.specs.Openings.{Opened, BookView, PassView, opening_of}
 use Rattle.uc_search.specs.declared.working.Turn.{Turn}
-use Rattle.uc_search.specs.declared.working.Turn.TheVariants.{Worked, Ends}
 use Rattle.uc_search.specs.Working.{CountsCommits, IsSamePass, EndsTask, is_committed, is_put_back, TurnsTo, takes_turn, lacks_result}
 use Rattle.uc_search.specs.Searching.{Rounds, EndsRound}
 

@@ -1,5 +1,5 @@
 -- One worker makes one search.
-use Rattle.std.proofs.Common.{◌≡◌, ◌≢◌, ℕ, List, [], ◌∷◌, Option, Some, None, take, refl, ap, sym, ◌∙◌, subst}
+use Rattle.std.proofs.Common.{◌≡◌, ℕ, List, Option, Some, None, take, refl, ap, sym, subst}
 use Rattle.uc_order.specs.Laws.{Meaning, Laws}
 use Rattle.uc_machine.specs.declared.event.Verdict.{Verdict}
 use Rattle.uc_machine.specs.declared.task.Finding.{Finding}
@@ -9,8 +9,7 @@ use Rattle.uc_machine.specs.declared.task.Outcome.TheVariants.{Missing as Lacks}
 use Rattle.uc_machine.specs.State.{Opening, State, Out}
 use Rattle.uc_machine.specs.Draws.{Reply, Drew, Idle, Drained, Closed, Draws}
 use Rattle.uc_machine.specs.Commits.{Commits}
-use Rattle.uc_machine.specs.Finals.{IsFinal}
-use Rattle.uc_machine.specs.Runs.{AuditReply, KeptAs, ClosedBy, Audits, Closes}
+use Rattle.uc_machine.specs.Runs.{KeptAs, ClosedBy, Closes}
 use Rattle.uc_machine.proofs.OneDraw.{one_draw}
 use Rattle.uc_machine.proofs.OneCall.{one_commit, one_audit, one_close, one_start}
 use Rattle.uc_runs.proofs.OneResult.{one_result, one_final}

@@ -1,5 +1,5 @@
 -- A search by one worker is a run of the machine. Between its turns no task is out.
-use Rattle.std.proofs.Common.{◌≡◌, ℕ, ◌<◌, List, [], ◌∷◌, ◌++◌, Option, Some, None, refl, ap, sym, ◌∙◌, subst}
+use Rattle.std.proofs.Common.{◌≡◌, ℕ, ◌<◌, List, [], ◌∷◌, ◌++◌, Option, Some, None, refl, ap, ◌∙◌}
 use Rattle.uc_order.specs.Laws.{Meaning}
 use Rattle.uc_order.specs.Members.{In, in_front, in_rest}
 use Rattle.uc_machine.specs.declared.event.Verdict.{Verdict}

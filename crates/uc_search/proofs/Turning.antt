@@ -1,8 +1,8 @@
 -- What a draw comes to where no task is out.
-use Rattle.std.proofs.Common.{◌≡◌, ℕ, List, [], ◌∷◌, ◌++◌, length, sym, ap, ◌∙◌, subst}
+use Rattle.std.proofs.Common.{◌≡◌, ℕ, [], ◌∷◌, ◌++◌, sym, ap, ◌∙◌, subst}
 use Rattle.uc_order.specs.Laws.{Meaning}
 use Rattle.uc_machine.specs.declared.event.Verdict.{Verdict}
-use Rattle.uc_machine.specs.State.{Opening, State, Out}
+use Rattle.uc_machine.specs.State.{Opening, State}
 use Rattle.uc_machine.specs.Draws.{Reply, Drew, Idle, Drained, Closed, Draws}
 use Rattle.uc_book.specs.declared.token.Task.{Task}
 use Rattle.uc_book.specs.declared.answer.Drawn.{Drawn}

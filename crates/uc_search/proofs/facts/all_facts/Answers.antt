@@ -1,4 +1,4 @@
-use Rattle.std.proofs.Common.{map, Bor, arith}
+use Rattle.std.proofs.Common.{map, Bor}
 use Rattle.uc_fact.specs.declared.fact.Fact.{Fact}
 use Rattle.uc_search.proofs.Births.{born_next}
 use Rattle.uc_search.proofs.facts.all_facts.Goals as goal

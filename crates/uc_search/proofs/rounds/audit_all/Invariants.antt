@@ -1,4 +1,3 @@
-use Rattle.std.proofs.Common.{◌≡◌, [], Some}
 use Rattle.uc_book.specs.Openings.{opening_of}
 use Rattle.uc_book.specs.Answers.{IsSameBook}
 use Rattle.uc_search.proofs.AllAudits.{Auditing}

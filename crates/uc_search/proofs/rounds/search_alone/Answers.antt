@@ -1,4 +1,4 @@
-use Rattle.std.proofs.Common.{refl, Some, None, subst}
+use Rattle.std.proofs.Common.{refl, subst}
 use Rattle.uc_book.specs.Openings.{opening_of}
 use Rattle.uc_search.specs.Searching.{Rounds, last_round, next_round}
 use Rattle.uc_search.proofs.Moved.{moved_round, same_book_on, same_pass_on}
