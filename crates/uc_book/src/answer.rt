@@ -17,9 +17,10 @@ pub enum Drawn {
     Closed(Verdict),
 }
 
-/// The number of a commit's event in the history, from 1.
+/// What a commit answers.
 #[derive(Clone, Copy, PartialEq, Eq, Debug)]
 pub struct Receipt {
+    /// The number of the commit's event in the history, from 1.
     pub event: u64,
 }
 
@@ -29,6 +30,7 @@ pub enum CommitFault {
     /// No such task of this ticket is out to the worker.
     #[error("no such task of ticket {0} is out to this worker")]
     NotOut(u64),
+    /// Memory is wanted; nothing changed.
     #[error("out of memory")]
     NoMemory,
 }

@@ -74,18 +74,27 @@ impl Pass {
 /// tasks that were drawn before it. It has the opening of the book from which it was drawn.
 #[derive(Drop)]
 pub struct Task {
+    /// How many tasks were drawn before it.
     pub ticket: u64,
+    /// What it is about.
     pub job: Job,
+    /// The entries over which it is to be computed.
     pub front: Front,
+    /// What its book was opened with.
     pub opening: Opened,
 }
 
 /// What was computed for a task: the task's ticket, job, front and opening, with what was found.
 #[derive(Drop)]
 pub struct Done {
+    /// The task's ticket.
     pub ticket: u64,
+    /// The task's job.
     pub job: Job,
+    /// The task's front, over which it was computed.
     pub front: Front,
+    /// What it came to.
     pub found: Finding,
+    /// The task's opening.
     pub opening: Opened,
 }

@@ -15,7 +15,7 @@ is_audit_what other = false
 abbrev pub is_audit : Event → Bool
 is_audit e = is_audit_what e.what
 
--- how many rounds a search makes, each but one that ends at work with one final pass
+-- how many rounds a search makes; each makes one final pass, but the last makes none where the verdict comes while the worker works
 abbrev pub rounds_in : {m : Meaning} {o : Opening} {w : ℕ} {s u : State} {v : Verdict} → Searches m o w s v u → ℕ
 rounds_in (last_round r) = 1
 rounds_in (next_round r rest) = suc (rounds_in rest)
