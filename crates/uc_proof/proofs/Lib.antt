@@ -12,6 +12,7 @@ pub mod Using
 pub mod Numbers
 pub mod Naming
 pub mod Printing
+pub mod TableLines
 pub mod PathOnce
 pub mod Once
 pub mod Writing

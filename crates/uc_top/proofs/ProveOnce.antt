@@ -1,5 +1,5 @@
 -- A problem and the words of `prove` have one answer.
-use Rattle.std.proofs.Common.{ℕ, ◌≡◌, ◌≤◌, List, ◌++◌, slice_get, Option, Some, None, Result, Ok, Err, refl, sym, ap, ap₂, ◌∙◌, subst}
+use Rattle.std.proofs.Common.{ℕ, ◌≡◌, ◌≤◌, List, ◌++◌, codes, slice_get, Option, Some, None, Result, Ok, Err, refl, sym, ap, ap₂, ◌∙◌, subst}
 use Rattle.uc_term.specs.declared.fresh.Fresh.{Fresh}
 use Rattle.uc_term.specs.Equations.{side_of}
 use Rattle.uc_term.specs.Positions.{IsPlaceOf}
@@ -78,13 +78,13 @@ module _ (one_search : OneSearch) (table : Table) (distinct : IsDistinct table) 
           p.text_is ∙ ap₂ (proof_text table name) once.1 once.0 ∙ sym q.text_is
 
       verdict_once : {v : Verdict} {x y : List ℕ} → VerdictAnswers table command name problem encoded spec s v x → VerdictAnswers table command name problem encoded spec s v y → x ≡ y
-      verdict_once (is_proved {goal = goal} p) (is_proved q) = ap (λ text. status_line _ name ++ text) (proof_once goal p q)
+      verdict_once (is_proved {goal = goal} p) (is_proved q) = ap (λ text. status_line (codes "Unsatisfiable") name ++ text) (proof_once goal p q)
       verdict_once (is_proved p) (is_out l) = isnt_proved command s l
       verdict_once is_saturated is_saturated = refl
       verdict_once is_saturated (is_out l) = isnt_saturated command s l
       verdict_once (is_out l) (is_proved q) = isnt_proved command s l
       verdict_once (is_out l) is_saturated = isnt_saturated command s l
-      verdict_once (is_out l) (is_out k) = ap (λ line. status_line _ name ++ line) (limit_once command s l k)
+      verdict_once (is_out l) (is_out k) = ap (λ line. status_line (codes "ResourceOut") name ++ line) (limit_once command s l k)
 
     laws : (encoded : Encoded) (spec : OrderSpec) → Encodes table problem (Ok encoded) → IsChosen table problem.signature command.order encoded.fresh spec → Laws (meaning_of table spec)
     laws encoded spec e c = spec_laws table (all_symbols problem.signature encoded.fresh) spec (chosen_fits table command problem encoded spec some most agrees e c)
@@ -92,7 +92,7 @@ module _ (one_search : OneSearch) (table : Table) (distinct : IsDistinct table) 
     pub prove_once : {s t : ℕ} {a b : List ℕ} → IsProveAnswer table command name problem s a → IsProveAnswer table command name problem t b → (s ≡ t) × (a ≡ b)
     prove_once (has_large_goal {number = number} m g) (has_large_goal {number = other} n h) =
         let numbers : other ≡ number = large_once table problem other number n m in
-        (refl, ap (λ goal. status_line _ name ++ large_line goal) (some_once g (ap (slice_get problem.clauses) (sym numbers) ∙ h)))
+        (refl, ap (λ goal. status_line (codes "InputError") name ++ large_line goal) (some_once g (ap (slice_get problem.clauses) (sym numbers) ∙ h)))
     prove_once (has_large_goal {number = number} m g) (is_unordered {encoded = encoded} e x n) = absurd (marked_or_large table problem encoded.fresh number e.0 m)
     prove_once (has_large_goal {number = number} m g) (is_searched {encoded = encoded} e c x v) = absurd (marked_or_large table problem encoded.fresh number e.0 m)
     prove_once (is_unordered {encoded = encoded} e x n) (has_large_goal {number = number} m g) = absurd (marked_or_large table problem encoded.fresh number e.0 m)

@@ -39,7 +39,7 @@ use Rattle.uc_top.specs.PrintableProblems.{CanBePrinted}
 use Rattle.uc_top.specs.ProveAnswers.{HasEnded, IsProofText}
 use Rattle.uc_top.specs.ProveRuns.{Certifies}
 use Rattle.uc_top.proofs.SearchEnds.{replay, encoding, parts_of, parts_printable, proved_goal, proves_goal}
-use Rattle.uc_top.proofs.ProofLines.{proof_lines_of, as_many_files}
+use Rattle.uc_proof.proofs.TableLines.{proof_lines_of, as_many_files}
 
 pub fresh_for : (table : Table) (problem : Problem) → Agrees table problem → (fresh : Option Fresh) → Marks table problem (Ok fresh) → AreFresh fresh problem.clauses
 fresh_for table problem agrees None m = tt

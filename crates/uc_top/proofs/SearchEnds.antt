@@ -44,7 +44,7 @@ use Rattle.uc_top.proofs.SpecSymbols.{table_term, order_term}
 use Rattle.uc_top.proofs.OverSignature.{IsEquationOver, encoded_problem_over}
 use Rattle.uc_top.proofs.PrintableFiles.{printable_at}
 use Rattle.uc_top.proofs.PrintableSymbols.{symbols_printable, encoded_symbols}
-use Rattle.uc_top.proofs.ProofLines.{IsChainOf, ArePartsOf}
+use Rattle.uc_proof.proofs.TableLines.{IsChainOf, ArePartsOf}
 
 each_at : {A : Type 0} (P : A → Type 0) (xs : List A) → Each P xs → (n : ℕ) (x : A) → slice_get xs n ≡ Some x → P x
 each_at P [] h n x e = absurd cc
