@@ -1,16 +1,9 @@
--- What the turns of the tests need: a book that is the same twice, what a task can be done for, and a draw that answers Drained.
+-- What the turns of the tests need: a book that is the same twice, and a draw that answers Drained.
 use Rattle.std.proofs.Common.{◌≡◌, ⊤, ℕ, List, ◌∙◌, subst}
-use Rattle.uc_term.specs.declared.equation.Equation.{Equation}
-use Rattle.uc_order.specs.Laws.{Meaning}
-use Rattle.uc_shelf.specs.declared.entry.Entry.{Entry}
-use Rattle.uc_machine.specs.declared.task.Job.{Job}
-use Rattle.uc_machine.specs.declared.task.Job.TheVariants.{Goal, More, Meet, Join}
 use Rattle.uc_machine.specs.State.{Opening, State}
-use Rattle.uc_machine.specs.Origins.{CanCompute}
 use Rattle.uc_machine.specs.Draws.{Reply, Drew, Idle, Drained, Closed, Draws, verdict_stands, goal_is_due, fact_is_unmet, orphan_is_dropped, goal_is_continued, pair_is_drawn, budget_is_out, budget_is_spent, all_is_out, all_is_done}
 use Rattle.uc_machine.specs.Effects.{drops}
 use Rattle.uc_machine.specs.Runs.{IsDrained}
-use Rattle.uc_task.specs.Jobs.{CanBeDone}
 use Rattle.uc_book.specs.declared.answer.Drawn.{Drawn}
 use Rattle.uc_book.specs.declared.answer.Drawn.TheVariants.{Drained as DrawnDrained}
 use Rattle.uc_book.specs.Openings.{BookView}
@@ -18,13 +11,6 @@ use Rattle.uc_book.specs.Answers.{IsSameBook, reply_of}
 
 pub same_twice : {O : Type 0} (a b c : BookView O) → IsSameBook a b → IsSameBook b c → IsSameBook a c
 same_twice a b c x y = record { opening = y.opening ∙ x.opening; order = y.order ∙ x.order; enrolled = y.enrolled ∙ x.enrolled }
-
--- what its job names is there
-pub can_be_done : (m : Meaning) (o : Opening) (axioms : List Equation) (es : List Entry) (j : Job) → o.axioms ≡ axioms → CanCompute m o es j → CanBeDone m axioms es j
-can_be_done m o axioms es (Goal g l r) e c = tt
-can_be_done m o axioms es (More g l r) e c = tt
-can_be_done m o axioms es (Meet i) e c = c
-can_be_done m o axioms es (Join p origin) e c = subst (λ others. CanBeDone m others es (Join p origin)) e c
 
 abbrev IfDrained : Reply → State → Type 0
 IfDrained (Drew t) u = ⊤

@@ -5,7 +5,7 @@ ghost use Rattle.uc_term.specs.Table.{Has};
 ghost use Rattle.uc_order.specs.Members.{Each};
 ghost use Rattle.uc_kbo.specs.Faults.{HasConstant};
 
-use std::alloc::Global;
+use std::alloc::{AllocError, Global};
 use std::test::Fail;
 use uc_kbo::Kbo;
 use uc_term::{Sym, Symbols};
@@ -15,6 +15,9 @@ pub const A: Sym = Sym(0);
 pub const B: Sym = Sym(1);
 
 pub const F: Sym = Sym(2);
+
+// The names and arities of these, in their order.
+const NAMES: &[(&[u8], u32)] = &[(b"a", 0), (b"b", 0), (b"f", 1)];
 
 // The least first.
 const PRECEDENCE: &[Sym] = &[A, B, F];
@@ -44,14 +47,23 @@ fn has_constant(symbols: &Symbols, list: &[Sym]) -> bool
     false
 }
 
-/// The order.
-pub fn order(alloc: Global) -> Result<Kbo, Fail> {
+fn symbols(alloc: Global) -> Result<Symbols, AllocError> {
     let mut symbols = Symbols::new(alloc);
-    symbols.intern(alloc, b"a", 0)?;
-    symbols.intern(alloc, b"b", 0)?;
-    symbols.intern(alloc, b"f", 1)?;
-    if !are_known(&symbols, PRECEDENCE) || !has_constant(&symbols, PRECEDENCE) {
+    for (name, arity) in NAMES {
+        symbols.intern(alloc, name, *arity)?;
+    }
+    Ok(symbols)
+}
+
+fn order_over(alloc: Global, symbols: &Symbols) -> Result<Kbo, Fail> {
+    if !are_known(symbols, PRECEDENCE) || !has_constant(symbols, PRECEDENCE) {
         return Err(Fail::from("no constant"));
     }
-    Ok(Kbo::new(alloc, PRECEDENCE, &symbols, 1, &[1, 1, 1], PRECEDENCE)?)
+    Ok(Kbo::new(alloc, PRECEDENCE, symbols, 1, &[1, 1, 1], PRECEDENCE)?)
+}
+
+/// The order.
+pub fn order(alloc: Global) -> Result<Kbo, Fail> {
+    let symbols = symbols(alloc)?;
+    order_over(alloc, &symbols)
 }

@@ -2,7 +2,6 @@
 
 use crate::tests::order::{A, B, F};
 use std::alloc::Global;
-use std::test::Fail;
 use uc_fact::Equation;
 use uc_problem::{Encoded, Signature};
 use uc_term::{Seq, Term, TermFault};
@@ -28,23 +27,28 @@ fn term(alloc: Global, letters: &[u8]) -> Result<Term, TermFault> {
     Ok(t)
 }
 
-fn equations(alloc: Global, list: &[Sides]) -> Result<Seq<Equation>, Fail> {
+fn equation(alloc: Global, sides: &Sides) -> Result<Equation, TermFault> {
+    let left = term(alloc, sides.0)?;
+    let right = term(alloc, sides.1)?;
+    Ok(Equation { left, right })
+}
+
+fn equations(alloc: Global, list: &[Sides]) -> Result<Seq<Equation>, TermFault> {
     let mut equations = Seq::new(alloc);
-    for (left, right) in list {
-        equations.push(Equation {
-            left: term(alloc, left)?,
-            right: term(alloc, right)?,
-        })?;
+    for sides in list {
+        equations.push(equation(alloc, sides)?)?;
     }
     Ok(equations)
 }
 
 /// The problem of these axioms and goals.
-pub fn problem(alloc: Global, axioms: &[Sides], goals: &[Sides]) -> Result<Encoded, Fail> {
+pub fn problem(alloc: Global, axioms: &[Sides], goals: &[Sides]) -> Result<Encoded, TermFault> {
+    let axioms = equations(alloc, axioms)?;
+    let goals = equations(alloc, goals)?;
     Ok(Encoded {
-        axioms: equations(alloc, axioms)?,
+        axioms,
         sources: Seq::new(alloc),
-        goals: equations(alloc, goals)?,
+        goals,
         goal_clauses: Seq::new(alloc),
         fresh: None,
         signature: Signature {

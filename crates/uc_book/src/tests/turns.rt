@@ -1,6 +1,6 @@
 //! The turns of a worker: a task is drawn and computed, and its result is committed.
 
-ghost use Rattle.std.specs.Prelude.{◌≡◌, IfOk, OnOk};
+ghost use Rattle.std.specs.Prelude.{◌≡◌, IfOk, IfSome, OnOk};
 ghost use Rattle.uc_shelf.specs.Fronts.{IsOf};
 ghost use Rattle.uc_task.specs.Jobs.{CanBeDone};
 ghost use Rattle.uc_book.specs.Answers.{IsRight, IsSameBook};
@@ -158,4 +158,76 @@ pub fn end<O: Order>(
         Outcome::Missing(_) => Err(Fail::from("something is missing")),
         _ => Ok(book.close(&outcome)),
     }
+}
+
+/// Whether a task comes next.
+pub fn gets_task<O: Order>(
+    alloc: Global,
+    book: &mut Book<O>,
+    pass: &mut Pass,
+) -> Result<bool, AllocError>
+    requires pass { pass.old.opening ≡ book.old.opening }
+    ensures book { IsSameBook book.old book.new }
+    ensures pass { pass.new ≡ pass.old }
+{
+    let drawn = book.draw(alloc, pass)?;
+    Ok(matches!(drawn, Drawn::Task(_)))
+}
+
+/// Whether the task of the first ticket is put back, once.
+pub fn is_put_back<O: Order>(book: &mut Book<O>, pass: &mut Pass) -> bool
+    requires pass { pass.old.opening ≡ book.old.opening }
+    ensures book { IsSameBook book.old book.new }
+    ensures pass { pass.new ≡ pass.old }
+{
+    let is_out = book.reclaim(pass, 0).is_ok();
+    let again = book.reclaim(pass, 0);
+    is_out && matches!(again, Err(CommitFault::NotOut(0)))
+}
+
+// The result, where it is refused as one whose task isn't out.
+fn refused<R: Wait, O: Order>(
+    rt: &R,
+    alloc: Global,
+    book: &mut Book<O>,
+    pass: &mut Pass,
+    done: Done,
+) -> Option<Done>
+    requires pass { pass.old.opening ≡ book.old.opening }
+    requires opening { done.opening ≡ book.old.opening }
+    requires of { IsOf book.old.opening.shelf done.front }
+    requires right { IsRight (O.meaning book.old.order) done }
+    ensures book { IsSameBook book.old book.new }
+    ensures pass { IfSome result (λ _. pass.new ≡ pass.old) }
+    ensures done { IfSome result (λ d. d ≡ done) }
+{
+    match book.commit(rt, alloc, pass, done) {
+        Ok(_) => None,
+        Err((_, CommitFault::NoMemory)) => None,
+        Err((done, CommitFault::NotOut(_))) => Some(done),
+    }
+}
+
+/// Whether a result is refused before and after a newer one, and the newer one is taken.
+pub fn takes_new_alone<R: Wait, O: Order>(
+    rt: &R,
+    alloc: Global,
+    book: &mut Book<O>,
+    pass: &mut Pass,
+    old: Done,
+    new: Done,
+) -> Result<bool, Fail>
+    requires pass { pass.old.opening ≡ book.old.opening }
+    requires old_opening { old.opening ≡ book.old.opening }
+    requires old_of { IsOf book.old.opening.shelf old.front }
+    requires old_right { IsRight (O.meaning book.old.order) old }
+    requires new_opening { new.opening ≡ book.old.opening }
+    requires new_of { IsOf book.old.opening.shelf new.front }
+    requires new_right { IsRight (O.meaning book.old.order) new }
+{
+    let Some(old) = refused(rt, alloc, book, pass, old) else {
+        return Err(Fail::from("the old result is taken"));
+    };
+    commit(rt, alloc, book, pass, new)?;
+    Ok(refused(rt, alloc, book, pass, old).is_some())
 }
