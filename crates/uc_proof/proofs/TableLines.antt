@@ -1,5 +1,5 @@
 -- The lines of an extracted proof: as many as files, with terms of the table and numbers of lines.
-use Rattle.std.proofs.Common.{ℕ, zero, suc, ◌≡◌, ◌<◌, ◌≤◌, ◌+◌, Bool, true, false, List, [], ◌∷◌, ◌++◌, length, map, slice_get, Option, Some, None, if◌then◌else◌, refl, sym, ap, ◌∙◌, subst, arith}
+use Rattle.std.proofs.Common.{ℕ, ◌≡◌, ◌<◌, ◌+◌, Bool, true, false, List, [], ◌∷◌, ◌++◌, length, map, slice_get, Some, if◌then◌else◌, refl, sym, ap, ◌∙◌, subst, arith}
 use Rattle.std.specs.List.{AllByRecursion}
 use Rattle.std.proofs.lemmas.List.{length-map}
 use Rattle.std.proofs.lemmas.Option.{slice_get_within}
@@ -12,7 +12,6 @@ use Rattle.uc_clause.specs.declared.clause.Sourced.{Sourced}
 use Rattle.uc_check.specs.declared.proof.Line.{Line}
 use Rattle.uc_check.specs.declared.proof.LineStep.{LineStep}
 use Rattle.uc_check.specs.declared.proof.LineSource.TheVariants.{Reflexive, EncodeGoal}
-use Rattle.uc_check.specs.Lines.{named_by}
 use Rattle.uc_tstp.specs.Printing.{AreNumbers, IsStepOf, IsLineOf, AreLinesOf}
 use Rattle.uc_tstp.specs.Printable.{line_variables, renumbered_step, renumbered_line}
 use Rattle.uc_fact.specs.declared.chain.Step.{Step}

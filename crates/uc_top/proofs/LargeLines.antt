@@ -56,4 +56,4 @@ module _ (table : Table) (command : Command) (problem : Problem) (encoded : Enco
       inside = rw (sym outer_is, sym (from_side x.outer x.outer_side (equation_of large.outer))) large.formed.overlaps.inside
 
       pub large_line_is : (path text : List ℕ) → IsPlaceOf (side_of x.outer_side outer) path x.position.0 → text ≡ overlap_line x path → IsLimitLine command s (LargeOverlap x) text
-      large_line_is path text place is = rw is (pair_is_large large.outer path large.outer_is (rw outer_is place))
+      large_line_is path text place is = rw is (pair_is_large {o = x} large.outer path large.outer_is (rw outer_is place))
