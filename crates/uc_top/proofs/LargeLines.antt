@@ -1,5 +1,7 @@
 -- The overlap that a search names as too large is one of its book's facts.
-use Rattle.std.proofs.Common.{ℕ, ◌≡◌, ◌<◌, List, length, slice_get, Some, refl, sym, subst, ap, ◌∙◌, arith}
+use Rattle.std.proofs.Common.{ℕ, ◌≡◌, ◌<◌, List, length, slice_get, Some, Result, Ok, Err, refl, sym, subst, ap, ◌∙◌, arith}
+use Rattle.std.specs.Result.{IfOk}
+use Rattle.std.specs.declared.alloc.AllocError.{AllocError}
 use Rattle.std.proofs.lemmas.Option.{slice_get_within}
 use Rattle.uc_term.specs.declared.equation.Side.{Side}
 use Rattle.uc_term.specs.declared.equation.Side.TheVariants.{Left, Right}
@@ -16,7 +18,8 @@ use Rattle.uc_fact.specs.Live.{equation_of}
 use Rattle.uc_pair.specs.Overlapping.{read_from}
 use Rattle.uc_problem.specs.declared.problem.Problem.{Problem}
 use Rattle.uc_problem.specs.declared.problem.Encoded.{Encoded}
-use Rattle.uc_machine.specs.declared.event.Verdict.TheVariants.{LargeOverlap}
+use Rattle.uc_machine.specs.declared.event.Verdict.{Verdict}
+use Rattle.uc_machine.specs.declared.event.Verdict.TheVariants.{BudgetOut, PairsOut, LargeOverlap, LargeGoal}
 use Rattle.uc_machine.specs.State.{Opening, State}
 use Rattle.uc_shelf.specs.Entries.{born}
 use Rattle.uc_runs.specs.Large.{IsLargeOverlap}
@@ -25,7 +28,7 @@ use Rattle.uc_search.specs.Causes.{HasCause, overlap_is_large}
 use Rattle.uc_search.proofs.Caused.{searched_told}
 use Rattle.uc_words.specs.declared.command.Command.{Command}
 use Rattle.uc_ordering.specs.Meaning.{meaning_of}
-use Rattle.uc_top.specs.ProveAnswers.{HasEnded, opening_for, overlap_line, IsLimitLine, pair_is_large}
+use Rattle.uc_top.specs.ProveAnswers.{HasEnded, opening_for, budget_line, pairs_line, overlap_line, goal_line, IsLimitLine, budget_is_spent, limit_is_passed, pair_is_large, step_is_large}
 
 from_side : (n : ℕ) (s : Side) (e : Equation) → (read_from n s e).from ≡ side_of s e
 from_side n Left e = refl
@@ -57,3 +60,30 @@ module _ (table : Table) (command : Command) (problem : Problem) (encoded : Enco
 
       pub large_line_is : (path text : List ℕ) → IsPlaceOf (side_of x.outer_side outer) path x.position.0 → text ≡ overlap_line x path → IsLimitLine command s (LargeOverlap x) text
       large_line_is path text place is = rw is (pair_is_large {o = x} large.outer path large.outer_is (rw outer_is place))
+
+      pub large_told : (r : Result (List ℕ) AllocError) → IfOk r (λ text. (path : List ℕ) × IsPlaceOf (side_of x.outer_side outer) path x.position.0 × (text ≡ overlap_line x path)) → IfOk r (IsLimitLine command s (LargeOverlap x))
+      large_told (Ok text) p = large_line_is p.0 text p.1 p.2
+      large_told (Err fault) p = tt
+
+-- the other limits
+module _ (command : Command) (s : State) (v : Verdict) (r : Result (List ℕ) AllocError) where
+  pub budget_told : (counted : ℕ) → v ≡ BudgetOut counted → IfOk r (λ text. text ≡ budget_line counted command.budget) → IfOk r (IsLimitLine command s v)
+  budget_told counted is e = by r e
+    where
+      by : (q : Result (List ℕ) AllocError) → IfOk q (λ text. text ≡ budget_line counted command.budget) → IfOk q (IsLimitLine command s v)
+      by (Ok text) h = rw (h, is) (budget_is_spent {counted = counted})
+      by (Err fault) h = tt
+
+  pub pairs_told : (waiting more : ℕ) → v ≡ PairsOut waiting more → IfOk r (λ text. text ≡ pairs_line waiting more command.pairs) → IfOk r (IsLimitLine command s v)
+  pairs_told waiting more is e = by r e
+    where
+      by : (q : Result (List ℕ) AllocError) → IfOk q (λ text. text ≡ pairs_line waiting more command.pairs) → IfOk q (IsLimitLine command s v)
+      by (Ok text) h = rw (h, is) (limit_is_passed {waiting = waiting} {more = more})
+      by (Err fault) h = tt
+
+  pub goal_told : (goal : ℕ) → v ≡ LargeGoal goal → IfOk r (λ text. text ≡ goal_line goal) → IfOk r (IsLimitLine command s v)
+  goal_told goal is e = by r e
+    where
+      by : (q : Result (List ℕ) AllocError) → IfOk q (λ text. text ≡ goal_line goal) → IfOk q (IsLimitLine command s v)
+      by (Ok text) h = rw (h, is) (step_is_large {goal = goal})
+      by (Err fault) h = tt

@@ -1,5 +1,7 @@
 -- From an ended search to the text of a proof, and to what it proves.
-use Rattle.std.proofs.Common.{ℕ, ◌≡◌, ◌<◌, ◌≤◌, ◌+◌, ◌^◌, List, [], ◌∷◌, ◌++◌, length, slice_get, Option, Some, None, Ok, refl, sym, ap, ◌∙◌, subst, arith}
+use Rattle.std.proofs.Common.{ℕ, ◌≡◌, ◌<◌, ◌≤◌, ◌+◌, ◌^◌, List, [], ◌∷◌, ◌++◌, length, slice_get, Option, Some, None, Result, Ok, Err, refl, sym, ap, ◌∙◌, subst, arith}
+use Rattle.std.specs.Result.{IfOk}
+use Rattle.std.specs.declared.alloc.AllocError.{AllocError}
 use Rattle.std.proofs.lemmas.Option.{slice_get_within}
 use Rattle.uc_term.specs.declared.fresh.Fresh.{Fresh}
 use Rattle.uc_term.specs.Table.{Table}
@@ -111,3 +113,8 @@ module _ (table : Table) (command : Command) (problem : Problem) (encoded : Enco
             refutes = refutes;
             follows = accepted_follows problem.clauses encoded.fresh lines (fresh_for table problem h.agrees encoded.fresh h.encodes.0) (goal_for table problem encoded.fresh h.encodes.0) Accepted (accepted right_lines refutes) refl;
           }
+
+      -- the text that is printed
+      pub proof_told : (name : List ℕ) (r : Result (List ℕ) AllocError) → length encoded.sources + length problem.goals + length facts + 2 < 2 ^ 32 → AreRightBefore problem.clauses encoded.fresh lines (length lines) → EndsInRefutation lines → AreInOrder lines → IfOk r (λ text. text ≡ proof_text table name files lines) → (IsPrintableProof table name files lines → AreInOrder lines → IfOk r (λ text. ReadsProof table text (Ok (record { lines = lines })))) → IfOk r (λ text. IsProofText table command name problem encoded spec s goal text × (CanBePrinted table name problem → Certifies table problem text))
+      proof_told name (Ok text) few right_lines refutes in_order e reads = (text_so name text e, certifies name text few right_lines refutes in_order reads)
+      proof_told name (Err fault) few right_lines refutes in_order e reads = tt

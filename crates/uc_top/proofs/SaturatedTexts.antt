@@ -1,5 +1,7 @@
 -- From an ended search to the text of a system, and to what it decides.
-use Rattle.std.proofs.Common.{ℕ, zero, suc, ◌≡◌, ◌≤◌, ◌+◌, ◌||◌, Bool, true, false, List, [], ◌∷◌, ◌++◌, length, map, slice_get, Option, Some, None, Ok, if◌then◌else◌, refl, sym, ap, ◌∙◌, subst, arith}
+use Rattle.std.proofs.Common.{ℕ, zero, suc, ◌≡◌, ◌≤◌, ◌+◌, ◌||◌, Bool, true, false, List, [], ◌∷◌, ◌++◌, length, map, slice_get, Option, Some, None, Result, Ok, Err, if◌then◌else◌, refl, sym, ap, ◌∙◌, subst, arith}
+use Rattle.std.specs.Result.{IfOk}
+use Rattle.std.specs.declared.alloc.AllocError.{AllocError}
 use Rattle.std.specs.List.{list_any}
 use Rattle.uc_term.specs.declared.node.Sym.{Sym}
 use Rattle.uc_term.specs.declared.fresh.Fresh.{Fresh}
@@ -164,3 +166,8 @@ module _ (table : Table) (command : Command) (problem : Problem) (encoded : Enco
         decides = decided;
         none_follows = λ f. no_goal (meaning_of table spec) (laws table command problem encoded spec Saturated s h) facts encoded.axioms decided encoded.goals apart (encoded_follows table problem h.agrees encoded h.encodes f);
       }
+
+  -- the text that is printed
+  pub system_told : (es : List Equation) (name : List ℕ) (r : Result (List ℕ) AllocError) → es ≡ facts → (IsPrintableSystem table spec es → IfOk r (λ text. ReadsSystem table text (Ok (record { spec = spec; system = record { facts = es } })))) → IfOk r (λ text. CanBePrinted table name problem → Settles table problem spec text)
+  system_told es name (Ok text) e reads = settles es name text e reads
+  system_told es name (Err fault) e reads = tt
