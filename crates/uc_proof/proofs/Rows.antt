@@ -1,20 +1,10 @@
--- Chains that lead from one term to another, as they are tried one by one.
-use Rattle.std.proofs.Common.{◌≡◌, ◌+◌, ◌<◌, ◌≤◌, ℕ, zero, suc, List, [], ◌∷◌, ◌++◌, length, map, take, get_or, slice_get, Some, sym, ap, ◌∙◌, subst, arith, ◌⊎◌, inl, inr}
+-- The chains of facts, as they are tried one by one.
+use Rattle.std.proofs.Common.{◌≡◌, ◌+◌, ◌<◌, ◌≤◌, ℕ, zero, suc, List, [], ◌∷◌, length, take, get_or, slice_get, Some, sym, ap, ◌∙◌, subst, arith, inl, inr}
 use Rattle.std.proofs.lemmas.Bool.{cases_lt}
-use Rattle.std.proofs.lemmas.List.{map-append, take_more}
 use Rattle.std.proofs.lemmas.Option.{slice_get-get_or}
-use Rattle.uc_term.specs.Tree.{Tree}
 use Rattle.uc_term.specs.declared.equation.Equation.{Equation}
-use Rattle.uc_fact.specs.declared.chain.Chain.{Chain}
 use Rattle.uc_fact.specs.declared.fact.Fact.{Fact}
-use Rattle.uc_rewrite.specs.Replay.{Replays, ends, LeadsFrom, FactsReplay}
-
-pub leads : (axioms : List Equation) (facts : List Fact) (chain : Chain) (from to : Tree) (pair : Tree × Tree) → Replays axioms facts chain × (pair ≡ ends chain) → pair.0 ≡ from → pair.1 ≡ to → LeadsFrom axioms facts chain from to
-leads axioms facts chain from to pair h e f = record {
-  start_is = sym (ap (λ (p : Tree × Tree). p.0) h.1) ∙ e;
-  end_is = sym (ap (λ (p : Tree × Tree). p.1) h.1) ∙ f;
-  replays = h.0;
-}
+use Rattle.uc_rewrite.specs.Replay.{LeadsFrom, FactsReplay}
 
 -- the chains of the facts before this number do
 abbrev pub LeadBefore : List Equation → List Fact → ℕ → Type 0
@@ -39,8 +29,3 @@ all_lead axioms facts i all before n fact at = before n fact (let l = inside fac
     inside [] n f e = absurd cc
     inside (x ∷ fs) zero f e = omega arith
     inside (x ∷ fs) (suc n) f e = let l = inside fs n f e in omega arith
-
--- what is lent, one by one
-pub lent_more : {A B : Type 0} (f : A → B) (xs : List B) (i : ℕ) (d x : B) (list next : List A) (y : A) → i < length xs → x ≡ get_or xs i d → f y ≡ x → map f list ≡ take i xs → next ≡ list ++ y ∷ [] → map f next ≡ take (i + 1) xs
-lent_more f xs i d x list next y h is e before q =
-    ap (map f) q ∙ map-append f list (y ∷ []) ∙ ap (λ l. l ++ f y ∷ []) before ∙ ap (λ z. take i xs ++ z ∷ []) (e ∙ is) ∙ sym (take_more xs i d h)

@@ -113,10 +113,20 @@ fn text(g: Global, text: &str) -> Result<Text, Fail> {
     Ok(Text::from_bytes(g, text.as_bytes())?)
 }
 
-fn library(g: Global, bytes: &str) -> Result<MemoryLibrary, Fail> {
-    let mut files = Vec::new(g);
+fn file(g: Global, bytes: &str) -> Result<(Text, Text), Fail> {
     let name = text(g, "r.p")?;
-    files.push((name, text(g, bytes)?))?;
+    let bytes = text(g, bytes)?;
+    Ok((name, bytes))
+}
+
+fn files(g: Global, bytes: &str) -> Result<Vec<(Text, Text)>, Fail> {
+    let mut files = Vec::new(g);
+    files.push(file(g, bytes)?)?;
+    Ok(files)
+}
+
+fn library(g: Global, bytes: &str) -> Result<MemoryLibrary, Fail> {
+    let files = files(g, bytes)?;
     Ok(MemoryLibrary::new(g, files, Vec::new(g))?)
 }
 
@@ -131,36 +141,53 @@ fn term(g: Global, symbols: &mut Symbols, text: &str) -> Result<Term, Fail> {
     Ok(read_term(g, text.as_bytes(), symbols)?)
 }
 
+fn step(g: Global, symbols: &mut Symbols, row: &StepText) -> Result<Step, Fail> {
+    let to = term(g, symbols, row.3)?;
+    Ok(Step {
+        by: row.0,
+        left_to_right: row.1,
+        position: Pos(row.2),
+        to,
+    })
+}
+
 fn steps(g: Global, symbols: &mut Symbols, rows: &[StepText]) -> Result<Seq<Step>, Fail> {
     let mut steps = Vec::new(g);
     for row in rows {
-        steps.push(Step {
-            by: row.0,
-            left_to_right: row.1,
-            position: Pos(row.2),
-            to: term(g, symbols, row.3)?,
-        })?;
+        steps.push(step(g, symbols, row)?)?;
     }
     Ok(Seq::from_vec(steps))
 }
 
 fn chain(g: Global, symbols: &mut Symbols, row: &ChainText) -> Result<Chain, Fail> {
-    Ok(Chain {
-        start: term(g, symbols, row.0)?,
-        steps: steps(g, symbols, row.1)?,
-    })
+    let start = term(g, symbols, row.0)?;
+    let steps = steps(g, symbols, row.1)?;
+    Ok(Chain { start, steps })
+}
+
+fn sides(g: Global, symbols: &mut Symbols, left: &str, right: &str) -> Result<(Term, Term), Fail> {
+    let left = term(g, symbols, left)?;
+    let right = term(g, symbols, right)?;
+    Ok((left, right))
+}
+
+fn fact_of(sides: (Term, Term), chain: Chain) -> Fact {
+    let (left, right) = sides;
+    Fact {
+        left,
+        right,
+        oriented: true,
+        origin: Origin::Axiom(0),
+        chain,
+        front: 0,
+        stops: (Stop::Full, Stop::Full),
+    }
 }
 
 fn fact(g: Global, symbols: &mut Symbols, right: &str, row: &ChainText) -> Result<Fact, Fail> {
-    Ok(Fact {
-        left: term(g, symbols, row.0)?,
-        right: term(g, symbols, right)?,
-        oriented: true,
-        origin: Origin::Axiom(0),
-        chain: chain(g, symbols, row)?,
-        front: 0,
-        stops: (Stop::Full, Stop::Full),
-    })
+    let sides = sides(g, symbols, row.0, right)?;
+    let chain = chain(g, symbols, row)?;
+    Ok(fact_of(sides, chain))
 }
 
 fn facts(
@@ -291,6 +318,24 @@ fn can_extract(
     proves_first(g, encoded, facts, left, right)
 }
 
+// The proof of the first goal, which the chains prove.
+fn extracted(
+    g: Global,
+    problem: &Problem,
+    encoded: &Encoded,
+    facts: &[Fact],
+    left: &Chain,
+    right: &Chain,
+) -> Result<Extracted, AllocError>
+    requires encoding { IsEncodingOf problem.now encoded.now }
+    requires few { length encoded.now.sources + length problem.now.goals + length facts.now + 2 < 2 ^ 32 }
+    requires facts { FactsReplay encoded.now.axioms facts.now }
+    requires goal { ProvesGoal encoded.now facts.now 0 left.now right.now }
+{
+    let facts = lent(g, facts)?;
+    extract_from(g, facts.as_slice(), left, right, problem, encoded, 0)
+}
+
 // The proof of the first goal, where the chains prove it.
 fn extraction(
     g: Global,
@@ -305,8 +350,7 @@ fn extraction(
     if !can_extract(g, problem, encoded, facts, left, right)? {
         return Err(Fail::from("a chain that doesn't lead to its end"));
     }
-    let facts = lent(g, facts)?;
-    Ok(extract_from(g, facts.as_slice(), left, right, problem, encoded, 0)?)
+    Ok(extracted(g, problem, encoded, facts, left, right)?)
 }
 
 // The proof of a row's goal by these facts.
@@ -422,13 +466,23 @@ fn are_files_of(files: &[Text], lines: &[Line]) -> bool {
     true
 }
 
+// Whether these are the lines of the proof, with the problem's file for those of clauses.
+fn says(made: &Extracted, wanted: &[Line]) -> bool {
+    let lines = made.proof.lines.as_slice();
+    same_lines(lines, wanted) && are_files_of(made.files.as_slice(), lines)
+}
+
+// Whether the proof is the one that the text says.
+fn reads_as(g: Global, symbols: &mut Symbols, made: &Extracted, proof: &str) -> Result<bool, Fail> {
+    let wanted = read_proof(g, proof.as_bytes(), symbols)?;
+    Ok(says(made, wanted.lines.as_slice()))
+}
+
 // Whether the proof of a row's goal is the one that the row says.
 fn is_proved_so(g: Global, row: &Row) -> Result<bool, Fail> {
     let mut symbols = Symbols::new(g);
     let made = extraction_of(g, &mut symbols, row)?;
-    let wanted = read_proof(g, row.proof.as_bytes(), &mut symbols)?;
-    let lines = made.proof.lines.as_slice();
-    Ok(same_lines(lines, wanted.lines.as_slice()) && are_files_of(made.files.as_slice(), lines))
+    reads_as(g, &mut symbols, &made, row.proof)
 }
 
 // A goal of equal sides.
