@@ -2,7 +2,8 @@
 
 ghost use Rattle.std.specs.Prelude.{◌≡◌, OnOk, IfOk, IsTrue};
 ghost use Rattle.uc_machine.specs.Runs.{IsDrained};
-ghost use Rattle.uc_book.specs.Answers.{IsSameBook};
+ghost use Rattle.uc_shelf.specs.Fronts.{IsOf};
+ghost use Rattle.uc_book.specs.Answers.{IfTask, IsRight, IsSameBook};
 ghost use Rattle.trial_book.specs.Hands.{IsHandOf};
 
 use crate::images::{found_of, is_drawn, lines_of, work_of};
@@ -10,7 +11,7 @@ use crate::machine::Machine;
 use crate::trouble::{Trouble, check};
 use std::alloc::Global;
 use std::sync::Wait;
-use uc_book::{Book, CommitFault, Drawn, Pass, Receipt, Task};
+use uc_book::{Book, CommitFault, Done, Drawn, Pass, Receipt, Task};
 use uc_order::Order;
 use uc_problem::Encoded;
 use uc_search::compute;
@@ -38,8 +39,7 @@ pub fn draw<O: Order>(
     ensures hand { OnOk result (IsHandOf (O.meaning book.old.order) book.old.opening hand.new) }
 {
     let drawn = book.draw(alloc, &mut hand.pass)?;
-    let answer = machine.draw(hand.pass.worker())?;
-    check(is_drawn(shelf, machine, &answer, &drawn), "a draw")?;
+    agree_on_draw(shelf, machine, hand.pass.worker(), &drawn)?;
     match drawn {
         Drawn::Task(task) => {
             hand.task = Some(task);
@@ -48,6 +48,19 @@ pub fn draw<O: Order>(
         Drawn::Drained => Ok(true),
         Drawn::Idle(_) | Drawn::Closed(_) => Ok(false),
     }
+}
+
+// The machine draws, and answers alike.
+fn agree_on_draw(
+    shelf: &Shelf,
+    machine: &mut Machine,
+    worker: u32,
+    drawn: &Drawn,
+) -> Result<(), Trouble>
+    requires { IfTask drawn.now (λ task. IsOf shelf.now task.front) }
+{
+    let answer = machine.draw(worker)?;
+    check(is_drawn(shelf, machine, &answer, drawn), "a draw")
 }
 
 /// The worker commits the result of the task that it drew last, whether it is out or not.
@@ -72,17 +85,47 @@ pub fn commit<R: Wait, O: Order>(
         return Ok(());
     };
     let done = compute(alloc, &task, shelf, problem, order)?;
-    let (ticket, work) = (done.ticket, work_of(&done.job));
+    let event = commit_slowly(alloc, shelf, machine, hand.pass.worker(), &done)?;
+    commit_alike(rt, alloc, book, &mut hand.pass, done, event)
+}
+
+// The machine takes the result.
+fn commit_slowly(
+    alloc: Global,
+    shelf: &Shelf,
+    machine: &mut Machine,
+    worker: u32,
+    done: &Done,
+) -> Result<Option<usize>, Trouble>
+    requires { IsOf shelf.now done.now.front }
+{
     let lines = lines_of(alloc, shelf, &done.front)?;
     let found = found_of(alloc, &done.found)?;
-    let worker = hand.pass.worker();
-    let event = machine.commit(alloc, worker, ticket, work, &lines, &found)?;
-    match book.commit(rt, alloc, &mut hand.pass, done) {
+    let work = work_of(&done.job);
+    let event = machine.commit(alloc, worker, done.ticket, work, &lines, &found)?;
+    Ok(event)
+}
+
+// The book takes the result as the machine did.
+fn commit_alike<R: Wait, O: Order>(
+    rt: &R,
+    alloc: Global,
+    book: &mut Book<O>,
+    pass: &mut Pass,
+    done: Done,
+    event: Option<usize>,
+) -> Result<(), Trouble>
+    requires pass { pass.old.opening ≡ book.old.opening }
+    requires opening { done.opening ≡ book.old.opening }
+    requires of { IsOf book.old.opening.shelf done.front }
+    requires right { IsRight (O.meaning book.old.order) done }
+    ensures book { OnOk result (IsSameBook book.old book.new) }
+    ensures pass { OnOk result (pass.new.opening ≡ pass.old.opening) }
+{
+    let ticket = done.ticket;
+    match book.commit(rt, alloc, pass, done) {
         Ok(receipt) => is_event(&receipt, event),
-        Err((_, CommitFault::NotOut(other))) => {
-            check(event.is_none() && other == ticket, "a result refused")
-        }
-        Err((_, CommitFault::NoMemory)) => Err(Trouble::NoMemory),
+        Err((_, fault)) => is_refused(fault, ticket, event),
     }
 }
 
@@ -91,6 +134,16 @@ fn is_event(receipt: &Receipt, event: Option<usize>) -> Result<(), Trouble> {
     match event {
         Some(number) => check(receipt.event == number as u64, "a receipt"),
         None => check(false, "a result taken"),
+    }
+}
+
+// Whether the result of the ticket is refused alike.
+fn is_refused(fault: CommitFault, ticket: u64, event: Option<usize>) -> Result<(), Trouble> {
+    match fault {
+        CommitFault::NotOut(other) => {
+            check(event.is_none() && other == ticket, "a result refused")
+        }
+        CommitFault::NoMemory => Err(Trouble::NoMemory),
     }
 }
 

@@ -44,22 +44,47 @@ pub fn run<R: Wait, O: Order>(
     let mut machine = start(alloc, &weights, &marks, budget, limit)?;
     let mut book = Book::start(alloc, &problem, order, &shelf, budget, limit)?;
     let mut team = enrolled(alloc, &mut book)?;
+    make_calls(
+        rt,
+        alloc,
+        &mut book,
+        &shelf,
+        &problem,
+        order,
+        &mut machine,
+        &mut team,
+        &mut chance,
+        calls,
+    )?;
+    Ok(machine)
+}
+
+// So many calls, with a comparison after each.
+fn make_calls<R: Wait, O: Order>(
+    rt: &R,
+    alloc: Global,
+    book: &mut Book<O>,
+    shelf: &Shelf,
+    problem: &Encoded,
+    order: &O,
+    machine: &mut Machine,
+    team: &mut Team,
+    chance: &mut Generator,
+    calls: u32,
+) -> Result<(), Trouble>
+    requires team { IsTeamOf (O.meaning book.old.order) book.old.opening team.old }
+    requires problem { book.old.opening.problem ≡ problem.now }
+    requires shelf { book.old.opening.shelf ≡ shelf.now }
+    requires order { book.old.order ≡ order.now }
+{
     for _ in 0..calls {
         call(
-            rt,
-            alloc,
-            &mut book,
-            &shelf,
-            &problem,
-            order,
-            &mut machine,
-            &mut team,
-            &mut chance,
+            rt, alloc, book, shelf, problem, order, machine, team, chance,
         )?;
-        agree(alloc, &book, &shelf, &problem, &machine)?;
-        agree_on_commits(&team, &machine)?;
+        agree(alloc, book, shelf, problem, machine)?;
+        agree_on_commits(team, machine)?;
     }
-    Ok(machine)
+    Ok(())
 }
 
 // The passes count the commits.
