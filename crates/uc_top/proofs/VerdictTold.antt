@@ -1,5 +1,5 @@
 -- From the lines of a verdict to its answer.
-use Rattle.std.proofs.Common.{ℕ, ◌≡◌, List, [], ◌++◌, codes, Result, Ok, Err, sym, subst}
+use Rattle.std.proofs.Common.{ℕ, ◌≡◌, List, [], ◌∷◌, ◌++◌, codes, Result, Ok, Err, sym, ap, ◌∙◌, append_assoc}
 use Rattle.std.specs.Result.{IfOk}
 use Rattle.std.specs.declared.alloc.AllocError.{AllocError}
 use Rattle.uc_term.specs.Table.{Table}
@@ -15,9 +15,17 @@ use Rattle.uc_system.specs.Printing.{system_text}
 use Rattle.uc_words.specs.declared.command.Command.{Command}
 use Rattle.uc_top.specs.Lines.{joined}
 use Rattle.uc_top.specs.PrintableProblems.{CanBePrinted}
-use Rattle.uc_top.specs.ProveAnswers.{status_line, verdict_status, saturation_text, IsLimitLine, IsProofText, VerdictAnswers, is_proved, is_saturated, is_out, HasEnded}
+use Rattle.uc_top.specs.ProveAnswers.{status_line, line_for, verdict_status, saturation_text, IsLimitLine, IsProofText, VerdictAnswers, is_proved, is_saturated, is_out, HasEnded}
 use Rattle.uc_top.specs.ProveRuns.{Certifies, Settles, Keeps}
+use Rattle.uc_top.proofs.DirectedLines.{joined_one}
 use Rattle.uc_top.proofs.ProveKeeping.{keeps_more, proved_keeps, saturated_keeps, stopped_keeps}
+
+-- the lines of a system between two others, behind a status line
+pub saturation_lines : (a b d t : List ℕ) (ls all : List (List ℕ)) → joined ls ≡ t → all ≡ a ∷ b ∷ (ls ++ d ∷ []) → joined all ≡ a ++ (b ++ t ++ d)
+saturation_lines a b d t ls all e is = ap joined is ∙ ap (λ z. a ++ (b ++ z)) (joined_one ls d ∙ ap (λ z. z ++ d) e) ∙ ap (λ z. a ++ z) (sym (append_assoc b t d))
+
+pub saturation_so : (name system a b d t : List ℕ) (ls all : List (List ℕ)) → a ≡ status_line (codes "Satisfiable") name → b ≡ line_for (codes "% SZS output start Saturation") name → d ≡ line_for (codes "% SZS output end Saturation") name → t ≡ system → joined ls ≡ t → all ≡ a ∷ b ∷ (ls ++ d ∷ []) → joined all ≡ status_line (codes "Satisfiable") name ++ (line_for (codes "% SZS output start Saturation") name ++ system ++ line_for (codes "% SZS output end Saturation") name)
+saturation_so name system a b d t ls all is_a is_b is_d is_t e is = saturation_lines a b d t ls all e is ∙ ap (λ x. x ++ (b ++ t ++ d)) is_a ∙ ap (λ x. status_line (codes "Satisfiable") name ++ (x ++ t ++ d)) is_b ∙ ap (λ x. status_line (codes "Satisfiable") name ++ (line_for (codes "% SZS output start Saturation") name ++ x ++ d)) is_t ∙ ap (λ x. status_line (codes "Satisfiable") name ++ (line_for (codes "% SZS output start Saturation") name ++ system ++ x)) is_d
 
 module _ (table : Table) (command : Command) (name : List ℕ) (problem : Problem) where
   abbrev pub Promises : ℕ → List ℕ → Type 0

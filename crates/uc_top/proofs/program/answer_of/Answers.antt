@@ -1,7 +1,9 @@
-use Rattle.std.proofs.Common.{[]}
+use Rattle.std.proofs.Common.{[], arith}
 use Rattle.uc_top.specs.Answers.{has_no_reading}
 use Rattle.uc_top.specs.Runs.{MayAnswer, is_answer}
 use Rattle.uc_top.proofs.Answering.{one_line, none_distinct, certified_by}
+use Rattle.uc_top.proofs.ProvedAnswers.{no_promise}
+use Rattle.uc_top.proofs.ProveCompleting.{promised_answers}
 use Rattle.uc_top.proofs.program.answer_of.Goals as goal
 
 pub returns-in-Err-Usage-clause-answers : goal.returns-in-Err-Usage-clause-answers
@@ -9,3 +11,9 @@ returns-in-Err-Usage-clause-answers g c = one_line c.usage_answer.result (MayAns
 
 pub returns-in-Ok-clause-certified : goal.returns-in-Ok-clause-certified
 returns-in-Ok-clause-certified g c = certified_by _ c.in-Ok.command _ c.command_answer.result (rw c.in-Ok.is at c.read_words.ensures.reads) c.command_answer.ensures.certified
+
+pub returns-in-Ok-clause-promise : goal.returns-in-Ok-clause-promise
+returns-in-Ok-clause-promise g c = promised_answers _ c.in-Ok.command _ c.command_answer.result (rw c.in-Ok.is at c.read_words.ensures.reads) c.command_answer.ensures.promise
+
+pub returns-in-Err-Usage-clause-promise : goal.returns-in-Err-Usage-clause-promise
+returns-in-Err-Usage-clause-promise g c = no_promise _ _ _ c.usage_answer.result (omega arith) c.usage_answer.ensures
