@@ -1,5 +1,5 @@
 -- The overlap that a search names as too large is one of its book's facts.
-use Rattle.std.proofs.Common.{ℕ, ◌≡◌, ◌<◌, List, length, slice_get, Some, Result, Ok, Err, refl, sym, subst, ap, ◌∙◌, arith}
+use Rattle.std.proofs.Common.{ℕ, zero, suc, ◌≡◌, ◌<◌, List, [], ◌∷◌, length, map, get_or, slice_get, Some, Result, Ok, Err, refl, sym, subst, ap, ◌∙◌, arith}
 use Rattle.std.specs.Result.{IfOk}
 use Rattle.std.specs.declared.alloc.AllocError.{AllocError}
 use Rattle.std.proofs.lemmas.Option.{slice_get_within}
@@ -29,6 +29,12 @@ use Rattle.uc_search.proofs.Caused.{searched_told}
 use Rattle.uc_words.specs.declared.command.Command.{Command}
 use Rattle.uc_ordering.specs.Meaning.{meaning_of}
 use Rattle.uc_top.specs.ProveAnswers.{HasEnded, opening_for, budget_line, pairs_line, overlap_line, goal_line, IsLimitLine, budget_is_spent, limit_is_passed, pair_is_large, step_is_large}
+
+-- what is read of a list stands in the list that is mapped
+pub read_at : {A B : Type 0} (f : A → B) (xs : List A) (n : ℕ) (x : A) → n < length (map f xs) → x ≡ get_or xs n x → slice_get (map f xs) n ≡ Some (f x)
+read_at f [] n x h e = absurd (omega (arith, h))
+read_at f (y ∷ ys) zero x h e = ap (λ z. Some (f z)) (sym e)
+read_at f (y ∷ ys) (suc n) x h e = read_at f ys n x (omega (arith, h)) e
 
 from_side : (n : ℕ) (s : Side) (e : Equation) → (read_from n s e).from ≡ side_of s e
 from_side n Left e = refl
