@@ -138,7 +138,11 @@ fn problem(g: Global, symbols: &mut Symbols, bytes: &str) -> Result<Problem, Fai
 }
 
 fn term(g: Global, symbols: &mut Symbols, text: &str) -> Result<Term, Fail> {
-    Ok(read_term(g, text.as_bytes(), symbols)?)
+    let bytes = text.as_bytes();
+    if bytes.len() > 1000 {
+        return Err(Fail::from("a term that is too long"));
+    }
+    Ok(read_term(g, bytes, symbols)?)
 }
 
 fn step(g: Global, symbols: &mut Symbols, row: &StepText) -> Result<Step, Fail> {
