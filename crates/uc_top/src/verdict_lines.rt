@@ -198,11 +198,7 @@ fn saturated_lines<O: Order>(
 }
 
 /// The text of the system of the facts that live.
-fn system_of<O: Order>(
-    alloc: Global,
-    closed: &Closed,
-    book: &Book<O>,
-) -> Result<Text, AllocError>
+fn system_of<O: Order>(alloc: Global, closed: &Closed, book: &Book<O>) -> Result<Text, AllocError>
     requires shelf { book.now.opening.shelf ≡ closed.now.shelf.now }
     requires ended { HasEnded closed.now.symbols.now closed.now.command.now closed.now.problem.now closed.now.encoded.now closed.now.spec.now Saturated book.now.state }
     ensures text { IfOk result (λ text. text ≡ system_text closed.now.symbols.now closed.now.spec.now (equations_of (live book.now.state.entries))) }
