@@ -1,5 +1,9 @@
--- What the turns of the tests need: a book that is the same twice, and a draw that answers Drained.
-use Rattle.std.proofs.Common.{◌≡◌, ⊤, ℕ, List, ◌∙◌, subst}
+-- What the turns of the tests need: a book that is the same twice, a draw that answers Drained, and a final pass.
+use Rattle.std.proofs.Common.{◌≡◌, ⊤, ℕ, List, sym, ◌∙◌, subst}
+use Rattle.uc_term.specs.declared.equation.Equation.{Equation}
+use Rattle.uc_order.specs.Laws.{Meaning}
+use Rattle.uc_machine.specs.declared.task.Outcome.{Outcome}
+use Rattle.uc_machine.specs.Finals.{IsFinal}
 use Rattle.uc_machine.specs.State.{Opening, State}
 use Rattle.uc_machine.specs.Draws.{Reply, Drew, Idle, Drained, Closed, Draws, verdict_stands, goal_is_due, fact_is_unmet, orphan_is_dropped, goal_is_continued, pair_is_drawn, budget_is_out, budget_is_spent, all_is_out, all_is_done}
 use Rattle.uc_machine.specs.Effects.{drops}
@@ -33,3 +37,9 @@ drained_by o w s _ _ (all_is_done l a b) = record { none_unmet = l.none_unmet; n
 -- a draw that answers Drained leaves the book drained
 pub is_drained_by : (o : Opening) (w : ℕ) (s : State) (a : Drawn) (u : State) → a ≡ DrawnDrained → Draws o w s (reply_of w a) u → IsDrained u
 is_drained_by o w s a u e d = drained_by o w s Drained u (subst (λ (x : Drawn). Draws o w s (reply_of w x) u) e d)
+
+-- the answer of the final pass, by equal orders and axioms
+pub final_over : {O : Type 0} (meaning : O → Meaning) (p q : O) (es fs : List Equation) (s : State) (x : Outcome) → p ≡ q → es ≡ fs → IsFinal (meaning q) fs s x → IsFinal (meaning p) es s x
+final_over meaning p q es fs s x e f h =
+    subst (λ (a : List Equation). IsFinal (meaning p) a s x) (sym f)
+    (subst (λ a. IsFinal (meaning a) fs s x) (sym e) h)

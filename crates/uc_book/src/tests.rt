@@ -7,7 +7,7 @@ ghost use Rattle.std.specs.Prelude.{◌≡◌, ◌∷◌, []};
 ghost use Rattle.uc_book.specs.Answers.{IsSameBook};
 
 use crate::tests::problems::Sides;
-use crate::tests::settings::{Setting, begin, setting};
+use crate::tests::settings::{Setting, begin, set_up};
 use crate::tests::turns::{
     commit, end, gets_task, is_put_back, meet, next_done, takes_new_alone, turns,
 };
@@ -94,7 +94,7 @@ fn is_proved<R: Wait>(
 #[test]
 fn a_goal_is_proved(rt: HostRuntime) -> Result<(), Fail> {
     let alloc = rt.alloc();
-    let at = setting(alloc, &[SHORT], &[(b"aff", b"bf")])?;
+    let at = set_up(alloc, &[SHORT], &[(b"aff", b"bf")])?;
     let (mut book, mut pass) = begin(alloc, &at, 9, 9, 0)?;
     assert!(rt; is_proved(&rt, alloc, &at, &mut book, &mut pass)?);
     assert!(rt; book.verdict() == Some(&Verdict::Proved(0)));
@@ -165,7 +165,7 @@ fn is_saturated<R: Wait>(
 #[test]
 fn a_killed_fact_comes_back(rt: HostRuntime) -> Result<(), Fail> {
     let alloc = rt.alloc();
-    let at = setting(alloc, &[LONG, EVEN], &[])?;
+    let at = set_up(alloc, &[LONG, EVEN], &[])?;
     let (mut book, mut pass) = begin(alloc, &at, 9, 9, 3)?;
     assert!(rt; is_saturated(&rt, alloc, &at, &mut book, &mut pass)?);
     assert!(rt; book.counted() == 3 && book.front().len() == 4);
@@ -209,7 +209,7 @@ fn is_old_refused<R: Wait>(
 #[test]
 fn an_old_ticket_is_refused(rt: HostRuntime) -> Result<(), Fail> {
     let alloc = rt.alloc();
-    let at = setting(alloc, &[], &[CONSTANTS])?;
+    let at = set_up(alloc, &[], &[CONSTANTS])?;
     let (mut book, mut pass) = begin(alloc, &at, 9, 9, 1)?;
     assert!(rt; is_old_refused(&rt, alloc, &at, &mut book, &mut pass)?);
     assert!(rt; pass.commits() == 1);
@@ -276,7 +276,7 @@ fn is_recalled(alloc: Global, book: &mut Book<Kbo>, one: &mut Pass) -> Result<bo
 #[test]
 fn what_is_out_is_recalled(rt: HostRuntime) -> Result<(), Fail> {
     let alloc = rt.alloc();
-    let at = setting(alloc, &[LONG, SHORT], &[CONSTANTS])?;
+    let at = set_up(alloc, &[LONG, SHORT], &[CONSTANTS])?;
     let (mut book, mut pass) = begin(alloc, &at, 1, 2, 3)?;
     assert!(rt; is_recalled(alloc, &mut book, &mut pass)?);
     assert!(rt; book.history() == recalling().as_slice());
@@ -354,7 +354,7 @@ fn comes_late<R: Wait>(
 #[test]
 fn a_result_comes_late(rt: HostRuntime) -> Result<(), Fail> {
     let alloc = rt.alloc();
-    let at = setting(alloc, &[], &[CONSTANTS, SAME])?;
+    let at = set_up(alloc, &[], &[CONSTANTS, SAME])?;
     let (mut book, mut pass) = begin(alloc, &at, 9, 9, 0)?;
     assert!(rt; comes_late(&rt, alloc, &at, &mut book, &mut pass)?);
     assert!(rt; book.history() == coming_late().as_slice());
@@ -388,7 +388,7 @@ fn is_closed_by_budget(
 #[test]
 fn limits_close_a_book(rt: HostRuntime) -> Result<(), Fail> {
     let alloc = rt.alloc();
-    let at = setting(alloc, &[LONG, SHORT], &[])?;
+    let at = set_up(alloc, &[LONG, SHORT], &[])?;
     assert!(rt; is_closed_by_pairs(alloc, &at)?);
     let (mut book, mut pass) = begin(alloc, &at, 0, 2, 5)?;
     assert!(rt; is_closed_by_budget(alloc, &mut book, &mut pass)?);
@@ -423,7 +423,7 @@ fn gets_task_again(alloc: Global, book: &mut Book<Kbo>, pass: &mut Pass) -> Resu
 #[test]
 fn a_refused_draw_changes_nothing(rt: HostRuntime) -> Result<(), Fail> {
     let alloc = rt.alloc();
-    let at = setting(alloc, &[SHORT], &[])?;
+    let at = set_up(alloc, &[SHORT], &[])?;
     let (mut book, mut pass) = begin(alloc, &at, 9, 9, 3)?;
     assert!(rt; gets_task_of_two(alloc, &mut book, &mut pass)?);
     let drawn = by(3, Happening::DrawJoin { pair: 0, front: 0 });

@@ -20,7 +20,7 @@ pub struct Setting {
 }
 
 /// The setting of these axioms and goals.
-pub fn setting(alloc: Global, axioms: &[Sides], goals: &[Sides]) -> Result<Setting, Fail> {
+pub fn set_up(alloc: Global, axioms: &[Sides], goals: &[Sides]) -> Result<Setting, Fail> {
     let problem = problem(alloc, axioms, goals)?;
     let order = order(alloc)?;
     let shelf = Shelf::new(alloc)?;

@@ -1,9 +1,11 @@
 //! The turns of a worker: a task is drawn and computed, and its result is committed.
 
-ghost use Rattle.std.specs.Prelude.{◌≡◌, IfOk, IfSome, OnOk};
+ghost use Rattle.std.specs.Prelude.{◌≡◌, IfOk, IfSome, OnOk, IsTrue};
 ghost use Rattle.uc_shelf.specs.Fronts.{IsOf};
 ghost use Rattle.uc_task.specs.Jobs.{CanBeDone};
-ghost use Rattle.uc_book.specs.Answers.{IsRight, IsSameBook};
+ghost use Rattle.uc_machine.specs.Finals.{IsFinal};
+ghost use Rattle.uc_machine.specs.Runs.{IsDrained};
+ghost use Rattle.uc_book.specs.Answers.{IsAnEnd, IsRight, IsSameBook};
 
 use crate::{Book, CommitFault, Done, Drawn, Opened, Pass, Task, copy_job};
 use std::alloc::{AllocError, Global};
@@ -85,11 +87,29 @@ pub fn commit<R: Wait, O: Order>(
     ensures pass { OnOk result (pass.new.opening ≡ pass.old.opening) }
 {
     let before = book.history().len();
-    let done = match book.commit(rt, alloc, pass, done) {
-        Ok(_) => return Ok(()),
-        Err((_, CommitFault::NotOut(_))) => return Err(Fail::from("not out")),
-        Err((done, CommitFault::NoMemory)) => done,
-    };
+    match book.commit(rt, alloc, pass, done) {
+        Ok(_) => Ok(()),
+        Err((_, CommitFault::NotOut(_))) => Err(Fail::from("not out")),
+        Err((done, CommitFault::NoMemory)) => commit_again(rt, alloc, book, pass, done, before),
+    }
+}
+
+// Commits a result that was refused, where the history is as long as before.
+fn commit_again<R: Wait, O: Order>(
+    rt: &R,
+    alloc: Global,
+    book: &mut Book<O>,
+    pass: &mut Pass,
+    done: Done,
+    before: usize,
+) -> Result<(), Fail>
+    requires pass { pass.old.opening ≡ book.old.opening }
+    requires opening { done.opening ≡ book.old.opening }
+    requires of { IsOf book.old.opening.shelf done.front }
+    requires right { IsRight (O.meaning book.old.order) done }
+    ensures book { OnOk result (IsSameBook book.old book.new) }
+    ensures pass { OnOk result (pass.new.opening ≡ pass.old.opening) }
+{
     if book.history().len() != before {
         return Err(Fail::from("a refused commit changed the book"));
     }
@@ -136,6 +156,53 @@ pub fn meet<O: Order>(book: &Book<O>, problem: &Encoded, steps: (usize, usize)) 
     left.same(right) && left_chain.steps.len() == steps.0 && right_chain.steps.len() == steps.1
 }
 
+// Whether a draw finds the book drained.
+fn is_drained<O: Order>(
+    alloc: Global,
+    book: &mut Book<O>,
+    pass: &mut Pass,
+) -> Result<bool, AllocError>
+    requires pass { pass.old.opening ≡ book.old.opening }
+    ensures drained { IfOk result (λ is. IsTrue is → IsDrained book.new.state) }
+    ensures book { IsSameBook book.old book.new }
+{
+    match book.draw(alloc, pass) {
+        Ok(Drawn::Drained) => Ok(true),
+        Ok(_) => Ok(false),
+        Err(_) => Err(AllocError),
+    }
+}
+
+// What the final pass over the book answers.
+fn outcome<O: Order>(
+    alloc: Global,
+    order: &O,
+    shelf: &Shelf,
+    book: &Book<O>,
+) -> Result<Outcome, AllocError>
+    requires order { book.now.order ≡ order.now }
+    requires shelf { book.now.opening.shelf ≡ shelf.now }
+    ensures { IfOk result (IsFinal (O.meaning book.now.order) book.now.opening.problem.axioms book.now.state) }
+{
+    let stages = book.stages(alloc)?;
+    let front = book.front();
+    let axioms = book.axioms();
+    let outcome = final_pass(alloc, shelf, front, axioms, stages.as_slice(), order)?;
+    Ok(outcome)
+}
+
+// Whether nothing is missing.
+fn is_end(outcome: &Outcome) -> bool
+    ensures { IsTrue result → IsAnEnd outcome.now }
+{
+    match outcome {
+        Outcome::Convergent(_) => true,
+        Outcome::Missing(_) => false,
+        Outcome::Large(_) => true,
+        Outcome::GoalUnsettled(_) => true,
+    }
+}
+
 /// Draws from a drained book, and closes it by what its final pass answers.
 pub fn end<O: Order>(
     alloc: Global,
@@ -148,16 +215,14 @@ pub fn end<O: Order>(
     requires shelf { book.old.opening.shelf ≡ shelf.now }
     requires pass { pass.old.opening ≡ book.old.opening }
 {
-    let Drawn::Drained = book.draw(alloc, pass)? else {
+    if !is_drained(alloc, book, pass)? {
         return Err(Fail::from("not drained"));
-    };
-    let stages = book.stages(alloc)?;
-    let (front, axioms) = (book.front(), book.axioms());
-    let outcome = final_pass(alloc, shelf, front, axioms, stages.as_slice(), order)?;
-    match outcome {
-        Outcome::Missing(_) => Err(Fail::from("something is missing")),
-        _ => Ok(book.close(&outcome)),
     }
+    let outcome = outcome(alloc, order, shelf, book)?;
+    if !is_end(&outcome) {
+        return Err(Fail::from("something is missing"));
+    }
+    Ok(book.close(&outcome))
 }
 
 /// Whether a task comes next.
