@@ -1,5 +1,6 @@
 -- What the turns of the tests need: a book that is the same twice, a draw that answers Drained, and a final pass.
-use Rattle.std.proofs.Common.{◌≡◌, ⊤, ℕ, List, sym, ◌∙◌, subst}
+use Rattle.std.proofs.Common.{◌≡◌, ℕ, List, sym, ◌∙◌, subst}
+use Rattle.std.specs.Bool.{⊤}
 use Rattle.uc_term.specs.declared.equation.Equation.{Equation}
 use Rattle.uc_order.specs.Laws.{Meaning}
 use Rattle.uc_machine.specs.declared.task.Outcome.{Outcome}
