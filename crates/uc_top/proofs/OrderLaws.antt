@@ -1,5 +1,5 @@
 -- An order that fits a signature keeps the laws of an order.
-use Rattle.std.proofs.Common.{ℕ, ◌≡◌, ◌<◌, ◌==◌, Bool, true, false, List, [], ◌∷◌, length, map, count_by, Some, refl, sym, ap, ◌∙◌, subst, arith, if◌then◌else◌}
+use Rattle.std.proofs.Common.{ℕ, ◌≡◌, ◌==◌, Bool, true, false, List, [], ◌∷◌, map, Some, refl, sym, ap, ◌∙◌, subst, arith, if◌then◌else◌}
 use Rattle.std.proofs.lemmas.Bool.{eqb-true, eq-eqb}
 use Rattle.uc_term.specs.declared.node.Sym.{Sym}
 use Rattle.uc_term.specs.Table.{Table, arity_of}
@@ -8,9 +8,8 @@ use Rattle.uc_order.specs.Members.{In, in_front, in_rest, IsFirst, first_front, 
 use Rattle.uc_order.specs.Laws.{Laws}
 use Rattle.uc_order.specs.declared.spec.OrderSpec.{OrderSpec}
 use Rattle.uc_order.specs.declared.spec.OrderSpec.TheVariants.{Kbo, Lpo}
-use Rattle.uc_kbo.specs.declared.weights.Weighed.{Weighed}
 use Rattle.uc_kbo.specs.Faults.{weighed}
-use Rattle.uc_kbo.specs.Weights.{symbols_of, IsTable}
+use Rattle.uc_kbo.specs.Weights.{IsTable}
 use Rattle.uc_kbo.specs.Laws.{kbo_laws}
 use Rattle.uc_kbo.proofs.Tables.{each_in, symbols-weighed, constants-weighed, fit_of}
 use Rattle.uc_lpo.specs.Meaning.{laws_of as lpo_laws}

@@ -1,11 +1,10 @@
 -- The clauses that a library's files hold can be printed, and the names of their files be spelled.
-use Rattle.std.proofs.Common.{ℕ, zero, suc, ◌≡◌, ◌<◌, ◌+◌, ◌==◌, ◌&&◌, Bool, true, false, List, [], ◌∷◌, ◌++◌, length, filter, cond, slice_get, Option, Some, None, Result, Ok, Err, if◌then◌else◌, refl, sym, ap, ◌∙◌, subst, arith, length-append}
-use Rattle.std.specs.List.{list_any, list_all}
+use Rattle.std.proofs.Common.{ℕ, zero, suc, ◌≡◌, ◌==◌, Bool, true, false, List, [], ◌∷◌, ◌++◌, filter, cond, slice_get, Option, Some, None, Ok, Err, if◌then◌else◌, refl, ap, subst, arith, length-append}
+use Rattle.std.specs.List.{list_any}
 use Rattle.std.proofs.lemmas.Bool.{and_parts, and_from}
 use Rattle.uc_term.specs.Table.{Table}
 use Rattle.uc_edge.specs.Files.{Files}
 use Rattle.uc_clause.specs.declared.token.Place.{Place}
-use Rattle.uc_clause.specs.declared.clause.Clause.{Clause}
 use Rattle.uc_clause.specs.declared.clause.Item.{Item}
 use Rattle.uc_clause.specs.declared.clause.Name.{Name}
 use Rattle.uc_clause.specs.declared.clause.Sourced.{Sourced}

@@ -1,9 +1,9 @@
 -- What is read as items can be printed.
-use Rattle.std.proofs.Common.{ℕ, suc, ◌≡◌, ◌<◌, ◌≤◌, ◌+◌, Bool, false, List, [], ◌∷◌, length, Option, Some, None, Result, Ok, Err, refl, sym, ap, ap₂, ◌∙◌, subst, arith, slice_get, unwrap_or}
+use Rattle.std.proofs.Common.{ℕ, ◌≡◌, ◌≤◌, ◌+◌, false, List, [], ◌∷◌, Option, Some, None, refl, sym, ap, ap₂, subst, arith, unwrap_or}
 use Rattle.uc_term.specs.declared.node.Sym.{Sym}
-use Rattle.uc_term.specs.Tree.{Tree, var, app, Trees, none, more, count, nodes, nodes_all}
+use Rattle.uc_term.specs.Tree.{Tree, Trees, count, nodes, nodes_all}
 use Rattle.uc_term.specs.Over.{AreOver}
-use Rattle.uc_term.specs.Table.{Table, Entry as Row, Has, IsSymbol, name_of, arity_of}
+use Rattle.uc_term.specs.Table.{Table, Entry as Row, IsSymbol, name_of, arity_of}
 use Rattle.std.proofs.lemmas.Option.{slice_get_within}
 use Rattle.uc_clause.specs.declared.token.Token.{Token}
 use Rattle.uc_clause.specs.declared.terminal.Terminal.{Terminal}
@@ -12,8 +12,6 @@ use Rattle.uc_clause.specs.declared.grammar.head.Head.TheVariants.{Functor}
 use Rattle.uc_clause.specs.declared.grammar.stop.Why.TheVariants.{NoToken}
 use Rattle.uc_clause.specs.declared.grammar.item.Heading.{Heading}
 use Rattle.uc_clause.specs.declared.grammar.item.Inclusion.{Inclusion}
-use Rattle.uc_clause.specs.declared.clause.Clause.{Clause}
-use Rattle.uc_clause.specs.declared.clause.Include.{Include}
 use Rattle.uc_clause.specs.declared.clause.Item.{Item}
 use Rattle.uc_clause.specs.declared.clause.Item.TheVariants as item
 use Rattle.uc_clause.specs.Terminals.{terminal_at}
@@ -23,7 +21,7 @@ use Rattle.uc_clause.specs.Parse.{Parse, variable, applied, Parses, no_more, als
 use Rattle.uc_clause.specs.Terms.{head_of, head_at, Term, Args, is_variable, is_constant, is_applied, is_node_too_many, is_no_term, stops_in_it, is_last, is_followed, is_one_too_many, is_followed_by_neither}
 use Rattle.uc_clause.specs.Items.{name_by, quoted_by}
 use Rattle.uc_clause.specs.Items as items
-use Rattle.uc_clause.specs.Meaning.{Variables, Means, variable_means, functor_means, MeanAll, none_mean, more_mean, MeansClause, MeansItem, MeanItems, no_items, one_item}
+use Rattle.uc_clause.specs.Meaning.{Variables, Means, variable_means, functor_means, MeanAll, none_mean, more_mean, MeansItem, MeanItems, no_items, one_item}
 use Rattle.uc_clause.specs.Names.{IsSpellable}
 use Rattle.uc_clause.specs.Printable.{IsPrintableSymbol, IsPrintable, IsPrintableClause}
 use Rattle.uc_clause.specs.Reading.{ReadsFile}

@@ -1,5 +1,5 @@
 -- The symbols of a problem that can be printed, with those of its encoding, can be printed.
-use Rattle.std.proofs.Common.{◌⊎◌, inl, inr, ℕ, zero, suc, ◌≡◌, ◌<◌, ◌≤◌, ◌+◌, ◌/◌, ◌%◌, ◌==◌, Bool, true, false, List, [], ◌∷◌, ◌++◌, length, codes, slice_get, unwrap_or, Option, Some, None, Result, Ok, Err, if◌then◌else◌, refl, sym, ap, ◌∙◌, subst, arith, length-append}
+use Rattle.std.proofs.Common.{ℕ, zero, suc, ◌≡◌, ◌<◌, ◌≤◌, ◌+◌, ◌/◌, ◌%◌, ◌==◌, Bool, true, false, List, [], ◌∷◌, ◌++◌, codes, unwrap_or, Option, Some, None, Result, Ok, if◌then◌else◌, refl, sym, ap, ◌∙◌, subst, arith, length-append}
 use Rattle.std.specs.Prelude.{decimal}
 use Rattle.std.specs.Fmt.{digit_glyph, digits_onto, digits}
 use Rattle.std.proofs.lemmas.Bool.{and_from}
@@ -15,7 +15,7 @@ use Rattle.uc_term.specs.Tree.{Tree, var, app, Trees, none, more}
 use Rattle.uc_term.specs.Flat.{flat, flat_all}
 use Rattle.uc_term.specs.Over.{AreOver}
 use Rattle.uc_term.specs.Table.{Table, Entry, IsSymbol, name_of, arity_of}
-use Rattle.uc_term.specs.Signatures.{Occurrence, occurrences_in, occurrences_from, occurrences_of, Gathers, all_seen, seen_before, is_new, clashes, is_too_many, tried_name, IsFreshFor, least_word, Completes, has_constant, gets_constant}
+use Rattle.uc_term.specs.Signatures.{Occurrence, occurrences_in, occurrences_from, Gathers, all_seen, seen_before, is_new, clashes, is_too_many, tried_name, IsFreshFor, least_word, Completes, has_constant, gets_constant}
 use Rattle.uc_order.specs.Members.{Each}
 use Rattle.uc_clause.specs.declared.clause.Sourced.{Sourced}
 use Rattle.uc_clause.specs.Bytes.{between}

@@ -1,5 +1,5 @@
 -- How `prove` ends.
-use Rattle.std.proofs.Common.{◌⊎◌, inl, inr, ℕ, ◌≡◌, ◌≤◌, List, [], ◌∷◌, position, Option, Some, None, Result, Ok, Err, refl, sym, ap, ◌∙◌, subst, arith}
+use Rattle.std.proofs.Common.{inl, inr, ℕ, ◌≡◌, ◌≤◌, List, position, Option, Some, None, Result, Ok, Err, refl, sym, ap, ◌∙◌, subst, arith}
 use Rattle.std.specs.Result.{IfOk}
 use Rattle.std.specs.declared.alloc.AllocError.{AllocError}
 use Rattle.std.specs.Io.KnownBytes.{Appends}

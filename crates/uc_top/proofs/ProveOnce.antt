@@ -1,16 +1,15 @@
 -- A problem and the words of `prove` have one answer.
-use Rattle.std.proofs.Common.{ℕ, ◌≡◌, ◌≤◌, List, ◌++◌, codes, slice_get, Option, Some, None, Result, Ok, Err, refl, sym, ap, ap₂, ◌∙◌, subst}
+use Rattle.std.proofs.Common.{ℕ, ◌≡◌, ◌≤◌, List, ◌++◌, codes, slice_get, Option, Some, None, Ok, refl, sym, ap, ap₂, ◌∙◌, subst}
 use Rattle.uc_term.specs.declared.fresh.Fresh.{Fresh}
 use Rattle.uc_term.specs.Equations.{side_of}
 use Rattle.uc_term.specs.Positions.{IsPlaceOf}
 use Rattle.uc_term.specs.Table.{Table, IsDistinct}
 use Rattle.uc_edge.specs.Files.{Files}
 use Rattle.uc_edge.specs.Faults.{Rose}
-use Rattle.uc_clause.specs.declared.clause.Sourced.{Sourced}
 use Rattle.uc_tstp.specs.Printing.{proof_text}
 use Rattle.uc_problem.specs.declared.problem.Problem.{Problem}
 use Rattle.uc_problem.specs.declared.problem.Encoded.{Encoded}
-use Rattle.uc_problem.specs.Holds.{Agrees, Holds}
+use Rattle.uc_problem.specs.Holds.{Agrees}
 use Rattle.uc_problem.specs.Marks.{Marks}
 use Rattle.uc_problem.specs.Encodes.{Encodes}
 use Rattle.uc_problem.proofs.Outcomes.{some_once}
@@ -26,7 +25,7 @@ use Rattle.uc_machine.specs.declared.event.Verdict.{Verdict}
 use Rattle.uc_machine.specs.declared.event.Verdict.TheVariants.{Proved, Saturated}
 use Rattle.uc_machine.specs.State.{State, Target}
 use Rattle.uc_search.specs.Searching.{IsSearched}
-use Rattle.uc_proof.specs.Extracted.{IsEncodingOf, IsExtracted}
+use Rattle.uc_proof.specs.Extracted.{IsExtracted}
 use Rattle.uc_proof.proofs.Once.{extracted_once}
 use Rattle.uc_words.specs.declared.command.Command.{Command}
 use Rattle.uc_ordering.specs.Choice.{IsChosen, all_symbols}

@@ -1,5 +1,5 @@
 -- What the proofs of `prove` ask of a search.
-use Rattle.std.proofs.Common.{ℕ, ◌≡◌, Some, slice_get}
+use Rattle.std.proofs.Common.{ℕ, ◌≡◌}
 use Rattle.uc_order.specs.Laws.{Meaning, Laws}
 use Rattle.uc_machine.specs.declared.event.Verdict.{Verdict}
 use Rattle.uc_machine.specs.State.{Opening, State}

@@ -1,18 +1,18 @@
 -- The words of a text's tokens can be spelled.
-use Rattle.std.proofs.Common.{◌⊎◌, inl, inr, ℕ, zero, suc, ◌≡◌, ◌<◌, ◌≤◌, ◌+◌, ◌-◌, ◌==◌, ◌&&◌, ◌||◌, not, Bool, true, false, List, [], ◌∷◌, length, take, drop, slice_get, Option, Some, None, Result, Ok, Err, if◌then◌else◌, refl, sym, ap, ◌∙◌, subst, arith}
+use Rattle.std.proofs.Common.{ℕ, zero, suc, ◌≡◌, ◌<◌, ◌+◌, ◌-◌, ◌==◌, ◌&&◌, ◌||◌, not, Bool, true, false, List, [], ◌∷◌, length, take, drop, slice_get, Option, Some, None, Result, Ok, Err, if◌then◌else◌, refl, sym, ap, subst, arith}
 use Rattle.std.specs.Prelude.{slice_range, ◌↔◌, MatchBool}
 use Rattle.std.specs.List.{list_all}
-use Rattle.std.proofs.lemmas.Bool.{and_parts, and_from, eqb-true}
+use Rattle.std.proofs.lemmas.Bool.{and_parts, and_from}
 use Rattle.std.proofs.lemmas.Bool.Decides.{nat_tests}
 use Rattle.uc_clause.specs.declared.token.Token.{Token}
 use Rattle.uc_clause.specs.declared.token.Kind.{Kind}
 use Rattle.uc_clause.specs.declared.token.Kind.TheVariants as kind
 use Rattle.uc_clause.specs.declared.terminal.Terminal.{Terminal}
-use Rattle.uc_clause.specs.declared.terminal.Terminal.TheVariants.{Lower, Upper, Quoted, Distinct, Integer, Dollar, Unequal, Open, Close, OpenSquare, CloseSquare, Comma, Dot, Equal, Bar, Tilde, Star, OtherMark, End}
+use Rattle.uc_clause.specs.declared.terminal.Terminal.TheVariants.{Lower, Quoted, Integer, Open, Close, OpenSquare, CloseSquare, Comma, Dot, Equal, Bar, Tilde, Star, OtherMark}
 use Rattle.uc_clause.specs.declared.clause.Name.{Name}
-use Rattle.uc_clause.specs.Bytes.{between, is_lower, is_word, is_name, is_plain, closes}
+use Rattle.uc_clause.specs.Bytes.{between, is_lower, is_word, is_plain, closes}
 use Rattle.uc_clause.specs.Tokens.{spells, Cut, end, gap, token, stuck, token_at, AreTokens, bytes_of}
-use Rattle.uc_clause.specs.Names.{unescaped, stands_for, word_of, IsSpellable, IsSpellableName}
+use Rattle.uc_clause.specs.Names.{unescaped, stands_for, IsSpellable, IsSpellableName}
 use Rattle.uc_clause.specs.Terminals.{terminal_of_mark, terminal_of_kind, terminal_or_end, terminal_at, word_or_none, word_at}
 use Rattle.uc_clause.specs.Meaning.{IsName}
 
