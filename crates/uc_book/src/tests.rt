@@ -17,6 +17,9 @@ use std::sync::Wait;
 use std::test::Fail;
 use uc_kbo::Kbo;
 use uc_machine::{Ending, Event, GoalEnd, Happening, Job, Stage, Verdict};
+use uc_order::Order;
+use uc_problem::Encoded;
+use uc_shelf::Shelf;
 
 // f(a) = b
 const SHORT: Sides = (b"af", b"b");
@@ -184,23 +187,25 @@ fn drawing_again() -> [Event; 4] {
 }
 
 // Whether what was found for a task is refused when the task was put back and drawn again.
-fn is_old_refused<R: Wait>(
+fn is_old_refused<R: Wait, O: Order>(
     rt: &R,
     alloc: Global,
-    at: &Setting,
-    book: &mut Book<Kbo>,
+    problem: &Encoded,
+    order: &O,
+    shelf: &Shelf,
+    book: &mut Book<O>,
     pass: &mut Pass,
 ) -> Result<bool, Fail>
-    requires problem { book.old.opening.problem ≡ at.now.problem }
-    requires order { book.old.order ≡ at.now.order }
-    requires shelf { book.old.opening.shelf ≡ at.now.shelf }
+    requires problem { book.old.opening.problem ≡ problem.now }
+    requires order { book.old.order ≡ order.now }
+    requires shelf { book.old.opening.shelf ≡ shelf.now }
     requires pass { pass.old.opening ≡ book.old.opening }
 {
-    let old = next_done(alloc, &at.problem, &at.order, &at.shelf, book, pass)?;
+    let old = next_done(alloc, problem, order, shelf, book, pass)?;
     if !is_put_back(book, pass) {
         return Ok(false);
     }
-    let new = next_done(alloc, &at.problem, &at.order, &at.shelf, book, pass)?;
+    let new = next_done(alloc, problem, order, shelf, book, pass)?;
     takes_new_alone(rt, alloc, book, pass, old, new)
 }
 
@@ -211,7 +216,16 @@ fn an_old_ticket_is_refused(rt: HostRuntime) -> Result<(), Fail> {
     let alloc = rt.alloc();
     let at = set_up(alloc, &[], &[CONSTANTS])?;
     let (mut book, mut pass) = begin(alloc, &at, 9, 9, 1)?;
-    assert!(rt; is_old_refused(&rt, alloc, &at, &mut book, &mut pass)?);
+    let is_refused = is_old_refused(
+        &rt,
+        alloc,
+        &at.problem,
+        &at.order,
+        &at.shelf,
+        &mut book,
+        &mut pass,
+    )?;
+    assert!(rt; is_refused);
     assert!(rt; pass.commits() == 1);
     assert!(rt; book.history() == drawing_again().as_slice());
     Ok(())
@@ -300,9 +314,9 @@ fn coming_late() -> [Event; 5] {
 }
 
 // Whether the book is closed by the proof of the second goal.
-fn is_closed_by_other(
+fn is_closed_by_other<O: Order>(
     alloc: Global,
-    book: &mut Book<Kbo>,
+    book: &mut Book<O>,
     pass: &mut Pass,
 ) -> Result<bool, AllocError>
     requires pass { pass.old.opening ≡ book.old.opening }
@@ -312,22 +326,24 @@ fn is_closed_by_other(
 }
 
 // Whether the result of one worker is taken when another one has proved its goal.
-fn is_late_taken<R: Wait>(
+fn is_late_taken<R: Wait, O: Order>(
     rt: &R,
     alloc: Global,
-    at: &Setting,
-    book: &mut Book<Kbo>,
+    problem: &Encoded,
+    order: &O,
+    shelf: &Shelf,
+    book: &mut Book<O>,
     one: &mut Pass,
     other: &mut Pass,
 ) -> Result<bool, Fail>
-    requires problem { book.old.opening.problem ≡ at.now.problem }
-    requires order { book.old.order ≡ at.now.order }
-    requires shelf { book.old.opening.shelf ≡ at.now.shelf }
+    requires problem { book.old.opening.problem ≡ problem.now }
+    requires order { book.old.order ≡ order.now }
+    requires shelf { book.old.opening.shelf ≡ shelf.now }
     requires one { one.old.opening ≡ book.old.opening }
     requires other { other.old.opening ≡ book.old.opening }
 {
-    let late = next_done(alloc, &at.problem, &at.order, &at.shelf, book, one)?;
-    turns(rt, alloc, &at.problem, &at.order, &at.shelf, book, other, 1)?;
+    let late = next_done(alloc, problem, order, shelf, book, one)?;
+    turns(rt, alloc, problem, order, shelf, book, other, 1)?;
     commit(rt, alloc, book, one, late)?;
     Ok(is_closed_by_other(alloc, book, one)?)
 }
@@ -347,7 +363,16 @@ fn comes_late<R: Wait>(
     requires enrolled { book.old.enrolled ≡ 0 ∷ [] }
 {
     let mut other = book.enroll(alloc, 64)?;
-    is_late_taken(rt, alloc, at, book, one, &mut other)
+    is_late_taken(
+        rt,
+        alloc,
+        &at.problem,
+        &at.order,
+        &at.shelf,
+        book,
+        one,
+        &mut other,
+    )
 }
 
 // A result that comes when the other goal is proved is counted, and changes nothing else.
