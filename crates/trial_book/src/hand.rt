@@ -4,12 +4,13 @@ ghost use Rattle.std.specs.Prelude.{◌≡◌, OnOk, IfOk, IsTrue};
 ghost use Rattle.uc_machine.specs.Runs.{IsDrained};
 ghost use Rattle.uc_shelf.specs.Fronts.{IsOf};
 ghost use Rattle.uc_book.specs.Answers.{IfTask, IsRight, IsSameBook};
+ghost use Rattle.uc_search.specs.Working.{IsToCompute};
 ghost use Rattle.trial_book.specs.Hands.{IsHandOf};
 
 use crate::images::{found_of, is_drawn, lines_of, work_of};
-use crate::machine::Machine;
+use crate::machine::{Found, Machine};
 use crate::trouble::{Trouble, check};
-use std::alloc::Global;
+use std::alloc::{AllocError, Global};
 use std::sync::Wait;
 use uc_book::{Book, CommitFault, Done, Drawn, Pass, Receipt, Task};
 use uc_order::Order;
@@ -81,12 +82,38 @@ pub fn commit<R: Wait, O: Order>(
     ensures book { OnOk result (IsSameBook book.old book.new) }
     ensures hand { OnOk result (IsHandOf (O.meaning book.old.order) book.old.opening hand.new) }
 {
-    let Some(task) = hand.task.take() else {
-        return Ok(());
-    };
-    let done = compute(alloc, &task, shelf, problem, order)?;
-    let event = commit_slowly(alloc, shelf, machine, hand.pass.worker(), &done)?;
-    commit_alike(rt, alloc, book, &mut hand.pass, done, event)
+    match hand.task.take() {
+        Some(task) => {
+            let pass = &mut hand.pass;
+            commit_task(rt, alloc, book, shelf, problem, order, machine, pass, &task)
+        }
+        None => Ok(()),
+    }
+}
+
+// The worker commits the result of this task.
+fn commit_task<R: Wait, O: Order>(
+    rt: &R,
+    alloc: Global,
+    book: &mut Book<O>,
+    shelf: &Shelf,
+    problem: &Encoded,
+    order: &O,
+    machine: &mut Machine,
+    pass: &mut Pass,
+    task: &Task,
+) -> Result<(), Trouble>
+    requires pass { pass.old.opening ≡ book.old.opening }
+    requires task { IsToCompute (O.meaning book.old.order) book.old.opening task.now }
+    requires problem { book.old.opening.problem ≡ problem.now }
+    requires shelf { book.old.opening.shelf ≡ shelf.now }
+    requires order { book.old.order ≡ order.now }
+    ensures book { OnOk result (IsSameBook book.old book.new) }
+    ensures pass { OnOk result (pass.new.opening ≡ pass.old.opening) }
+{
+    let done = compute(alloc, task, shelf, problem, order)?;
+    let event = commit_slowly(alloc, shelf, machine, pass.worker(), &done)?;
+    commit_alike(rt, alloc, book, pass, done, event)
 }
 
 // The machine takes the result.
@@ -96,14 +123,27 @@ fn commit_slowly(
     machine: &mut Machine,
     worker: u32,
     done: &Done,
-) -> Result<Option<usize>, Trouble>
+) -> Result<Option<usize>, AllocError>
+    requires { IsOf shelf.now done.now.front }
+{
+    let found = found_of(alloc, &done.found)?;
+    commit_found(alloc, shelf, machine, worker, done, &found)
+}
+
+// The machine takes the result, in which this was found.
+fn commit_found(
+    alloc: Global,
+    shelf: &Shelf,
+    machine: &mut Machine,
+    worker: u32,
+    done: &Done,
+    found: &Found,
+) -> Result<Option<usize>, AllocError>
     requires { IsOf shelf.now done.now.front }
 {
     let lines = lines_of(alloc, shelf, &done.front)?;
-    let found = found_of(alloc, &done.found)?;
     let work = work_of(&done.job);
-    let event = machine.commit(alloc, worker, done.ticket, work, &lines, &found)?;
-    Ok(event)
+    machine.commit(alloc, worker, done.ticket, work, &lines, found)
 }
 
 // The book takes the result as the machine did.
@@ -122,10 +162,9 @@ fn commit_alike<R: Wait, O: Order>(
     ensures book { OnOk result (IsSameBook book.old book.new) }
     ensures pass { OnOk result (pass.new.opening ≡ pass.old.opening) }
 {
-    let ticket = done.ticket;
     match book.commit(rt, alloc, pass, done) {
         Ok(receipt) => is_event(&receipt, event),
-        Err((_, fault)) => is_refused(fault, ticket, event),
+        Err((done, fault)) => is_refused(fault, done.ticket, event),
     }
 }
 
