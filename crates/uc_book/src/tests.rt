@@ -4,18 +4,19 @@ mod settings;
 mod turns;
 
 ghost use Rattle.std.specs.Prelude.{◌≡◌, ◌∷◌, []};
+ghost use Rattle.uc_book.specs.Answers.{IsSameBook};
 
 use crate::tests::problems::Sides;
 use crate::tests::settings::{Setting, begin, set_up};
 use crate::tests::turns::{
     commit, end, gets_task, is_put_back, meet, next_done, takes_new_alone, turns,
 };
-use crate::{Book, Drawn, Pass};
+use crate::{Book, CommitFault, Drawn, Pass};
 use std::alloc::{AllocError, Global};
 use std::sync::Wait;
 use std::test::Fail;
 use uc_kbo::Kbo;
-use uc_machine::{Ending, Event, GoalEnd, Happening, Stage, Verdict};
+use uc_machine::{Ending, Event, GoalEnd, Happening, Job, Stage, Verdict};
 use uc_order::Order;
 use uc_problem::Encoded;
 use uc_shelf::Shelf;
@@ -230,6 +231,72 @@ fn an_old_ticket_is_refused(rt: HostRuntime) -> Result<(), Fail> {
     Ok(())
 }
 
+// The events of two tasks that are recalled, of which one is drawn again.
+fn recalling() -> [Event; 5] {
+    [
+        by(3, Happening::DrawGoal { goal: 0, front: 0 }),
+        by(64, Happening::DrawJoin { pair: 1, front: 0 }),
+        by(3, Happening::ReclaimGoal { goal: 0 }),
+        by(64, Happening::ReclaimJoin { pair: 1 }),
+        by(64, Happening::DrawGoal { goal: 0, front: 0 }),
+    ]
+}
+
+// Whether the goal comes next, under the third ticket.
+fn gets_goal(alloc: Global, book: &mut Book<Kbo>, pass: &mut Pass) -> Result<bool, AllocError>
+    requires pass { pass.old.opening ≡ book.old.opening }
+    ensures book { IsSameBook book.old book.new }
+    ensures pass { pass.new ≡ pass.old }
+{
+    let drawn = book.draw(alloc, pass)?;
+    match &drawn {
+        Drawn::Task(task) => Ok(task.ticket == 2 && matches!(task.job, Job::Goal { goal: 0, .. })),
+        _ => Ok(false),
+    }
+}
+
+// Whether two tasks come, and no third one.
+fn gets_two(
+    alloc: Global,
+    book: &mut Book<Kbo>,
+    one: &mut Pass,
+    other: &mut Pass,
+) -> Result<bool, AllocError>
+    requires one { one.old.opening ≡ book.old.opening }
+    requires other { other.old.opening ≡ book.old.opening }
+    ensures book { IsSameBook book.old book.new }
+    ensures one { one.new ≡ one.old }
+    ensures other { other.new ≡ other.old }
+{
+    let first = gets_task(alloc, book, one)?;
+    let second = gets_task(alloc, book, other)?;
+    let third = book.draw(alloc, one)?;
+    Ok(first && second && matches!(third, Drawn::Idle(2)))
+}
+
+// Whether the goal, which was out to one worker, is drawn by another one after a recall.
+fn is_recalled(alloc: Global, book: &mut Book<Kbo>, one: &mut Pass) -> Result<bool, AllocError>
+    requires pass { one.old.opening ≡ book.old.opening }
+    requires enrolled { book.old.enrolled ≡ 3 ∷ [] }
+{
+    let mut other = book.enroll(alloc, 64)?;
+    let two = gets_two(alloc, book, one, &mut other)?;
+    book.recall();
+    let again = gets_goal(alloc, book, &mut other)?;
+    Ok(two && again && matches!(book.reclaim(one, 2), Err(CommitFault::NotOut(2))))
+}
+
+// With the budget reserved nothing is drawn; what is out is recalled by ticket, and is drawn again under another one.
+#[test]
+fn what_is_out_is_recalled(rt: HostRuntime) -> Result<(), Fail> {
+    let alloc = rt.alloc();
+    let at = set_up(alloc, &[LONG, SHORT], &[CONSTANTS])?;
+    let (mut book, mut pass) = begin(alloc, &at, 1, 2, 3)?;
+    assert!(rt; is_recalled(alloc, &mut book, &mut pass)?);
+    assert!(rt; book.history() == recalling().as_slice());
+    Ok(())
+}
+
 // The events of two goals, of which the second is proved first.
 fn coming_late() -> [Event; 5] {
     let met = Happening::CommitGoal {
@@ -316,6 +383,42 @@ fn a_result_comes_late(rt: HostRuntime) -> Result<(), Fail> {
     let (mut book, mut pass) = begin(alloc, &at, 9, 9, 0)?;
     assert!(rt; comes_late(&rt, alloc, &at, &mut book, &mut pass)?);
     assert!(rt; book.history() == coming_late().as_slice());
+    Ok(())
+}
+
+// Whether two axioms close a book at once where one pair may wait.
+fn is_closed_by_pairs(alloc: Global, at: &Setting) -> Result<bool, AllocError> {
+    let book = Book::start(alloc, &at.problem, &at.order, &at.shelf, 9, 1)?;
+    let closed = by(0, Happening::Close(Ending::Pairs));
+    Ok(
+        book.verdict() == Some(&Verdict::PairsOut { waiting: 0, new: 2 })
+            && book.history() == [closed].as_slice(),
+    )
+}
+
+// Whether the first draw closes a book with no budget.
+fn is_closed_by_budget(
+    alloc: Global,
+    book: &mut Book<Kbo>,
+    pass: &mut Pass,
+) -> Result<bool, AllocError>
+    requires pass { pass.old.opening ≡ book.old.opening }
+{
+    let open = book.verdict().is_none();
+    let drawn = book.draw(alloc, pass)?;
+    Ok(open && matches!(drawn, Drawn::Closed(Verdict::BudgetOut { counted: 0 })))
+}
+
+// More axioms than may wait close a book at once; with as many as the limit it goes on, until its budget closes it.
+#[test]
+fn limits_close_a_book(rt: HostRuntime) -> Result<(), Fail> {
+    let alloc = rt.alloc();
+    let at = set_up(alloc, &[LONG, SHORT], &[])?;
+    assert!(rt; is_closed_by_pairs(alloc, &at)?);
+    let (mut book, mut pass) = begin(alloc, &at, 0, 2, 5)?;
+    assert!(rt; is_closed_by_budget(alloc, &mut book, &mut pass)?);
+    let closed = by(5, Happening::Close(Ending::Budget));
+    assert!(rt; book.history() == [closed].as_slice());
     Ok(())
 }
 
