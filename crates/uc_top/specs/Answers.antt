@@ -32,6 +32,7 @@ use Rattle.uc_top.specs.OrderAnswers.{IsOrdered}
 use Rattle.uc_top.specs.RewriteAnswers.{IsRewritten}
 use Rattle.uc_top.specs.PairsAnswers.{IsPaired}
 use Rattle.uc_top.specs.ProveAnswers.{ProveAnswers}
+use Rattle.uc_top.specs.DecideAnswers.{IsDecided}
 
 -- what a fetch answers of the proof file of this name: its first bytes, as many as are asked for; that there is none; or a failure,
 -- which comes only where the count of faults rose
@@ -52,7 +53,14 @@ IsBuilt verb.Show = Unit {0}
 IsBuilt verb.Order = Unit {0}
 IsBuilt verb.Rewrite = Unit {0}
 IsBuilt verb.Pairs = Unit {0}
+IsBuilt verb.Decide = Unit {0}
 IsBuilt other = ⊥
+
+-- the commands that search, each by one worker so far
+abbrev pub IsSearching : Verb → Type 0
+IsSearching verb.Prove = Unit {0}
+IsSearching verb.Decide = Unit {0}
+IsSearching other = ⊥
 
 -- Symbols are those of this table.
 module _ (table : Table) where
@@ -109,15 +117,20 @@ module _ (table : Table) where
     abbrev pub PairsAnswers : OrderWords → Option (List ℕ) → List ℕ → ℕ → List ℕ → Type 0
     PairsAnswers order root name = LoadAnswers (IsPaired table order) root name
 
+    -- the answer to `decide` for the problem file of this name and these questions, by one worker
+    abbrev pub DecideAnswers : Command → List ℕ → List (List ℕ) → ℕ → List ℕ → Type 0
+    DecideAnswers command name questions = LoadAnswers (IsDecided table command name questions) command.root name
+
     -- the answer to the words of a command line; each command that is built has a case
     module _ (words : List (List ℕ)) where
       pub data Answers : ℕ → List ℕ → Type 0 where
         has_no_reading : ((command : Command) → Reads words command → ⊥) → Answers 4 usage_line
         isnt_built : {command : Command} → Reads words command → (IsBuilt command.verb → ⊥) → Answers 4 usage_line
-        has_many_workers : {command : Command} → Reads words command → command.verb ≡ verb.Prove → (command.workers ≡ 1 → ⊥) → Answers 4 usage_line
+        has_many_workers : {command : Command} → Reads words command → IsSearching command.verb → (command.workers ≡ 1 → ⊥) → Answers 4 usage_line
         checks : {command : Command} {name proof : List ℕ} {status : ℕ} {answer : List ℕ} → Reads words command → command.verb ≡ verb.Check → command.positionals ≡ name ∷ proof ∷ [] → CheckAnswers command.root name proof status answer → Answers status answer
         shows : {command : Command} {name : List ℕ} {status : ℕ} {answer : List ℕ} → Reads words command → command.verb ≡ verb.Show → command.positionals ≡ name ∷ [] → ShowAnswers command.root name status answer → Answers status answer
         orders : {command : Command} {name : List ℕ} {status : ℕ} {answer : List ℕ} → Reads words command → command.verb ≡ verb.Order → command.positionals ≡ name ∷ [] → OrderAnswers command.order command.root name status answer → Answers status answer
         rewrites : {command : Command} {name word : List ℕ} {status : ℕ} {answer : List ℕ} → Reads words command → command.verb ≡ verb.Rewrite → command.positionals ≡ name ∷ word ∷ [] → RewriteAnswers command.order command.limit word command.root name status answer → Answers status answer
         pairs_up : {command : Command} {name : List ℕ} {status : ℕ} {answer : List ℕ} → Reads words command → command.verb ≡ verb.Pairs → command.positionals ≡ name ∷ [] → PairsAnswers command.order command.root name status answer → Answers status answer
         proves : {command : Command} {name : List ℕ} {status : ℕ} {answer : List ℕ} → Reads words command → command.verb ≡ verb.Prove → command.workers ≡ 1 → command.positionals ≡ name ∷ [] → ProveAnswers table command name holds before now status answer → Answers status answer
+        decides : {command : Command} {name : List ℕ} {questions : List (List ℕ)} {status : ℕ} {answer : List ℕ} → Reads words command → command.verb ≡ verb.Decide → command.workers ≡ 1 → command.positionals ≡ name ∷ questions → DecideAnswers command name questions status answer → Answers status answer

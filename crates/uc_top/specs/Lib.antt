@@ -9,6 +9,8 @@ pub mod PairsAnswers
 pub mod TraceLines
 pub mod PrintableProblems
 pub mod ProveAnswers
+pub mod QuestionWords
+pub mod DecideAnswers
 pub mod Told
 pub mod Answers
 pub mod Runs
@@ -16,3 +18,5 @@ pub mod OrderRuns
 pub mod RewriteRuns
 pub mod PairsRuns
 pub mod ProveRuns
+pub mod DecideRuns
+pub mod Headline

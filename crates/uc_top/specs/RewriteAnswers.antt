@@ -23,7 +23,7 @@ use Rattle.uc_ordering.specs.declared.fault.ChoiceFault.TheVariants as choice
 use Rattle.uc_ordering.specs.Choice.{IsChosen, IsChoiceFault}
 use Rattle.uc_ordering.specs.Meaning.{meaning_of}
 use Rattle.uc_top.specs.declared.term_word.WordFault.{WordFault}
-use Rattle.uc_top.specs.declared.term_word.WordFault.TheVariants.{Unread, UnknownSymbol, NoMemory}
+use Rattle.uc_top.specs.declared.term_word.WordFault.TheVariants.{Unread, UnknownSymbol, NotGround, NoMemory}
 use Rattle.uc_top.specs.Lines.{spaced, located, clause_line}
 use Rattle.uc_top.specs.TermWords.{IsTermWord, IsWordFault}
 use Rattle.uc_top.specs.OrderAnswers.{choice_line}
@@ -32,10 +32,11 @@ use Rattle.uc_top.specs.OrderAnswers.{choice_line}
 abbrev pub word_name : ℕ → List ℕ
 word_name number = codes "word " ++ decimal number
 
--- the line of the word of this number that is no term; none for want of memory, which has a line of its own
+-- the line of the word of this number that is no term, or no question; none for want of memory, which has a line of its own
 abbrev pub word_line : ℕ → WordFault → List ℕ
 word_line number (Unread why) = clause_line (word_name number) why
 word_line number (UnknownSymbol place name) = located (word_name number) place (codes "UnknownSymbol") (spaced (spelling name))
+word_line number (NotGround place) = located (word_name number) place (codes "NotGround") []
 word_line number NoMemory = []
 
 abbrev pub number_of : By → ℕ

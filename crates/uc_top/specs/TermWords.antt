@@ -17,7 +17,7 @@ use Rattle.uc_clause.specs.Terminals.{place_at}
 use Rattle.uc_clause.specs.Items.{term_alone}
 use Rattle.uc_clause.specs.Reading.{ReadsTerm, Refuses}
 use Rattle.uc_top.specs.declared.term_word.WordFault.{WordFault}
-use Rattle.uc_top.specs.declared.term_word.WordFault.TheVariants.{Unread, UnknownSymbol, NoMemory}
+use Rattle.uc_top.specs.declared.term_word.WordFault.TheVariants.{Unread, UnknownSymbol, NotGround, NoMemory}
 
 -- a node whose symbol isn't one of these
 abbrev pub is_foreign : List Sym → Node → Bool
@@ -49,10 +49,12 @@ module _ (table : Table) (known : List Sym) (word : List ℕ) where
     pub leaf : slice_get (leaves reads.parse) number ≡ Some token
     pub place_is : place ≡ place_at word reads.tokens token
 
-  -- the word is no term of known symbols; it is read whole before its symbols are looked at, and want of memory is free
+  -- the word is no term of known symbols; it is read whole before its symbols are looked at, variables are allowed, and want of
+  -- memory is free
   abbrev pub IsWordFault : WordFault → Type 0
   IsWordFault (Unread why) = Refuses term_alone word why
   IsWordFault (UnknownSymbol place name) = HasForeign place name
+  IsWordFault (NotGround place) = ⊥
   IsWordFault NoMemory = Unit {0}
 
 -- The tokens of a term are its variables and functors, in the order of its nodes, and marks between them.

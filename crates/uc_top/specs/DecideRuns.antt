@@ -1,0 +1,117 @@
+-- How a run of `decide` ends, and what its answers promise.
+use Rattle.std.specs.Prelude.{ℕ, ◌≡◌, ◌≤◌, ◌⊎◌, List, [], ◌∷◌, ◌++◌, codes, Option, None}
+use Rattle.std.specs.Io.KnownBytes.{Appends}
+use Rattle.uc_term.specs.declared.equation.Equation.{Equation}
+use Rattle.uc_term.specs.Tree.{Tree}
+use Rattle.uc_term.specs.Table.{Table, IsDistinct}
+use Rattle.uc_edge.specs.Files.{Files}
+use Rattle.uc_check.specs.Clauses.{axioms_of}
+use Rattle.uc_problem.specs.declared.problem.Problem.{Problem}
+use Rattle.uc_problem.specs.Holds.{Holds}
+use Rattle.uc_order.specs.declared.spec.OrderSpec.{OrderSpec}
+use Rattle.uc_order.specs.Laws.{Meaning}
+use Rattle.uc_fact.specs.Live.{numbered}
+use Rattle.uc_machine.specs.declared.event.Verdict.{Verdict}
+use Rattle.uc_machine.specs.declared.event.Verdict.TheVariants.{Saturated}
+use Rattle.uc_machine.specs.State.{State}
+use Rattle.uc_search.specs.Searching.{IsSearched}
+use Rattle.uc_search.specs.Causes.{HasCause}
+use Rattle.uc_decide.specs.declared.reply.Reply.{Reply}
+use Rattle.uc_decide.specs.Deciding.{Decides}
+use Rattle.uc_decide.specs.Asking.{IsRight}
+use Rattle.uc_words.specs.declared.command.Command.{Command}
+use Rattle.uc_words.specs.declared.command.Verb.TheVariants.{Decide}
+use Rattle.uc_words.specs.Reads.{Reads}
+use Rattle.uc_ordering.specs.Choice.{IsChosen}
+use Rattle.uc_ordering.specs.Meaning.{meaning_of}
+use Rattle.uc_top.specs.declared.term_word.WordFault.{WordFault}
+use Rattle.uc_top.specs.declared.term_word.WordFault.TheVariants.{NoMemory}
+use Rattle.uc_top.specs.Lines.{memory_line}
+use Rattle.uc_top.specs.RewriteAnswers.{word_line}
+use Rattle.uc_top.specs.QuestionWords.{AreQuestions, IsFirstFault}
+use Rattle.uc_top.specs.ProveAnswers.{status_line, IsLimitLine}
+use Rattle.uc_top.specs.DecideAnswers.{AreReplies, replies_status, reply_lines, opening_of_axioms, facts_of}
+use Rattle.uc_top.specs.Runs.{EndsWith}
+
+-- EACH LINE IS RIGHT
+
+-- Each reply is right: where it is Equal, the question's equation follows from the axioms, and where it is Different, it doesn't;
+-- and its terms are the least to which the axioms make the question's sides equal.
+pub data AreRight (m : Meaning) (axioms : List Equation) : List (Tree × Tree) → List Reply → Type 0 where
+  none_is_wrong : AreRight m axioms [] []
+  one_is_right : {sides : Tree × Tree} {others : List (Tree × Tree)} {reply : Reply} {replies : List Reply} → IsRight m axioms sides.0 sides.1 reply → AreRight m axioms others replies → AreRight m axioms (sides ∷ others) (reply ∷ replies)
+
+-- A system that decides what follows from the problem's axioms answers the questions: the answer has one line for each, and each
+-- line is right. A line is `spent` or `grown` only where so many steps, or so large a term, came before a normal form.
+pub record IsAnswered (table : Table) (command : Command) (problem : Problem) (spec : OrderSpec) (questions : List (Tree × Tree)) (status : ℕ) (answer : List ℕ) : Type 0 where
+  pub system : List Equation
+  pub decides : Decides (meaning_of table spec) system (axioms_of problem.clauses)
+  pub replies : List Reply
+  pub are_replies : AreReplies (meaning_of table spec) (numbered system) command.steps questions replies
+  pub are_right : AreRight (meaning_of table spec) (axioms_of problem.clauses) questions replies
+  pub status_is : status ≡ replies_status replies
+  pub answer_is : answer ≡ reply_lines table replies
+
+-- the answer names a limit that ended the search, with its cause
+pub record IsOut (table : Table) (command : Command) (name : List ℕ) (problem : Problem) (spec : OrderSpec) (status : ℕ) (answer : List ℕ) : Type 0 where
+  pub verdict : Verdict
+  pub state : State
+  pub searched : IsSearched (meaning_of table spec) (opening_of_axioms command problem) 0 verdict state
+  pub cause : HasCause (meaning_of table spec) (opening_of_axioms command problem) state verdict
+  pub line : List ℕ
+  pub line_is : IsLimitLine command state verdict line
+  pub status_is : status ≡ 2
+  pub answer_is : answer ≡ status_line (codes "ResourceOut") name ++ line
+
+-- THE PROMISE
+
+-- For a problem, questions and the order that the command names: each question has its line, and each line is right; or a limit
+-- ended the search, with its cause.
+pub record Decided (table : Table) (command : Command) (name : List ℕ) (words : List (List ℕ)) (problem : Problem) (status : ℕ) (answer : List ℕ) : Type 0 where
+  pub spec : OrderSpec
+  pub chosen : IsChosen table problem.signature command.order None spec
+  pub questions : List (Tree × Tree)
+  pub are_questions : AreQuestions table problem.signature.symbols words questions
+  pub told : IsAnswered table command problem spec questions status answer ⊎ IsOut table command name problem spec status answer
+
+-- so it is for the problem of this name that the files have, with its symbols in this table
+pub record IsDecidedBy (table : Table) (files : Files) (command : Command) (name : List ℕ) (words : List (List ℕ)) (status : ℕ) (answer : List ℕ) : Type 0 where
+  pub problem : Problem
+  pub holds : Holds table files command.root name problem
+  pub decided : Decided table command name words problem status answer
+
+-- and with its symbols in some table whose entries are all different
+pub record KeepsDecision (files : Files) (command : Command) (name : List ℕ) (words : List (List ℕ)) (status : ℕ) (answer : List ℕ) : Type 0 where
+  pub table : Table
+  pub distinct : IsDistinct table
+  pub is_decided : IsDecidedBy table files command name words status answer
+
+-- So it is where the command is `decide`, with one worker.
+abbrev pub KeepsDecideCommand : Files → Command → ℕ → List ℕ → Type 0
+KeepsDecideCommand files command status answer = (name : List ℕ) (words : List (List ℕ)) → command.workers ≡ 1 → command.positionals ≡ name ∷ words → KeepsDecision files command name words status answer
+
+-- So it is of a run whose words are those of `decide`, with one worker, and that ends with status 0, 1 or 2: the sink was given
+-- such an answer.
+abbrev pub KeepsDecideWord : Files → List (List ℕ) → Option (List ℕ) → Option (List ℕ) → ℕ → Type 0
+KeepsDecideWord files all old new result = (command : Command) (name : List ℕ) (words : List (List ℕ)) → Reads all command → command.verb ≡ Decide → command.workers ≡ 1 → command.positionals ≡ name ∷ words → result ≤ 2 → (answer : List ℕ) × KeepsDecision files command name words result answer × Appends old new answer
+
+-- COMPLETENESS
+
+-- How `decide` ends for a problem, an order and questions: with a reply to each question by the saturated system of worker 0
+-- alone, with the limit that ended its search, or for want of memory, which is free.
+pub data QuestionsEnd (table : Table) (command : Command) (name : List ℕ) (problem : Problem) (spec : OrderSpec) (questions : List (Tree × Tree)) (old new : Option (List ℕ)) : ℕ → Type 0 where
+  tells_replies : {s : State} {replies : List Reply} → IsSearched (meaning_of table spec) (opening_of_axioms command problem) 0 Saturated s → AreReplies (meaning_of table spec) (facts_of s) command.steps questions replies → Appends old new (reply_lines table replies) → QuestionsEnd table command name problem spec questions old new (replies_status replies)
+  tells_limit : {v : Verdict} {s : State} {line : List ℕ} → IsSearched (meaning_of table spec) (opening_of_axioms command problem) 0 v s → IsLimitLine command s v line → Appends old new (status_line (codes "ResourceOut") name ++ line) → QuestionsEnd table command name problem spec questions old new 2
+  lacks_memory : Appends old new memory_line → QuestionsEnd table command name problem spec questions old new 7
+
+-- How `decide` ends for a problem and an order, by what the words are in one table.
+pub record DecideEnds (table : Table) (command : Command) (name : List ℕ) (problem : Problem) (spec : OrderSpec) (words : List (List ℕ)) (old new : Option (List ℕ)) (result : ℕ) : Type 0 where
+  -- they are questions over the problem's signature
+  pub asked : (questions : List (Tree × Tree)) → AreQuestions table problem.signature.symbols words questions → QuestionsEnd table command name problem spec questions old new result
+  -- one is none
+  pub no_question : (number : ℕ) (why : WordFault) → IsFirstFault table problem.signature.symbols words number why → (why ≡ NoMemory → ⊥) → EndsWith 3 (word_line number why) old new result
+
+-- Where the words of `decide`, with one worker, name an order for a problem that the files hold, in whatever table without an entry
+-- twice its symbols and those of the questions stand, `decide` ends so.
+abbrev pub CompletesDecide : Files → List (List ℕ) → Option (List ℕ) → Option (List ℕ) → ℕ → Type 0
+CompletesDecide files all old new result = (command : Command) (name : List ℕ) (words : List (List ℕ)) (table : Table) (problem : Problem) (spec : OrderSpec) → Reads all command → command.verb ≡ Decide → command.workers ≡ 1 → command.positionals ≡ name ∷ words → IsDistinct table → Holds table files command.root name problem → IsChosen table problem.signature command.order None spec → DecideEnds table command name problem spec words old new result
