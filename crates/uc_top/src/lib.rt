@@ -7,8 +7,10 @@ mod checking;
 mod choosing;
 #[cfg(test)]
 mod damage_tests;
+mod deciding;
 mod directing;
 mod laws;
+mod limit_lines;
 #[cfg(test)]
 mod limit_tests;
 mod lines;

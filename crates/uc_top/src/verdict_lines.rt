@@ -116,7 +116,14 @@ fn verdict_lines<O: Order>(
     match verdict {
         Verdict::Proved(goal) => proved_lines(alloc, closed, book, goal),
         Verdict::Saturated => saturated_lines(alloc, closed, book),
-        _ => out_lines(alloc, closed.command, closed.name, closed.shelf, book, verdict),
+        _ => out_lines(
+            alloc,
+            closed.command,
+            closed.name,
+            closed.shelf,
+            book,
+            verdict,
+        ),
     }
 }
 
