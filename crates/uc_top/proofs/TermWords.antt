@@ -37,7 +37,7 @@ module _ (bytes : List ℕ) (tokens : List Token) (table : Table) where
   arity_is f name n s = sym (ap (λ (o : Option Entry). (unwrap_or o (record { name = []; arity = 0 })).arity) s)
 
   mutual
-    means_of : {seen : Variables} {p : Parse} {t : Tree} → Means bytes tokens table seen p t → IsOf table t
+    pub means_of : {seen : Variables} {p : Parse} {t : Tree} → Means bytes tokens table seen p t → IsOf table t
     means_of (variable_means e) = tt
     means_of (functor_means {f = f} {ts = ts} s ms) = (some_within table f.0 _ s, arity_is f _ (count ts) s, mean_all_of ms)
 

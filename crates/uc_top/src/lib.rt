@@ -7,6 +7,7 @@ mod checking;
 mod choosing;
 #[cfg(test)]
 mod damage_tests;
+mod deciding;
 mod directing;
 mod laws;
 #[cfg(test)]
