@@ -26,6 +26,8 @@ mod program;
 #[cfg(test)]
 mod proof_tests;
 mod proving;
+mod question_word;
+mod replying;
 #[cfg(test)]
 mod rewrite_tests;
 mod rewriting;
@@ -38,6 +40,7 @@ mod term_word;
 mod tests;
 mod trace_lines;
 mod verdict_lines;
+mod word_lines;
 
 pub use laws::one_answer;
 pub use output::tell_memory_out;
