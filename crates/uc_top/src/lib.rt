@@ -10,6 +10,7 @@ mod damage_tests;
 mod deciding;
 mod directing;
 mod laws;
+mod limit_lines;
 #[cfg(test)]
 mod limit_tests;
 mod lines;
