@@ -1,5 +1,5 @@
 -- From what the calls beneath `decide` promise to its answers.
-use Rattle.std.proofs.Common.{ℕ, ◌≡◌, ◌≤◌, ◌⊎◌, inl, inr, List, [], ◌++◌, codes, Option, Some, None, Result, Ok, Err, refl, sym, ap, ◌∙◌, subst, arith}
+use Rattle.std.proofs.Common.{ℕ, ◌≡◌, ◌≤◌, ◌⊎◌, inl, inr, List, [], ◌∷◌, ◌++◌, codes, Option, Some, None, Result, Ok, Err, refl, sym, ap, ◌∙◌, subst, arith}
 use Rattle.std.specs.Result.{IfOk}
 use Rattle.std.specs.declared.alloc.AllocError.{AllocError}
 use Rattle.uc_term.specs.declared.equation.Equation.{Equation}
@@ -11,7 +11,7 @@ use Rattle.uc_problem.specs.declared.problem.Problem.{Problem}
 use Rattle.uc_problem.specs.declared.problem.Encoded.{Encoded}
 use Rattle.uc_problem.specs.Holds.{Agrees, Holds, IsProblem}
 use Rattle.uc_order.specs.declared.spec.OrderSpec.{OrderSpec}
-use Rattle.uc_order.specs.Laws.{Meaning, Laws, HasSym, IsGroundOf}
+use Rattle.uc_order.specs.Laws.{Meaning, HasSym}
 use Rattle.uc_fact.specs.Ground.{AreOfSignature}
 use Rattle.uc_fact.specs.Live.{equations_of, numbered}
 use Rattle.uc_shelf.specs.Entries.{live}
@@ -85,6 +85,14 @@ module _ (table : Table) (m : Meaning) (command : Command) (name : List ℕ) (ax
   pub told_by : (o : Opening) (v : Verdict) (s : State) (r : Result Answer AllocError) → IsSearched m o 0 v s → IfOk r (λ answer. IsTold table m command name axioms questions s v answer.status (joined answer.lines)) → IfOk r (λ answer. IsToldBySearch table m command name axioms questions o answer.status (joined answer.lines))
   told_by o v s (Ok answer) searched told = record { verdict = v; state = s; searched = searched; told = told }
   told_by o v s (Err fault) searched told = tt
+
+-- an opening over a signature, without goals
+none_over : (m : Meaning) (es : List Equation) → es ≡ [] → AreOfSignature (HasSym m) m.arity es
+none_over m [] none number e at = absurd cc
+none_over m (x ∷ es) none number e at = absurd (let bad : x ∷ es ≡ [] = none in cc)
+
+pub opens_without : (m : Meaning) (o : Opening) → AreOfSignature (HasSym m) m.arity o.axioms → o.goals ≡ [] → OpensOver m o
+opens_without m o over none = record { axioms = over; goals = none_over m o.goals none }
 
 -- a verdict without a goal is a limit, where it isn't Saturated
 pub limit_status : (m : Meaning) (o : Opening) (v : Verdict) (s : State) → IsSearched m o 0 v s → o.goals ≡ [] → (v ≡ Saturated → ⊥) → verdict_status v ≡ 2
