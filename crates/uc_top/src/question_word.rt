@@ -84,11 +84,7 @@ pub(crate) fn read_question(
 }
 
 // The sides of the equation that a word is.
-fn whole_equation(
-    alloc: Global,
-    word: &[u8],
-    symbols: &mut Symbols,
-) -> Result<Question, WordFault>
+fn whole_equation(alloc: Global, word: &[u8], symbols: &mut Symbols) -> Result<Question, WordFault>
     requires { length word.now < 2 ^ 31 }
     ensures reads { IfOk result (ReadsEquation word.now symbols.new) }
     ensures refused { (known : List AnySym) → IfErr result (IsQuestionFault symbols.new known word.now) }
