@@ -1,5 +1,5 @@
 -- From what the calls beneath promise to the answers.
-use Rattle.std.proofs.Common.{◌⊎◌, inl, inr, ℕ, ◌≡◌, ◌+◌, ◌<◌, ◌≤◌, Bool, true, false, List, [], ◌∷◌, length, take, get_or, Option, Some, None, Result, Ok, Err, refl, sym, ap, ◌∙◌, subst, arith}
+use Rattle.std.proofs.Common.{◌⊎◌, inl, inr, ℕ, ◌≡◌, ◌+◌, ◌-◌, ◌<◌, ◌≤◌, Bool, true, false, List, [], ◌∷◌, length, take, drop, get_or, Option, Some, None, Result, Ok, Err, refl, sym, ap, ap₂, ◌∙◌, subst, arith}
 use Rattle.std.proofs.lemmas.List.{take_all, length-take-le}
 use Rattle.std.specs.Str.{IsUtf8}
 use Rattle.std.proofs.lemmas.Str.{is_utf8-from_IsUtf8}
@@ -297,15 +297,20 @@ one_name [] a low high p = absurd (omega arith)
 one_name (x ∷ []) a low high p = rw p refl
 one_name (x ∷ y ∷ ys) a low high p = absurd (omega arith)
 
-pub not_built : (v : Verb) → (v ≡ verb.Check → ⊥) → (v ≡ verb.Show → ⊥) → (v ≡ verb.Order → ⊥) → (v ≡ verb.Rewrite → ⊥) → (v ≡ verb.Pairs → ⊥) → (v ≡ verb.Prove → ⊥) → IsBuilt v → ⊥
-not_built verb.Check n m o r p q b = n refl
-not_built verb.Show n m o r p q b = m refl
-not_built verb.Order n m o r p q b = o refl
-not_built verb.Prove n m o r p q b = q refl
-not_built verb.Decide n m o r p q b = b
-not_built verb.Rewrite n m o r p q b = r refl
-not_built verb.Pairs n m o r p q b = p refl
-not_built verb.Gen n m o r p q b = b
+-- a name and those behind it
+pub name_and_more : (names : List (List ℕ)) (a : List ℕ) → 1 ≤ length names → a ≡ get_or names 0 a → names ≡ a ∷ take (length names - 1) (drop 1 names)
+name_and_more [] a low p = absurd (omega arith)
+name_and_more (x ∷ xs) a low p = ap₂ (λ y ys. y ∷ ys) (sym p) (sym (take_all (length (x ∷ xs) - 1) xs (omega arith)))
+
+pub not_built : (v : Verb) → (v ≡ verb.Check → ⊥) → (v ≡ verb.Show → ⊥) → (v ≡ verb.Order → ⊥) → (v ≡ verb.Rewrite → ⊥) → (v ≡ verb.Pairs → ⊥) → (v ≡ verb.Prove → ⊥) → (v ≡ verb.Decide → ⊥) → IsBuilt v → ⊥
+not_built verb.Check n m o r p q d b = n refl
+not_built verb.Show n m o r p q d b = m refl
+not_built verb.Order n m o r p q d b = o refl
+not_built verb.Prove n m o r p q d b = q refl
+not_built verb.Decide n m o r p q d b = d refl
+not_built verb.Rewrite n m o r p q d b = r refl
+not_built verb.Pairs n m o r p q d b = p refl
+not_built verb.Gen n m o r p q d b = b
 
 -- the empty table
 pub none_distinct : IsDistinct []

@@ -33,9 +33,10 @@ use Rattle.uc_top.proofs.PairsOnce.{paired_once}
 use Rattle.uc_top.specs.ProveAnswers.{ProveAnswers}
 use Rattle.uc_top.proofs.SearchLaws.{OneSearch}
 use Rattle.uc_top.proofs.ProveOnce.{prove_answers_once}
+use Rattle.uc_top.proofs.DecideOnce.{decide_answers_once}
 use Rattle.uc_top.proofs.VariableWeights.{w0_within}
-use Rattle.uc_top.proofs.ByVerb.{IsUsage, OfProve, Of, of_command, read_or_not}
-use Rattle.uc_top.specs.Answers.{checked_status, TextAnswers, is_not_read, is_checked, ProofAnswers, is_absent, isnt_fetched, is_found, ProblemAnswers, has_large_goal, is_marked, LoadAnswers, CheckAnswers, ShowAnswers, OrderAnswers, RewriteAnswers, PairsAnswers, IsShown, fetch_fails, is_refused, is_loaded, Answers}
+use Rattle.uc_top.proofs.ByVerb.{IsUsage, OfProve, OfDecide, Of, of_command, read_or_not}
+use Rattle.uc_top.specs.Answers.{checked_status, TextAnswers, is_not_read, is_checked, ProofAnswers, is_absent, isnt_fetched, is_found, ProblemAnswers, has_large_goal, is_marked, LoadAnswers, CheckAnswers, ShowAnswers, OrderAnswers, RewriteAnswers, PairsAnswers, DecideAnswers, IsShown, fetch_fails, is_refused, is_loaded, Answers}
 use Rattle.uc_top.specs.Refusals.{large_line}
 
 -- what a text reads as where memory isn't wanted: it is too long, or it is read
@@ -79,6 +80,12 @@ first_name e = cc
 
 pub second_name : {a b c d : List ℕ} → Path (List (List ℕ)) (a ∷ b ∷ []) (c ∷ d ∷ []) → b ≡ d
 second_name e = cc
+
+pub head_name : {a b : List ℕ} {xs ys : List (List ℕ)} → Path (List (List ℕ)) (a ∷ xs) (b ∷ ys) → a ≡ b
+head_name e = cc
+
+pub tail_names : {a b : List ℕ} {xs ys : List (List ℕ)} → Path (List (List ℕ)) (a ∷ xs) (b ∷ ys) → xs ≡ ys
+tail_names e = cc
 
 pub only_name : {a b : List ℕ} → Path (List (List ℕ)) (a ∷ []) (b ∷ []) → a ≡ b
 only_name e = cc
@@ -156,6 +163,14 @@ module _ (table : Table) (distinct : IsDistinct table) where
       prove_command_once k within (inr x) (inl y) = absurd (y.0 x.0)
       prove_command_once k within {t = t} {b = b} (inr (one, name, p, x)) (inr (alone, named, q, y)) = prove_answers_once one_search table distinct k within.0 within.1 name files before now well x (subst (λ n. ProveAnswers table k n (Some files) before now t b) (only_name (sym q ∙ p)) y)
 
+      decide_command_once : (k : Command) → IsWithin k → {s t : ℕ} {a b : List ℕ} → OfDecide table (Some files) before now k s a → OfDecide table (Some files) before now k t b → (s ≡ t) × (a ≡ b)
+      decide_command_once k within (inl x) (inl y) = usage_once x.1 y.1
+      decide_command_once k within (inl x) (inr y) = absurd (x.0 y.0)
+      decide_command_once k within (inr x) (inl y) = absurd (y.0 x.0)
+      decide_command_once k within {t = t} {b = b} (inr (one, name, questions, p, x)) (inr (alone, named, asked, q, y)) =
+          let names : named ∷ asked ≡ name ∷ questions = sym q ∙ p in
+          decide_answers_once one_search table distinct k within.0 within.1 name questions files before now well x (subst (λ n. DecideAnswers table (Some files) before now k n questions t b) (head_name names) (subst (λ qs. DecideAnswers table (Some files) before now k named qs t b) (tail_names names) y))
+
       verb_once : (v : Verb) (k : Command) → IsWithin k → {s t : ℕ} {a b : List ℕ} → OfFiles v k s a → OfFiles v k t b → (s ≡ t) × (a ≡ b)
       verb_once verb.Check k within {t = t} {b = b} (name, proof, p, x) (named, proved, q, y) =
           let names : named ∷ proved ∷ [] ≡ name ∷ proof ∷ [] = sym q ∙ p in
@@ -163,7 +178,7 @@ module _ (table : Table) (distinct : IsDistinct table) where
       verb_once verb.Show k within {t = t} {b = b} (name, p, x) (named, q, y) = show_once k.root name x (subst (λ n. ShowAnswers table (Some files) before now k.root n t b) (only_name (sym q ∙ p)) y)
       verb_once verb.Order k within {t = t} {b = b} (name, p, x) (named, q, y) = order_once k.order k.root name x (subst (λ n. OrderAnswers table (Some files) before now k.order k.root n t b) (only_name (sym q ∙ p)) y)
       verb_once verb.Prove k within x y = prove_command_once k within x y
-      verb_once verb.Decide k within x y = usage_once x y
+      verb_once verb.Decide k within x y = decide_command_once k within x y
       verb_once verb.Rewrite k within {t = t} {b = b} (name, word, p, x) (named, other, q, y) =
           let names : named ∷ other ∷ [] ≡ name ∷ word ∷ [] = sym q ∙ p in
           rewrite_once k.order k.limit word k.root name x (subst (λ n. RewriteAnswers table (Some files) before now k.order k.limit word k.root n t b) (first_name names) (subst (λ w. RewriteAnswers table (Some files) before now k.order k.limit w k.root named t b) (second_name names) y))

@@ -55,10 +55,10 @@ module _ (command : Command) (s : State) where
   isnt_proved : {goal : ℕ} {line : List ℕ} {A : Type 0} → IsLimitLine command s (Proved goal) line → A
   isnt_proved l = elim l [ ]
 
-  isnt_saturated : {line : List ℕ} {A : Type 0} → IsLimitLine command s Saturated line → A
+  pub isnt_saturated : {line : List ℕ} {A : Type 0} → IsLimitLine command s Saturated line → A
   isnt_saturated l = elim l [ ]
 
-  limit_once : {v : Verdict} {x y : List ℕ} → IsLimitLine command s v x → IsLimitLine command s v y → x ≡ y
+  pub limit_once : {v : Verdict} {x y : List ℕ} → IsLimitLine command s v x → IsLimitLine command s v y → x ≡ y
   limit_once budget_is_spent budget_is_spent = refl
   limit_once limit_is_passed limit_is_passed = refl
   limit_once (pair_is_large {o = o} outer path at place) (pair_is_large other written there placed) =

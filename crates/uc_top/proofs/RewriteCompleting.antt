@@ -30,7 +30,7 @@ use Rattle.uc_ordering.specs.Fits.{Fits}
 use Rattle.uc_ordering.proofs.Fitting.{fits}
 use Rattle.uc_ordering.proofs.Once.{order_once, chosen_or_refused}
 use Rattle.uc_top.specs.declared.term_word.WordFault.{WordFault}
-use Rattle.uc_top.specs.declared.term_word.WordFault.TheVariants.{Unread, UnknownSymbol, NoMemory}
+use Rattle.uc_top.specs.declared.term_word.WordFault.TheVariants.{Unread, UnknownSymbol, NotGround, NoMemory}
 use Rattle.uc_top.specs.TermWords.{is_foreign, first_foreign, IsTermWord, IsWordFault}
 use Rattle.uc_top.specs.Axioms.{AreEquationsOf}
 use Rattle.uc_top.specs.RewriteAnswers.{word_line, IsNormalFor, AreNormalLines, IsRewritten, is_unordered, is_no_term, is_normalised}
@@ -59,12 +59,12 @@ module _ (t u : Table) (ρ : Sym → Sym) (moves : (f : Sym) (e : Entry) → sli
   abbrev reads_moved : (word : List ℕ) (x : Tree) → ReadsTerm word t x → ReadsTerm word u (renamed ρ x)
   reads_moved word x r = record { tokens = r.tokens; are_tokens = r.are_tokens; parse = r.parse; end = r.end; reads = r.reads; means = means_renamed t u ρ moves word r.tokens r.means }
 
-  any_moved : (f : Sym) (known : List Sym) → Has t f → Each (Has t) known → list_any (same_symbol (ρ f)) (map ρ known) ≡ list_any (same_symbol f) known
+  pub any_moved : (f : Sym) (known : List Sym) → Has t f → Each (Has t) known → list_any (same_symbol (ρ f)) (map ρ known) ≡ list_any (same_symbol f) known
   any_moved f [] h k = refl
   any_moved f (g ∷ gs) h k = ap₂ (λ a b. a || b) (same_moved t u ρ moves distinct f g h k.0) (any_moved f gs h k.1)
 
   -- every symbol of the nodes is the table's
-  abbrev HasNode : Node → Type 0
+  abbrev pub HasNode : Node → Type 0
   HasNode (Var x) = Unit {0}
   HasNode (App f n) = Has t f
 
@@ -72,12 +72,12 @@ module _ (t u : Table) (ρ : Sym → Sym) (moves : (f : Sym) (e : Entry) → sli
   foreign_moved known (Var x) k h = refl
   foreign_moved known (App f n) k h = ap not (any_moved f known h k)
 
-  each_both : (ns ms : List Node) → Each HasNode ns → Each HasNode ms → Each HasNode (ns ++ ms)
+  pub each_both : (ns ms : List Node) → Each HasNode ns → Each HasNode ms → Each HasNode (ns ++ ms)
   each_both [] ms h k = k
   each_both (n ∷ ns) ms h k = (h.0, each_both ns ms h.1 k)
 
   mutual
-    nodes_have : (x : Tree) → IsOf t x → Each HasNode (flat x)
+    pub nodes_have : (x : Tree) → IsOf t x → Each HasNode (flat x)
     nodes_have (var n) h = (tt, tt)
     nodes_have (app f ts) h = (h.0, all_nodes_have ts h.2)
 
@@ -117,6 +117,7 @@ module _ (t u : Table) (ρ : Sym → Sym) (moves : (f : Sym) (e : Entry) → sli
     leaf = h.leaf;
     place_is = h.place_is;
   }
+  word_fault_moved word known (NotGround place) k h = absurd h
   word_fault_moved word known NoMemory k h = tt
 
 -- Two tables without an entry twice lie in a third.

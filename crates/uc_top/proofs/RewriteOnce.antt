@@ -28,7 +28,7 @@ use Rattle.uc_ordering.proofs.Once.{order_once, refusal_once, chosen_or_refused}
 use Rattle.uc_rewrite.specs.declared.normal.Normal.{Normal}
 use Rattle.uc_rewrite.proofs.Unique.{one_normal}
 use Rattle.uc_top.specs.declared.term_word.WordFault.{WordFault}
-use Rattle.uc_top.specs.declared.term_word.WordFault.TheVariants.{Unread, UnknownSymbol, NoMemory}
+use Rattle.uc_top.specs.declared.term_word.WordFault.TheVariants.{Unread, UnknownSymbol, NotGround, NoMemory}
 use Rattle.uc_top.specs.TermWords.{first_foreign, IsTermWord, HasForeign, IsWordFault}
 use Rattle.uc_top.specs.OrderAnswers.{choice_line}
 use Rattle.uc_top.specs.RewriteAnswers.{word_line, term_line, step_line, stop_line, stop_status, AreChained, no_step, one_step, AreNormalLines, IsNormalFor, IsRewritten, is_unordered, is_no_term, is_normalised}
@@ -99,12 +99,15 @@ module _ (word : List ℕ) where
       fault_once (Unread e) (UnknownSymbol p m) na nb x y = absurd (term_or_refused y.reads x)
       fault_once (UnknownSymbol p m) (Unread f) na nb x y = absurd (term_or_refused x.reads y)
       fault_once (UnknownSymbol p m) (UnknownSymbol q n) na nb x y = let s = foreign_once x y in ap₂ UnknownSymbol s.0 s.1
+      fault_once (NotGround p) b na nb x y = absurd x
+      fault_once a (NotGround q) na nb x y = absurd y
       fault_once NoMemory b na nb x y = absurd (na refl)
       fault_once a NoMemory na nb x y = absurd (nb refl)
 
       pub term_or_fault : (e : WordFault) (t : Tree) → (e ≡ NoMemory → ⊥) → IsTermWord table known word t → IsWordFault table known word e → ⊥
       term_or_fault (Unread why) t n k x = term_or_refused k.reads x
       term_or_fault (UnknownSymbol p m) t n k x = known_or_foreign k x
+      term_or_fault (NotGround p) t n k x = x
       term_or_fault NoMemory t n k x = n refl
 
       pub term_once : (t u : Tree) → IsTermWord table known word t → IsTermWord table known word u → u ≡ t

@@ -1,10 +1,10 @@
 //! The program.
 
-ghost use Rattle.std.specs.Prelude.{◌≡◌, ◌≤◌, ℕ, List, true, IfOk, Some, map, string_bytes, length};
+ghost use Rattle.std.specs.Prelude.{◌≡◌, ◌≤◌, ℕ, List, true, IfOk, IsTrue, IsFalse, Some, map, string_bytes, length};
 ghost use Rattle.uc_edge.specs.Files.{Files};
 ghost use Rattle.uc_edge.specs.Faults.{Rose};
 ghost use Rattle.uc_words.specs.declared.command.Command.{Command};
-ghost use Rattle.uc_words.specs.declared.command.Verb.TheVariants.{Check, Prove};
+ghost use Rattle.uc_words.specs.declared.command.Verb.TheVariants.{Check, Prove, Decide};
 ghost use Rattle.uc_words.specs.Reads.{Reads};
 ghost use Rattle.uc_words.specs.Table.{fits};
 ghost use Rattle.uc_top.specs.Lines.{joined, usage_line};
@@ -12,9 +12,12 @@ ghost use Rattle.uc_top.specs.Runs.{MayAnswer, IsRun, IsCertified, Completes, Co
 ghost use Rattle.uc_top.specs.OrderRuns.{CompletesOrder};
 ghost use Rattle.uc_top.specs.RewriteRuns.{CompletesRewrite};
 ghost use Rattle.uc_top.specs.PairsRuns.{CompletesPairs};
-ghost use Rattle.uc_top.specs.ProveRuns.{KeepsCommand, KeepsWord, CompletesProve};
+ghost use Rattle.uc_top.specs.ProveRuns.{KeepsCommand, CompletesProve};
+ghost use Rattle.uc_top.specs.DecideRuns.{KeepsDecideCommand};
+ghost use Rattle.uc_top.specs.Headline.{Headline};
 
 use crate::checking::check_answer;
+use crate::deciding::decide_answer;
 use crate::ordering::order_answer;
 use crate::output::{Answer, USAGE, of_line, tell, tell_memory_out};
 use crate::pairing::pairs_answer;
@@ -43,9 +46,12 @@ const USAGE_LINE: &[u8] = b"usage: uc COMMAND [--option VALUE].. [WORD]..\n";
 /// order is refused; else 3. For `prove`, with one worker, it is 0 where the text has a proof of the problem, each line of it
 /// right and the last one a refutation of a goal; 1 where it has a system by which each ground term has exactly one normal
 /// form, two terms share it exactly if their equation follows from the axioms, and no goal follows; 2 where the text names the
-/// budget or the size that ended the search; 4 where the order is refused; else 3. 4 stands for words that have no reading, 5
-/// for a failure of the library and 6 for one of the sink, each only where its count of faults rose in this call, and 7 for
-/// want of memory.
+/// budget or the size that ended the search; 4 where the order is refused; else 3. For `decide`, with one worker, it is 0 where
+/// each question has its line, `equal` where its equation follows from the axioms and `different` where it doesn't, with the
+/// least terms to which its sides are equal; 2 where a question stays open, since its steps are spent or a term grew too large,
+/// or where the text names the budget or the size that ended the search; 4 where the order is refused; else 3. 4 stands for
+/// words that have no reading, 5 for a failure of the library and 6 for one of the sink, each only where its count of faults
+/// rose in this call, and 7 for want of memory.
 pub fn run<R: Threads + Wait + Sync, L: Library, S: Sink, G: Gate + Sync>(
     rt: &R,
     alloc: Global,
@@ -61,7 +67,7 @@ pub fn run<R: Threads + Wait + Sync, L: Library, S: Sink, G: Gate + Sync>(
     ensures complete_order { (files : Files) → L.holds library.old ≡ Some files → (Rose (L.faults library.old) (L.faults library.new) → ⊥) → (Rose (S.faults sink.old) (S.faults sink.new) → ⊥) → CompletesOrder files (map string_bytes words.now) (S.written sink.old) (S.written sink.new) result }
     ensures complete_rewrite { (files : Files) → L.holds library.old ≡ Some files → (Rose (L.faults library.old) (L.faults library.new) → ⊥) → (Rose (S.faults sink.old) (S.faults sink.new) → ⊥) → CompletesRewrite files (map string_bytes words.now) (S.written sink.old) (S.written sink.new) result }
     ensures complete_pairs { (files : Files) → L.holds library.old ≡ Some files → (Rose (L.faults library.old) (L.faults library.new) → ⊥) → (Rose (S.faults sink.old) (S.faults sink.new) → ⊥) → CompletesPairs files (map string_bytes words.now) (S.written sink.old) (S.written sink.new) result }
-    ensures promise { (files : Files) → L.holds library.old ≡ Some files → KeepsWord files (map string_bytes words.now) (S.written sink.old) (S.written sink.new) result }
+    ensures headline { (files : Files) → L.holds library.old ≡ Some files → Headline files (map string_bytes words.now) (S.written sink.old) (S.written sink.new) result }
     ensures complete_prove { (files : Files) → L.holds library.old ≡ Some files → (Rose (L.faults library.old) (L.faults library.new) → ⊥) → (Rose (S.faults sink.old) (S.faults sink.new) → ⊥) → CompletesProve files (map string_bytes words.now) (S.written sink.old) (S.written sink.new) result }
     ensures same { L.holds library.new ≡ L.holds library.old }
     ensures later { L.faults library.old ≤ L.faults library.new }
@@ -83,6 +89,7 @@ fn answer_of<R: Wait, L: Library>(
     ensures answers { IfOk result (λ answer. MayAnswer (L.holds library.old) (L.faults library.old) (L.faults library.new) (map string_bytes words.now) answer.status (joined answer.lines)) }
     ensures certified { IfOk result (λ answer. answer.status ≡ 0 → (files : Files) → L.holds library.old ≡ Some files → (command : Command) → Reads (map string_bytes words.now) command → command.verb ≡ Check → IsCertified files command) }
     ensures promise { IfOk result (λ answer. answer.status ≤ 2 → (files : Files) → L.holds library.old ≡ Some files → (command : Command) → Reads (map string_bytes words.now) command → command.verb ≡ Prove → KeepsCommand files command answer.status (joined answer.lines)) }
+    ensures decided { IfOk result (λ answer. answer.status ≤ 2 → (files : Files) → L.holds library.old ≡ Some files → (command : Command) → Reads (map string_bytes words.now) command → command.verb ≡ Decide → KeepsDecideCommand files command answer.status (joined answer.lines)) }
     ensures same { L.holds library.new ≡ L.holds library.old }
     ensures later { L.faults library.old ≤ L.faults library.new }
 {
@@ -111,6 +118,7 @@ fn command_answer<R: Wait, L: Library>(
     ensures answers { (words : List (List ℕ)) → Reads words command.now → IfOk result (λ answer. MayAnswer (L.holds library.old) (L.faults library.old) (L.faults library.new) words answer.status (joined answer.lines)) }
     ensures certified { command.now.verb ≡ Check → IfOk result (λ answer. answer.status ≡ 0 → (files : Files) → L.holds library.old ≡ Some files → IsCertified files command.now) }
     ensures promise { command.now.verb ≡ Prove → IfOk result (λ answer. answer.status ≤ 2 → (files : Files) → L.holds library.old ≡ Some files → KeepsCommand files command.now answer.status (joined answer.lines)) }
+    ensures decided { command.now.verb ≡ Decide → IfOk result (λ answer. answer.status ≤ 2 → (files : Files) → L.holds library.old ≡ Some files → KeepsDecideCommand files command.now answer.status (joined answer.lines)) }
     ensures same { L.holds library.new ≡ L.holds library.old }
     ensures later { L.faults library.old ≤ L.faults library.new }
 {
@@ -136,8 +144,17 @@ fn command_answer<R: Wait, L: Library>(
             _ => unreachable!(),
         },
         Verb::Prove => prove_command(rt, alloc, command, library),
+        Verb::Decide => decide_command(rt, alloc, command, library),
         _ => usage_answer(alloc),
     }
+}
+
+// Whether one worker is to search; by more no command has a reading yet.
+fn is_alone(command: &Command) -> bool
+    ensures one { IsTrue result → command.now.workers ≡ 1 }
+    ensures many { IsFalse result → command.now.workers ≡ 1 → ⊥ }
+{
+    command.workers == 1
 }
 
 // The answer to `prove` by one worker; by more it has no reading yet.
@@ -155,11 +172,35 @@ fn prove_command<R: Wait, L: Library>(
     ensures same { L.holds library.new ≡ L.holds library.old }
     ensures later { L.faults library.old ≤ L.faults library.new }
 {
-    if command.workers != 1 {
+    if !is_alone(command) {
         return usage_answer(alloc);
     }
     match command.positionals.as_slice() {
         [name] => prove_answer(rt, alloc, command, name, library),
+        _ => unreachable!(),
+    }
+}
+
+// The answer to `decide` by one worker; by more it has no reading yet.
+fn decide_command<R: Wait, L: Library>(
+    rt: &R,
+    alloc: Global,
+    command: &Command,
+    library: &mut L,
+) -> Result<Answer, AllocError>
+    requires decide { command.now.verb ≡ Decide }
+    requires fits { fits command.now.verb (length command.now.positionals) ≡ true }
+    requires words { (words : List (List ℕ)) × Reads words command.now }
+    ensures answers { (words : List (List ℕ)) → Reads words command.now → IfOk result (λ answer. MayAnswer (L.holds library.old) (L.faults library.old) (L.faults library.new) words answer.status (joined answer.lines)) }
+    ensures decided { IfOk result (λ answer. answer.status ≤ 2 → (files : Files) → L.holds library.old ≡ Some files → KeepsDecideCommand files command.now answer.status (joined answer.lines)) }
+    ensures same { L.holds library.new ≡ L.holds library.old }
+    ensures later { L.faults library.old ≤ L.faults library.new }
+{
+    if !is_alone(command) {
+        return usage_answer(alloc);
+    }
+    match command.positionals.as_slice() {
+        [name, questions @ ..] => decide_answer(rt, alloc, command, name, questions, library),
         _ => unreachable!(),
     }
 }

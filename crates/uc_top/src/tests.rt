@@ -102,7 +102,7 @@ const PROBLEMS: [(&str, &str); 8] = [
 const USAGE: &str = "usage: uc COMMAND [--option VALUE].. [WORD]..\n";
 
 // Words, and what is answered.
-const WORDS: [(&[&str], u8, &str); 13] = [
+const WORDS: [(&[&str], u8, &str); 15] = [
     (&["check", "no.p", "r1.s"], 3, "% no.p Absent\n"),
     (&["check", "r1.p", "no.s"], 3, "% no.s Absent\n"),
     (&["check", "no.p", "no.s"], 3, "% no.p Absent\n"),
@@ -110,7 +110,9 @@ const WORDS: [(&[&str], u8, &str); 13] = [
     (&["check", "r1.p"], 4, USAGE),
     (&["check", "r1.p", "r1.s", "--trace"], 4, USAGE),
     (&["help"], 4, USAGE),
-    (&["decide", "r1.p", "a = b"], 4, USAGE),
+    (&["gen", "2", "3"], 4, USAGE),
+    (&["decide", "r1.p"], 4, USAGE),
+    (&["decide", "--workers", "2", "r1.p", "f(a) = b"], 4, USAGE),
     (&["prove"], 4, USAGE),
     (
         &["prove", "--budget", "5", "--budget", "6", "r5.p"],

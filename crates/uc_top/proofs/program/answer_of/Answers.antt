@@ -4,6 +4,7 @@ use Rattle.uc_top.specs.Runs.{MayAnswer, is_answer}
 use Rattle.uc_top.proofs.Answering.{one_line, none_distinct, certified_by}
 use Rattle.uc_top.proofs.ProvedAnswers.{no_promise}
 use Rattle.uc_top.proofs.ProveCompleting.{promised_answers}
+use Rattle.uc_top.proofs.DecidePromises.{decided_answers}
 use Rattle.uc_top.proofs.program.answer_of.Goals as goal
 
 pub returns-in-Err-Usage-clause-answers : goal.returns-in-Err-Usage-clause-answers
@@ -17,3 +18,9 @@ returns-in-Ok-clause-promise g c = promised_answers _ c.in-Ok.command _ c.comman
 
 pub returns-in-Err-Usage-clause-promise : goal.returns-in-Err-Usage-clause-promise
 returns-in-Err-Usage-clause-promise g c = no_promise _ _ _ c.usage_answer.result (omega arith) c.usage_answer.ensures
+
+pub returns-in-Ok-clause-decided : goal.returns-in-Ok-clause-decided
+returns-in-Ok-clause-decided g c = decided_answers _ c.in-Ok.command _ c.command_answer.result (rw c.in-Ok.is at c.read_words.ensures.reads) c.command_answer.ensures.decided
+
+pub returns-in-Err-Usage-clause-decided : goal.returns-in-Err-Usage-clause-decided
+returns-in-Err-Usage-clause-decided g c = no_promise _ _ _ c.usage_answer.result (omega arith) c.usage_answer.ensures

@@ -51,9 +51,10 @@ returns-in-len1-as_slice-2-clause-answers g c words r =
 
 pub returns-in_default : goal.returns-in_default
 returns-in_default g c = record {
-  answers = λ words r. one_line c.usage_answer.result (MayAnswer _ _ _ words) _ _ c.usage_answer.ensures (is_answer {table = []} none_distinct (isnt_built r (not_built _ c.in_default.not-Check c.in_default.not-Show c.in_default.not-Order c.in_default.not-Rewrite c.in_default.not-Pairs c.in_default.not-Prove)));
+  answers = λ words r. one_line c.usage_answer.result (MayAnswer _ _ _ words) _ _ c.usage_answer.ensures (is_answer {table = []} none_distinct (isnt_built r (not_built _ c.in_default.not-Check c.in_default.not-Show c.in_default.not-Order c.in_default.not-Rewrite c.in_default.not-Pairs c.in_default.not-Prove c.in_default.not-Decide)));
   certified = λ v. usage_not_done _ c.usage_answer.result _ c.usage_answer.ensures;
   promise = λ v. absurd (c.in_default.not-Prove v);
+  decided = λ v. absurd (c.in_default.not-Decide v);
   same = refl;
   later = omega arith;
 }

@@ -6,6 +6,7 @@ use Rattle.uc_top.proofs.CheckEnding.{completes_check}
 use Rattle.uc_top.proofs.RewriteCompleting.{rewrite_completes}
 use Rattle.uc_top.proofs.PairsCompleting.{pairs_complete}
 use Rattle.uc_top.proofs.ProveCompleting.{prove_completes, keeps_word}
+use Rattle.uc_top.proofs.DecidePromises.{keeps_decide_word}
 use Rattle.uc_top.proofs.program.run.Goals as goal
 
 pub returns-in-Err-clause-answers : goal.returns-in-Err-clause-answers
@@ -44,11 +45,17 @@ returns-in-Err-clause-complete_pairs g c = pairs_complete _ _ _ _ _ _ _ _ _ (rec
 pub returns-in-Ok-clause-complete_pairs : goal.returns-in-Ok-clause-complete_pairs
 returns-in-Ok-clause-complete_pairs g c = pairs_complete _ _ _ _ _ _ _ _ _ (record { status = _; text = _; answer = c.in-Ok.ensures.answers; told = c.tell.ensures.told })
 
-pub returns-in-Err-clause-promise : goal.returns-in-Err-clause-promise
-returns-in-Err-clause-promise g c files told = keeps_word files _ _ _ _ _ _ _ _ c.tell_memory_out.ensures.told (λ few command reads is_prove. absurd (omega (arith, few)))
+pub returns-in-Err-clause-headline : goal.returns-in-Err-clause-headline
+returns-in-Err-clause-headline g c files told = record {
+  prove = keeps_word files _ _ _ _ _ _ _ _ c.tell_memory_out.ensures.told (λ few command reads is_prove. absurd (omega (arith, few)));
+  decide = keeps_decide_word files _ _ _ _ _ _ _ _ c.tell_memory_out.ensures.told (λ few command reads is_decide. absurd (omega (arith, few)));
+}
 
-pub returns-in-Ok-clause-promise : goal.returns-in-Ok-clause-promise
-returns-in-Ok-clause-promise g c files told = keeps_word files _ _ _ _ _ _ _ _ c.tell.ensures.told (λ few. c.in-Ok.ensures.promise few files told)
+pub returns-in-Ok-clause-headline : goal.returns-in-Ok-clause-headline
+returns-in-Ok-clause-headline g c files told = record {
+  prove = keeps_word files _ _ _ _ _ _ _ _ c.tell.ensures.told (λ few. c.in-Ok.ensures.promise few files told);
+  decide = keeps_decide_word files _ _ _ _ _ _ _ _ c.tell.ensures.told (λ few. c.in-Ok.ensures.decided few files told);
+}
 
 pub returns-in-Err-clause-complete_prove : goal.returns-in-Err-clause-complete_prove
 returns-in-Err-clause-complete_prove g c = prove_completes _ _ _ _ _ _ _ _ _ (record { status = 7; text = _; answer = wants_memory; told = c.tell_memory_out.ensures.told })
