@@ -14,10 +14,7 @@ use Rattle.uc_words.specs.Forms.{form_of}
 use Rattle.uc_words.specs.Table.{verb_named}
 use Rattle.uc_words.specs.Lines.{item, turn, onto, at_end, line_of, given_value, is_value}
 use Rattle.uc_words.specs.Reads.{is_clean, is_printable, with_items, with_verb, says, Reads}
-
-abbrev pub AreShort : List (List ℕ) → Type 0
-AreShort [] = Unit {0}
-AreShort (w ∷ ws) = (length w < 2 ^ 31) × AreShort ws
+use Rattle.uc_top.specs.QuestionWords.{AreShort}
 
 -- a line's positionals are short
 abbrev IsShort : Option Line → Type 0

@@ -25,6 +25,8 @@ mod program;
 #[cfg(test)]
 mod proof_tests;
 mod proving;
+mod question_word;
+mod replying;
 #[cfg(test)]
 mod rewrite_tests;
 mod rewriting;
@@ -37,6 +39,7 @@ mod term_word;
 mod tests;
 mod trace_lines;
 mod verdict_lines;
+mod word_lines;
 
 pub use laws::one_answer;
 pub use output::tell_memory_out;
