@@ -3,7 +3,7 @@ use Rattle.std.proofs.Common.{◌≡◌, ℕ, [], ◌∷◌, ◌++◌, sym, ap, 
 use Rattle.uc_order.specs.Laws.{Meaning}
 use Rattle.uc_machine.specs.declared.event.Verdict.{Verdict}
 use Rattle.uc_machine.specs.State.{Opening, State}
-use Rattle.uc_machine.specs.Draws.{Reply, Drew, Idle, Drained, Closed, Draws}
+use Rattle.uc_machine.specs.Draws.{Drew, Idle, Drained, Closed, Draws}
 use Rattle.uc_book.specs.declared.token.Task.{Task}
 use Rattle.uc_book.specs.declared.answer.Drawn.{Drawn}
 use Rattle.uc_book.specs.declared.answer.Drawn.TheVariants.{Task as DrawnTask, Idle as DrawnIdle, Drained as DrawnDrained, Closed as DrawnClosed}
