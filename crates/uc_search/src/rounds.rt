@@ -22,7 +22,7 @@ use uc_shelf::Shelf;
 use uc_term::Seq;
 
 /// Works on a book until it has a verdict. Each time that it is drained the final pass is made: what is missing is kept and
-/// the work goes on, or the book is closed.
+/// the work goes on, or the book is closed. No task is out when it returns, whatever it answers.
 pub fn search_alone<R: Wait, O: Order>(
     rt: &R,
     alloc: Global,
