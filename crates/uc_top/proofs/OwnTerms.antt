@@ -26,6 +26,7 @@ use Rattle.uc_top.proofs.SpecSymbols.{symbol_known}
 -- MEMBERS
 
 at_place : {f : Sym} (fs : List Sym) → In fs f → IsAt f fs
+at_place [] i = elim i [ ]
 at_place (f ∷ fs) in_front = (zero, refl)
 at_place (f ∷ fs) (in_rest i) = let p = at_place fs i in (suc p.0, p.1)
 
