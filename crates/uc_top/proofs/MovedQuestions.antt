@@ -31,7 +31,7 @@ module _ (t u : Table) (ρ : Sym → Sym) (moves : (f : Sym) (e : Entry) → sli
   abbrev Known : Node → Type 0
   Known = HasNode t u ρ moves distinct
 
-  reads_moved : (word : List ℕ) (s : Tree × Tree) → ReadsEquation word t s → ReadsEquation word u (sides_moved s)
+  abbrev reads_moved : (word : List ℕ) (s : Tree × Tree) → ReadsEquation word t s → ReadsEquation word u (sides_moved s)
   reads_moved word s r = record {
     tokens = r.tokens;
     are_tokens = r.are_tokens;

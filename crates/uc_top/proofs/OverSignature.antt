@@ -39,7 +39,7 @@ in_right (x ∷ xs) i = in_rest (in_right xs i)
 same_sym : (f g : Sym) → (f.0 == g.0) ≡ true → g ≡ f
 same_sym f g e = ap (λ (n : ℕ). record { 0 = n }) (sym (eqb-true f.0 g.0 e))
 
-any_in : (f : Sym) (gs : List Sym) → list_any (same_symbol f) gs ≡ true → In gs f
+pub any_in : (f : Sym) (gs : List Sym) → list_any (same_symbol f) gs ≡ true → In gs f
 any_in f [] e = absurd cc
 any_in f (g ∷ gs) e = go (same_symbol f g) refl e (any_in f gs)
   where
@@ -47,11 +47,11 @@ any_in f (g ∷ gs) e = go (same_symbol f g) refl e (any_in f gs)
     go true q r later = subst (λ (h : Sym). In (g ∷ gs) h) (same_sym f g q) in_front
     go false q r later = in_rest (later r)
 
-split_left : {A : Type 0} (P : A → Type 0) (xs ys : List A) → Each P (xs ++ ys) → Each P xs
+pub split_left : {A : Type 0} (P : A → Type 0) (xs ys : List A) → Each P (xs ++ ys) → Each P xs
 split_left P [] ys h = tt
 split_left P (x ∷ xs) ys h = (h.0, split_left P xs ys h.1)
 
-split_right : {A : Type 0} (P : A → Type 0) (xs ys : List A) → Each P (xs ++ ys) → Each P ys
+pub split_right : {A : Type 0} (P : A → Type 0) (xs ys : List A) → Each P (xs ++ ys) → Each P ys
 split_right P [] ys h = h
 split_right P (x ∷ xs) ys h = split_right P xs ys h.1
 
@@ -176,6 +176,10 @@ module _ (table : Table) where
   symbol_arity f name n s = ap (λ (o : Option Entry). (unwrap_or o (record { name = []; arity = 0 })).arity) s
 
   module _ (problem : Problem) (agrees : Agrees table problem) where
+    -- the axioms of the problem itself are over its own signature
+    pub own_axioms_over : Each (IsEquationOver (In problem.signature.symbols)) (axioms_of problem.clauses)
+    own_axioms_over = axioms_over (In problem.signature.symbols) problem.clauses (own_terms problem agrees)
+
     abbrev Over : Option Fresh → List Equation → Type 0
     Over fresh es = Each (IsEquationOver (In (all_symbols problem.signature fresh))) es
 

@@ -19,21 +19,16 @@ use Rattle.uc_kbo.proofs.Tables.{each_in, symbols-weighed}
 use Rattle.uc_fact.specs.declared.fact.System.{System}
 use Rattle.uc_fact.specs.Ground.{AreOfSignature}
 use Rattle.uc_fact.specs.Live.{equations_of}
-use Rattle.uc_rewrite.specs.Replay.{FactsReplay}
-use Rattle.uc_shelf.specs.Entries.{live, born}
+use Rattle.uc_shelf.specs.Entries.{live}
 use Rattle.uc_check.specs.Clauses.{equation_of, axioms_of}
 use Rattle.uc_problem.specs.declared.problem.Problem.{Problem}
 use Rattle.uc_problem.specs.declared.problem.Encoded.{Encoded}
 use Rattle.uc_machine.specs.declared.event.Verdict.TheVariants.{Saturated}
 use Rattle.uc_machine.specs.State.{State}
-use Rattle.uc_runs.specs.Saturated.{IsSaturated}
 use Rattle.uc_runs.specs.Written.{AreNumbered, AreSmall}
 use Rattle.uc_runs.specs.Signatures.{AreGroundEquations}
-use Rattle.uc_runs.proofs.Saturating.{saturated}
 use Rattle.uc_runs.proofs.GoalsApart.{goals_apart}
-use Rattle.uc_runs.proofs.OverRuns.{facts_stay_over}
 use Rattle.uc_runs.proofs.WrittenFacts.{facts_numbered, facts_small}
-use Rattle.uc_final.proofs.Decided.{convergent_decides}
 use Rattle.uc_decide.specs.Deciding.{Decides, AreAllApart}
 use Rattle.uc_decide.proofs.Verdicts.{no_goal}
 use Rattle.uc_system.specs.Facts.{IsFact, IsSide}
@@ -47,8 +42,9 @@ use Rattle.uc_top.specs.PrintableProblems.{IsSmallClause, ArePrintableSourced, C
 use Rattle.uc_top.specs.ProveAnswers.{HasEnded}
 use Rattle.uc_top.specs.ProveRuns.{Settles}
 use Rattle.uc_top.proofs.SpecSymbols.{term_from, known_symbol, table_term}
-use Rattle.uc_top.proofs.SearchEnds.{m, o, laws, reaches, verdict_is, replay, opens, each_printable}
+use Rattle.uc_top.proofs.SearchEnds.{o, laws, reaches, verdict_is, opens, each_printable}
 use Rattle.uc_top.proofs.NoGoalFollows.{goals_closed, ground_term, encoded_follows}
+use Rattle.uc_top.proofs.Saturation.{facts_over as system_over, decided as system_decides}
 use Rattle.uc_top.proofs.SmallAxioms.{encoded_small}
 
 -- LISTS
@@ -103,24 +99,15 @@ module _ (table : Table) (command : Command) (problem : Problem) (encoded : Enco
   facts = equations_of (live s.entries)
 
   facts_over : AreOfSignature (HasSym (meaning_of table spec)) (meaning_of table spec).arity facts
-  facts_over = facts_stay_over (meaning_of table spec) (laws table command problem encoded spec Saturated s h) (o table command problem encoded spec Saturated s h) (opens table command problem encoded spec Saturated s h) s (reaches table command problem encoded spec Saturated s h)
+  facts_over = system_over (meaning_of table spec) (laws table command problem encoded spec Saturated s h) (o table command problem encoded spec Saturated s h) (opens table command problem encoded spec Saturated s h) s h.searched
 
   pub facts_of_table : (es : List Equation) → es ≡ facts → Each (IsEquationOf table) es
   facts_of_table es e =
       let side : (t : Tree) → IsTerm (HasSym (meaning_of table spec)) (meaning_of table spec).arity t → IsOf table t = table_term table encoded.signature.symbols spec h.fits (Has table) h.fits.of_table in
       subst (Each (IsEquationOf table)) (sym e) (each_of_all (IsEquationOf table) facts (λ n x at. (let p = facts_over n x at in (side x.left p.0, side x.right p.1))))
 
-  ends : IsSaturated (meaning_of table spec) (o table command problem encoded spec Saturated s h) s
-  ends = saturated (meaning_of table spec) (o table command problem encoded spec Saturated s h) s (reaches table command problem encoded spec Saturated s h) (verdict_is table command problem encoded spec Saturated s h)
-
   decided : Decides (meaning_of table spec) facts encoded.axioms
-  decided =
-      let same : s.entries ≡ ends.drained.entries = ap (λ (x : State). x.entries) ends.closed in
-      let m_is = meaning_of table spec in
-      let system : System = record { facts = equations_of (live ends.drained.entries) } in
-      let replays = subst (λ es. FactsReplay encoded.axioms (born es)) same (replay table command problem encoded spec Saturated s h).facts in
-      let over = subst (λ es. AreOfSignature (HasSym m_is) m_is.arity (equations_of (live es))) same facts_over in
-      subst (λ es. Decides m_is (equations_of (live es)) encoded.axioms) (sym same) (convergent_decides m_is (laws table command problem encoded spec Saturated s h) encoded.axioms ends.drained system ends.is_final replays over (opens table command problem encoded spec Saturated s h).axioms)
+  decided = system_decides (meaning_of table spec) (laws table command problem encoded spec Saturated s h) (o table command problem encoded spec Saturated s h) (opens table command problem encoded spec Saturated s h) s h.searched
 
   apart : AreAllApart (meaning_of table spec) facts encoded.axioms encoded.goals
   apart =

@@ -31,16 +31,17 @@ use Rattle.uc_runs.specs.Proved.{IsProved}
 use Rattle.uc_runs.proofs.Replaying.{chains_replay}
 use Rattle.uc_runs.proofs.OverRuns.{stays_over}
 use Rattle.uc_runs.proofs.ProvedGoals.{proved}
-use Rattle.uc_search.proofs.Rests.{searched_rests, search_verdict}
 use Rattle.uc_proof.specs.Chains.{ProvesGoal}
 use Rattle.uc_proof.specs.Extracted.{IsEncodingOf}
 use Rattle.uc_proof.specs.Printable.{IsPrintableChain, ArePrintable}
 use Rattle.uc_words.specs.declared.command.Command.{Command}
+use Rattle.uc_ordering.specs.Fits.{Fits}
 use Rattle.uc_ordering.specs.Meaning.{meaning_of}
 use Rattle.uc_top.specs.PrintableProblems.{ArePrintableSourced}
 use Rattle.uc_top.specs.ProveAnswers.{HasEnded, opening_for}
 use Rattle.uc_top.proofs.OrderLaws.{spec_laws}
 use Rattle.uc_top.proofs.SpecSymbols.{table_term, order_term}
+use Rattle.uc_top.proofs.Saturation.{searched_reaches, searched_verdict}
 use Rattle.uc_top.proofs.OverSignature.{IsEquationOver, encoded_problem_over}
 use Rattle.uc_top.proofs.PrintableFiles.{printable_at}
 use Rattle.uc_top.proofs.PrintableSymbols.{symbols_printable, encoded_symbols}
@@ -71,6 +72,10 @@ clause_sides P [] h c s e = absurd cc
 clause_sides P (x ∷ xs) h zero s e = let same : x ≡ s = cc in subst (λ (y : Sourced). P y.clause.left × P y.clause.right) same (h 0 x.clause.left refl, h 1 x.clause.right refl)
 clause_sides P (x ∷ xs) h (suc c) s e = clause_sides P xs (λ j t at. h (suc (suc j)) t at) c s e
 
+-- equations over a signature are over that of an order that fits it
+pub equations_over : (table : Table) (known : List Sym) (spec : OrderSpec) → Fits table known spec → (es : List Equation) → Each (IsEquationOver table (In known)) es → AreOfSignature (HasSym (meaning_of table spec)) (meaning_of table spec).arity es
+equations_over table known spec fits es each n e at = let p = each_at (IsEquationOver table (In known)) es each n e at in (order_term table known spec fits e.left p.0, order_term table known spec fits e.right p.1)
+
 module _ (table : Table) (command : Command) (problem : Problem) (encoded : Encoded) (spec : OrderSpec) (v : Verdict) (s : State) (h : HasEnded table command problem encoded spec v s) where
   abbrev pub m : Meaning
   m = meaning_of table spec
@@ -85,25 +90,21 @@ module _ (table : Table) (command : Command) (problem : Problem) (encoded : Enco
   laws = spec_laws table known spec h.fits
 
   pub reaches : Reaches m o s
-  reaches = (searched_rests m o 0 (omega arith) v s h.searched).reaches
+  reaches = searched_reaches m o v s h.searched
 
   pub verdict_is : s.verdict ≡ Some v
-  verdict_is = search_verdict m o 0 h.searched.start v s h.searched.searches
+  verdict_is = searched_verdict m o v s h.searched
 
   pub replay : ChainsReplay o s
   replay = chains_replay m o s reaches
-
-  -- the problem's equations over the order's signature
-  equations_over : (es : List Equation) → Each (IsEquationOver table (In known)) es → AreOfSignature (HasSym m) m.arity es
-  equations_over es each n e at = let p = each_at (IsEquationOver table (In known)) es each n e at in (order_term table known spec h.fits e.left p.0, order_term table known spec h.fits e.right p.1)
 
   pub opens : OpensOver m o
   opens =
       let p = encoded_problem_over table problem h.agrees encoded h.encodes in
       let symbols = encoded_symbols table problem encoded h.encodes in
       record {
-        axioms = equations_over encoded.axioms (subst (λ (fs : List Sym). Each (IsEquationOver table (In fs)) encoded.axioms) (sym symbols) p.0);
-        goals = equations_over encoded.goals (subst (λ (fs : List Sym). Each (IsEquationOver table (In fs)) encoded.goals) (sym symbols) p.1);
+        axioms = equations_over table known spec h.fits encoded.axioms (subst (λ (fs : List Sym). Each (IsEquationOver table (In fs)) encoded.axioms) (sym symbols) p.0);
+        goals = equations_over table known spec h.fits encoded.goals (subst (λ (fs : List Sym). Each (IsEquationOver table (In fs)) encoded.goals) (sym symbols) p.1);
       }
 
   pub over : IsOver m s

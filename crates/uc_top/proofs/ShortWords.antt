@@ -1,6 +1,6 @@
 -- The positionals of a command line are words of it, so they are short.
 use Rattle.std.proofs.Common.{ℕ, ◌≡◌, ◌<◌, ◌^◌, Bool, true, false, nat_lt, List, [], ◌∷◌, ◌++◌, length, Option, Some, None, sym, subst, if◌then◌else◌, bytes_eq, drop}
-use Rattle.std.specs.List.{list_all, AllByRecursion}
+use Rattle.std.specs.List.{list_all}
 use Rattle.std.proofs.lemmas.Bool.{and_parts, ltb-true}
 use Rattle.uc_words.specs.declared.command.Verb.{Verb}
 use Rattle.uc_words.specs.declared.command.Command.{Command}
@@ -14,10 +14,7 @@ use Rattle.uc_words.specs.Forms.{form_of}
 use Rattle.uc_words.specs.Table.{verb_named}
 use Rattle.uc_words.specs.Lines.{item, turn, onto, at_end, line_of, given_value, is_value}
 use Rattle.uc_words.specs.Reads.{is_clean, is_printable, with_items, with_verb, says, Reads}
-
-abbrev pub AreShort : List (List ℕ) → Type 0
-AreShort [] = Unit {0}
-AreShort (w ∷ ws) = (length w < 2 ^ 31) × AreShort ws
+use Rattle.uc_top.specs.QuestionWords.{AreShort}
 
 -- a line's positionals are short
 abbrev IsShort : Option Line → Type 0
@@ -95,11 +92,6 @@ verb_short (Some v) ws said h e = items_short v (line_of v Item ws) said (line_s
 says_short : (words : List (List ℕ)) (said : Verb × Line) → AreShort words → says words ≡ Some said → AreShort said.1.positionals
 says_short [] said h e = absurd cc
 says_short (name ∷ words) said h e = verb_short (verb_named name) words said h.1 e
-
--- so it is said of each word
-pub each_short : (words : List (List ℕ)) → AreShort words → AllByRecursion (λ (word : List ℕ). length word < 2 ^ 31) words
-each_short [] h = tt
-each_short (w ∷ ws) h = (h.0, each_short ws h.1)
 
 pub positionals_short : (words : List (List ℕ)) (command : Command) → Reads words command → AreShort command.positionals
 positionals_short words command r = subst AreShort (sym r.is.positionals) (says_short words r.said (clean_short words r.clean) r.says)

@@ -3,10 +3,10 @@ use Rattle.std.proofs.Common.{ℕ, ◌≡◌, ◌==◌, Bool, true, false, List,
 use Rattle.std.proofs.lemmas.Bool.{eqb-true, eq-eqb}
 use Rattle.uc_term.specs.declared.node.Sym.{Sym}
 use Rattle.uc_term.specs.Tree.{Tree, var, app, Trees, none, more}
-use Rattle.uc_term.specs.Over.{IsTerm, AreOver}
+use Rattle.uc_term.specs.Over.{IsOver, AreOver, IsTerm, IsGround}
 use Rattle.uc_term.specs.Table.{Table, arity_of}
 use Rattle.uc_order.specs.Members.{In, in_front, in_rest, Each}
-use Rattle.uc_order.specs.Laws.{Meaning, HasSym}
+use Rattle.uc_order.specs.Laws.{Meaning, HasSym, IsGroundOf}
 use Rattle.uc_order.specs.declared.spec.OrderSpec.{OrderSpec}
 use Rattle.uc_order.specs.declared.spec.OrderSpec.TheVariants.{Kbo, Lpo}
 use Rattle.uc_kbo.specs.Faults.{weighed}
@@ -18,14 +18,19 @@ use Rattle.uc_ordering.specs.Meaning.{meaning_of}
 
 -- what a term over one signature is over another
 module _ (P Q : Sym → Type 0) (a b : Sym → ℕ) (k : (f : Sym) → P f → Q f × (a f ≡ b f)) where
-  mutual
-    pub term_from : (t : Tree) → IsTerm P a t → IsTerm Q b t
-    term_from (var x) h = tt
-    term_from (app f ts) h = let p = k f h.0 in (p.0, h.1 ∙ p.1, terms_from ts h.2)
+  -- with other variables too
+  module _ (K L : ℕ → Type 0) (v : (x : ℕ) → K x → L x) where
+    mutual
+      pub over_from : (t : Tree) → IsOver P a K t → IsOver Q b L t
+      over_from (var x) h = v x h
+      over_from (app f ts) h = let p = k f h.0 in (p.0, h.1 ∙ p.1, overs_from ts h.2)
 
-    terms_from : (ts : Trees) → AreOver P a (λ _. Unit {0}) ts → AreOver Q b (λ _. Unit {0}) ts
-    terms_from none h = tt
-    terms_from (more t ts) h = (term_from t h.0, terms_from ts h.1)
+      overs_from : (ts : Trees) → AreOver P a K ts → AreOver Q b L ts
+      overs_from none h = tt
+      overs_from (more t ts) h = (over_from t h.0, overs_from ts h.1)
+
+  pub term_from : (t : Tree) → IsTerm P a t → IsTerm Q b t
+  term_from = over_from (λ _. Unit {0}) (λ _. Unit {0}) (λ x h. h)
 
 module _ (table : Table) where
   later_in : {g : Sym} (fs : List Sym) (f : Sym) → In (g ∷ fs) f → ((g.0 == f.0) ≡ false) → In fs f
@@ -66,3 +71,10 @@ module _ (table : Table) where
     -- and the other way round
     pub order_term : (spec : OrderSpec) → Fits table signature spec → (t : Tree) → IsTerm (In signature) (arity_of table) t → IsTerm (HasSym (meaning_of table spec)) (meaning_of table spec).arity t
     order_term spec fits t h = term_from (In signature) (HasSym (meaning_of table spec)) (arity_of table) (meaning_of table spec).arity (symbol_known spec fits) t h
+
+    -- so it is with ground terms
+    pub table_ground : (spec : OrderSpec) → Fits table signature spec → (P : Sym → Type 0) → Each P signature → (t : Tree) → IsGroundOf (meaning_of table spec) t → IsTerm P (arity_of table) t
+    table_ground spec fits P each = over_from (HasSym (meaning_of table spec)) P (meaning_of table spec).arity (arity_of table) (λ f i. (let p = known_symbol spec fits f i in (each_in P signature f each p.0, p.1))) (λ _. ⊥) (λ _. Unit {0}) (λ x h. tt)
+
+    pub order_ground : (spec : OrderSpec) → Fits table signature spec → (t : Tree) → IsGround (In signature) (arity_of table) t → IsGroundOf (meaning_of table spec) t
+    order_ground spec fits = over_from (In signature) (HasSym (meaning_of table spec)) (arity_of table) (meaning_of table spec).arity (symbol_known spec fits) (λ _. ⊥) (λ _. ⊥) (λ x h. h)

@@ -2,7 +2,7 @@
 use Rattle.std.specs.Prelude.{ℕ, ◌≡◌, Bool, true, false, List, [], ◌∷◌, ◌++◌, codes, decimal, cond, None}
 use Rattle.std.specs.List.{list_any, flat_map}
 use Rattle.uc_term.specs.Tree.{Tree}
-use Rattle.uc_term.specs.Table.{Table}
+use Rattle.uc_term.specs.Table.{Table, IsOf}
 use Rattle.uc_clause.specs.Printing.{term_text}
 use Rattle.uc_check.specs.Clauses.{axioms_of}
 use Rattle.uc_problem.specs.declared.problem.Problem.{Problem}
@@ -52,6 +52,17 @@ replies_status replies = cond (list_any is_open replies) 2 0
 
 abbrev pub reply_lines : Table → List Reply → List ℕ
 reply_lines table replies = flat_map (reply_line table) replies
+
+-- the terms of the reply are of the table
+abbrev pub IsReplyOf : Table → Reply → Type 0
+IsReplyOf table (Equal n) = IsOf table n
+IsReplyOf table (Different left right) = IsOf table left × IsOf table right
+IsReplyOf table (Spent n) = Unit {0}
+IsReplyOf table Grown = Unit {0}
+
+abbrev pub AreRepliesOf : Table → List Reply → Type 0
+AreRepliesOf table [] = Unit {0}
+AreRepliesOf table (reply ∷ replies) = IsReplyOf table reply × AreRepliesOf table replies
 
 -- each question has its reply, by the facts that live and with at most so many steps
 module _ (m : Meaning) (facts : List Live) (steps : ℕ) where

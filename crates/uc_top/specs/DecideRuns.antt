@@ -9,7 +9,7 @@ use Rattle.uc_check.specs.Clauses.{axioms_of}
 use Rattle.uc_problem.specs.declared.problem.Problem.{Problem}
 use Rattle.uc_problem.specs.Holds.{Holds}
 use Rattle.uc_order.specs.declared.spec.OrderSpec.{OrderSpec}
-use Rattle.uc_order.specs.Laws.{Meaning}
+use Rattle.uc_order.specs.Laws.{Meaning, IsGroundOf}
 use Rattle.uc_fact.specs.Live.{numbered}
 use Rattle.uc_machine.specs.declared.event.Verdict.{Verdict}
 use Rattle.uc_machine.specs.declared.event.Verdict.TheVariants.{Saturated}
@@ -34,6 +34,11 @@ use Rattle.uc_top.specs.DecideAnswers.{AreReplies, replies_status, reply_lines, 
 use Rattle.uc_top.specs.Runs.{EndsWith}
 
 -- EACH LINE IS RIGHT
+
+-- the questions are of ground terms over the order's signature
+abbrev pub AreGround : Meaning → List (Tree × Tree) → Type 0
+AreGround m [] = Unit {0}
+AreGround m (sides ∷ others) = (IsGroundOf m sides.0 × IsGroundOf m sides.1) × AreGround m others
 
 -- Each reply is right: where it is Equal, the question's equation follows from the axioms, and where it is Different, it doesn't;
 -- and its terms are the least to which the axioms make the question's sides equal.

@@ -19,4 +19,5 @@ pub mod RewriteRuns
 pub mod PairsRuns
 pub mod ProveRuns
 pub mod DecideRuns
+pub mod DecideTold
 pub mod Headline

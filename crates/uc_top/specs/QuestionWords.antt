@@ -1,5 +1,5 @@
 -- A question that is a word of the command line: an equation of two ground terms over the symbols of a signature.
-use Rattle.std.specs.Prelude.{ℕ, ◌≡◌, not, Bool, true, List, [], ◌∷◌, ◌++◌, position, take, slice_get, Option, Some, None}
+use Rattle.std.specs.Prelude.{ℕ, ◌≡◌, ◌<◌, ◌^◌, not, Bool, true, List, [], ◌∷◌, ◌++◌, length, position, take, slice_get, Option, Some, None}
 use Rattle.std.specs.List.{list_any}
 use Rattle.uc_term.specs.declared.node.Sym.{Sym}
 use Rattle.uc_term.specs.declared.node.Node.{Node}
@@ -28,6 +28,11 @@ nodes_of sides = flat sides.0 ++ flat sides.1
 -- the number of the first node, from left to right, that no question may have
 abbrev pub first_unfit : List Sym → Tree × Tree → Option ℕ
 first_unfit known sides = position (is_unfit known) (nodes_of sides)
+
+-- each word has fewer than 2^31 bytes
+abbrev pub AreShort : List (List ℕ) → Type 0
+AreShort [] = Unit {0}
+AreShort (word ∷ words) = (length word < 2 ^ 31) × AreShort words
 
 -- The symbols of the sides are those of this table, and these are known.
 module _ (table : Table) (known : List Sym) where

@@ -1,11 +1,14 @@
 //! The axioms of a problem.
 
-ghost use Rattle.std.specs.Prelude.{◌≡◌, IfOk};
+ghost use Rattle.std.specs.Prelude.{◌≡◌, map, IfOk};
 ghost use Rattle.uc_check.specs.Clauses.{axioms_of, equation_of};
+ghost use Rattle.uc_problem.specs.declared.problem.Source.TheVariants as source;
+ghost use Rattle.uc_top.specs.DecideTold.{without_goals};
 
 use std::alloc::{AllocError, Global};
 use uc_clause::{Clause, Sourced};
-use uc_term::{Equation, Seq};
+use uc_problem::{Encoded, Problem, Source};
+use uc_term::{Equation, Seq, Signature};
 
 // The equation between the sides of a clause.
 fn equation_of(alloc: Global, clause: &Clause) -> Result<Equation, AllocError>
@@ -28,4 +31,41 @@ pub(crate) fn axioms_of(alloc: Global, clauses: &[Sourced]) -> Result<Seq<Equati
         }
     }
     Ok(axioms)
+}
+
+/// The problem as it is, but for its goals.
+pub(crate) fn without_goals(alloc: Global, problem: &Problem) -> Result<Encoded, AllocError>
+    ensures { IfOk result (λ encoded. encoded ≡ without_goals problem.now) }
+{
+    Ok(Encoded {
+        axioms: axioms_of(alloc, problem.clauses.as_slice())?,
+        sources: sources_of(alloc, problem.axioms.as_slice())?,
+        goals: Seq::new(alloc),
+        goal_clauses: Seq::new(alloc),
+        fresh: None,
+        signature: copy_of(alloc, &problem.signature)?,
+    })
+}
+
+// The clauses of these numbers as what axioms come from.
+fn sources_of(alloc: Global, numbers: &[u32]) -> Result<Seq<Source>, AllocError>
+    ensures { IfOk result (λ sources. sources ≡ map source.Clause numbers.now) }
+{
+    let mut sources = Seq::new(alloc);
+    for number in numbers {
+        sources.push(Source::Clause(*number))?;
+    }
+    Ok(sources)
+}
+
+// An equal signature.
+fn copy_of(alloc: Global, signature: &Signature) -> Result<Signature, AllocError>
+    ensures { IfOk result (λ copied. copied ≡ signature.now) }
+{
+    let symbols = Vec::from_slice(alloc, signature.symbols.as_slice())?;
+    Ok(Signature {
+        symbols: Seq::from_vec(symbols),
+        least: signature.least,
+        least_is_fresh: signature.least_is_fresh,
+    })
 }

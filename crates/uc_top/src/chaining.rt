@@ -58,8 +58,8 @@ pub(crate) fn write_number(out: &mut Text, number: u32) -> Result<(), AllocError
     out.extend(buffer.format(number).as_bytes())
 }
 
-// The line of a term.
-fn term_line(alloc: Global, term: &Term, symbols: &Symbols) -> Result<Text, AllocError>
+/// The line of a term.
+pub(crate) fn term_line(alloc: Global, term: &Term, symbols: &Symbols) -> Result<Text, AllocError>
     requires { IsOf symbols.now term.now }
     ensures { IfOk result (λ text. text ≡ term_line symbols.now term.now) }
 {

@@ -1,18 +1,47 @@
 //! The command `decide`.
 
-ghost use Rattle.std.specs.Prelude.{◌≡◌, ◌≤◌, ◌<◌, ◌^◌, ℕ, List, Some, length, IfOk};
-ghost use Rattle.std.specs.List.{AllByRecursion};
+ghost use Rattle.std.specs.Prelude.{◌≡◌, ◌≤◌, List, [], Some, IfOk};
+ghost use Rattle.uc_term.specs.declared.equation.Equation.{Equation as AnyEquation};
 ghost use Rattle.uc_term.specs.Table.{Table, Grows, IsDistinct};
 ghost use Rattle.uc_edge.specs.Files.{Files};
+ghost use Rattle.uc_check.specs.Clauses.{axioms_of};
 ghost use Rattle.uc_problem.specs.Holds.{Agrees};
+ghost use Rattle.uc_order.specs.Laws.{HasSym};
+ghost use Rattle.uc_fact.specs.Ground.{AreOfSignature};
+ghost use Rattle.uc_fact.specs.Live.{numbered};
+ghost use Rattle.uc_decide.specs.declared.reply.Reply.{Reply as AnyReply};
+ghost use Rattle.uc_decide.specs.Deciding.{Decides};
+ghost use Rattle.uc_book.specs.Openings.{opening_of};
+ghost use Rattle.uc_search.specs.Searching.{IsSearched};
+ghost use Rattle.uc_ordering.specs.Fits.{Fits};
+ghost use Rattle.uc_ordering.specs.Meaning.{meaning_of};
 ghost use Rattle.uc_top.specs.Lines.{joined};
+ghost use Rattle.uc_top.specs.QuestionWords.{AreShort};
+ghost use Rattle.uc_top.specs.ProveAnswers.{opening_for};
+ghost use Rattle.uc_top.specs.DecideAnswers.{AreReplies, replies_status, reply_lines, opening_of_axioms, IsDecided};
 ghost use Rattle.uc_top.specs.Answers.{DecideAnswers};
-ghost use Rattle.uc_top.specs.DecideRuns.{KeepsDecision};
+ghost use Rattle.uc_top.specs.DecideRuns.{AreGround, AreRight, Decided, IsDecidedBy, KeepsDecision};
+ghost use Rattle.uc_top.specs.DecideTold.{AreGroundOfTable, IsTold, IsToldBySearch};
 
-use crate::output::Answer;
+use crate::axioms::without_goals;
+use crate::choosing::choice_answer;
+use crate::limit_lines::out_lines;
+use crate::loading::{bytes_of, load_answer};
+use crate::output::{Answer, STOPPED};
+use crate::question_word::{Question, read_questions};
+use crate::replying::{replies, replies_status, reply_lines};
+use crate::word_lines::word_answer;
 use std::alloc::{AllocError, Global};
 use std::sync::Wait;
+use uc_book::Book;
 use uc_edge::Library;
+use uc_fact::System;
+use uc_machine::Verdict;
+use uc_order::{Order, OrderSpec};
+use uc_ordering::{Chosen, choose};
+use uc_problem::{Encoded, Problem, load};
+use uc_search::{live_system, search_alone};
+use uc_shelf::Shelf;
 use uc_term::{Symbols, Text};
 use uc_words::Command;
 
@@ -30,11 +59,195 @@ pub(crate) fn decide_answer<R: Wait, L: Library>(
     requires w0_most { command.now.order.w0 ≤ 1000000 }
     requires budget { command.now.budget ≤ 10000000 }
     requires pairs { command.now.pairs ≤ 8000000 }
-    requires short { AllByRecursion (λ (word : List ℕ). length word < 2 ^ 31) words.now }
+    requires short { AreShort words.now }
     ensures answers { IfOk result (λ answer. (table : Table) × IsDistinct table × DecideAnswers table (L.holds library.old) (L.faults library.old) (L.faults library.new) command.now name.now words.now answer.status (joined answer.lines)) }
     ensures promise { IfOk result (λ answer. answer.status ≤ 2 → (files : Files) → L.holds library.old ≡ Some files → KeepsDecision files command.now name.now words.now answer.status (joined answer.lines)) }
     ensures same { L.holds library.new ≡ L.holds library.old }
     ensures later { L.faults library.old ≤ L.faults library.new }
 {
-    todo!()
+    let mut symbols = Symbols::new(alloc);
+    let name = name.as_bytes();
+    let answer = load_and_decide(rt, alloc, command, name, words, &mut symbols, library);
+    // The entries of the table are all different, so what was read is the only reading.
+    let _ = symbols.len();
+    answer
+}
+
+/// The answer, with a table for the symbols.
+fn load_and_decide<R: Wait, L: Library>(
+    rt: &R,
+    alloc: Global,
+    command: &Command,
+    name: &[u8],
+    words: &[Text],
+    symbols: &mut Symbols,
+    library: &mut L,
+) -> Result<Answer, AllocError>
+    requires w0_some { 1 ≤ command.now.order.w0 }
+    requires w0_most { command.now.order.w0 ≤ 1000000 }
+    requires budget { command.now.budget ≤ 10000000 }
+    requires pairs { command.now.pairs ≤ 8000000 }
+    requires short { AreShort words.now }
+    ensures answers { IfOk result (λ answer. DecideAnswers symbols.new (L.holds library.old) (L.faults library.old) (L.faults library.new) command.now name.now words.now answer.status (joined answer.lines)) }
+    ensures promise { IfOk result (λ answer. answer.status ≤ 2 → (files : Files) → L.holds library.old ≡ Some files → IsDecidedBy symbols.new files command.now name.now words.now answer.status (joined answer.lines)) }
+    ensures same { L.holds library.new ≡ L.holds library.old }
+    ensures later { L.faults library.old ≤ L.faults library.new }
+{
+    match load(
+        alloc,
+        library,
+        bytes_of(command.root.as_ref()),
+        name,
+        symbols,
+    ) {
+        Ok(problem) => asked_answer(rt, alloc, command, name, words, &problem, symbols),
+        Err(fault) => load_answer(alloc, &fault),
+    }
+}
+
+/// The answer for a problem that is loaded. The questions are read before the order is chosen, so that the table has all symbols;
+/// but what is wrong with the order is told first.
+fn asked_answer<R: Wait>(
+    rt: &R,
+    alloc: Global,
+    command: &Command,
+    name: &[u8],
+    words: &[Text],
+    problem: &Problem,
+    symbols: &mut Symbols,
+) -> Result<Answer, AllocError>
+    requires agrees { Agrees symbols.old problem.now }
+    requires w0_some { 1 ≤ command.now.order.w0 }
+    requires w0_most { command.now.order.w0 ≤ 1000000 }
+    requires budget { command.now.budget ≤ 10000000 }
+    requires pairs { command.now.pairs ≤ 8000000 }
+    requires short { AreShort words.now }
+    ensures answers { IfOk result (λ answer. IsDecided symbols.new command.now name.now words.now problem.now answer.status (joined answer.lines)) }
+    ensures promise { IfOk result (λ answer. answer.status ≤ 2 → Decided symbols.new command.now name.now words.now problem.now answer.status (joined answer.lines)) }
+    ensures grows { Grows symbols.old symbols.new }
+{
+    let read = read_questions(alloc, words, problem.signature.symbols.as_slice(), symbols);
+    match choose(alloc, &command.order, symbols, &problem.signature, None) {
+        Ok(spec) => match read {
+            Ok(asked) => {
+                let questions = asked.as_slice();
+                searched_answer(rt, alloc, command, name, problem, questions, &spec, symbols)
+            }
+            Err(misread) => word_answer(alloc, misread.number, &misread.fault),
+        },
+        Err(fault) => choice_answer(alloc, &fault),
+    }
+}
+
+/// The answer by this order: the search from the problem's axioms, and what it tells of the questions.
+fn searched_answer<R: Wait>(
+    rt: &R,
+    alloc: Global,
+    command: &Command,
+    name: &[u8],
+    problem: &Problem,
+    questions: &[Question],
+    spec: &OrderSpec,
+    symbols: &Symbols,
+) -> Result<Answer, AllocError>
+    requires agrees { Agrees symbols.now problem.now }
+    requires fits { Fits symbols.now problem.now.signature.symbols spec.now }
+    requires ground { AreGround (meaning_of symbols.now spec.now) questions.now }
+    requires budget { command.now.budget ≤ 10000000 }
+    requires pairs { command.now.pairs ≤ 8000000 }
+    ensures { IfOk result (λ answer. IsToldBySearch symbols.now (meaning_of symbols.now spec.now) command.now name.now (axioms_of problem.now.clauses) questions.now (opening_of_axioms command.now problem.now) answer.status (joined answer.lines)) }
+{
+    let axioms = without_goals(alloc, problem)?;
+    let order = Chosen::new(alloc, spec, symbols, problem.signature.symbols.as_slice())?;
+    let shelf = Shelf::new(alloc)?;
+    let asked = Asked {
+        name,
+        command,
+        questions,
+        symbols,
+    };
+    told_answer(rt, alloc, &asked, &axioms, &order, &shelf)
+}
+
+/// Questions of a command about the problem of this name, and the symbols.
+#[derive(Clone, Copy)]
+struct Asked<'a> {
+    name: &'a [u8],
+    command: &'a Command,
+    questions: &'a [Question],
+    symbols: &'a Symbols,
+}
+
+/// The answer of a search from these axioms, without goals, by this order.
+fn told_answer<R: Wait, O: Order>(
+    rt: &R,
+    alloc: Global,
+    asked: &Asked,
+    axioms: &Encoded,
+    order: &O,
+    shelf: &Shelf,
+) -> Result<Answer, AllocError>
+    requires no_goals { axioms.now.goals ≡ [] }
+    requires over { AreOfSignature (HasSym (O.meaning order.now)) (O.meaning order.now).arity axioms.now.axioms }
+    requires ground { AreGround (O.meaning order.now) asked.now.questions.now }
+    requires of_table { AreGroundOfTable asked.now.symbols.now (O.meaning order.now) }
+    requires budget { asked.now.command.now.budget ≤ 10000000 }
+    requires pairs { asked.now.command.now.pairs ≤ 8000000 }
+    ensures { IfOk result (λ answer. IsToldBySearch asked.now.symbols.now (O.meaning order.now) asked.now.command.now asked.now.name.now axioms.now.axioms asked.now.questions.now (opening_for asked.now.command.now axioms.now) answer.status (joined answer.lines)) }
+{
+    let (budget, pairs) = (asked.command.budget, asked.command.pairs);
+    let mut book = Book::start(alloc, axioms, order, shelf, budget, pairs)?;
+    let mut pass = book.enroll(alloc, 0)?;
+    let verdict = search_alone(rt, alloc, &mut book, shelf, axioms, order, &mut pass)?;
+    closed_answer(alloc, asked, order, shelf, &book, verdict)
+}
+
+/// The answer of a book without goals that has this verdict.
+fn closed_answer<O: Order>(
+    alloc: Global,
+    asked: &Asked,
+    order: &O,
+    shelf: &Shelf,
+    book: &Book<O>,
+    verdict: Verdict,
+) -> Result<Answer, AllocError>
+    requires shelf { book.now.opening.shelf ≡ shelf.now }
+    requires no_goals { book.now.opening.problem.goals ≡ [] }
+    requires over { AreOfSignature (HasSym (O.meaning order.now)) (O.meaning order.now).arity book.now.opening.problem.axioms }
+    requires ground { AreGround (O.meaning order.now) asked.now.questions.now }
+    requires of_table { AreGroundOfTable asked.now.symbols.now (O.meaning order.now) }
+    requires searched { IsSearched (O.meaning order.now) (opening_of book.now.opening) 0 verdict book.now.state }
+    ensures { IfOk result (λ answer. IsTold asked.now.symbols.now (O.meaning order.now) asked.now.command.now asked.now.name.now book.now.opening.problem.axioms asked.now.questions.now book.now.state verdict answer.status (joined answer.lines)) }
+{
+    match verdict {
+        Verdict::Saturated => {
+            let system = live_system(alloc, shelf, book.front())?;
+            replied_answer(alloc, asked, order, &system)
+        }
+        _ => Ok(Answer {
+            status: STOPPED,
+            lines: out_lines(alloc, asked.command, asked.name, shelf, book, verdict)?,
+        }),
+    }
+}
+
+/// The answer by a system that decides what follows from axioms: a reply to each question.
+fn replied_answer<O: Order>(
+    alloc: Global,
+    asked: &Asked,
+    order: &O,
+    system: &System,
+) -> Result<Answer, AllocError>
+    requires over { AreOfSignature (HasSym (O.meaning order.now)) (O.meaning order.now).arity system.now.facts }
+    requires ground { AreGround (O.meaning order.now) asked.now.questions.now }
+    requires of_table { AreGroundOfTable asked.now.symbols.now (O.meaning order.now) }
+    requires decides { (axioms : List AnyEquation) × Decides (O.meaning order.now) system.now.facts axioms }
+    ensures { (axioms : List AnyEquation) → Decides (O.meaning order.now) system.now.facts axioms → IfOk result (λ answer. (replies : List AnyReply) × AreReplies (O.meaning order.now) (numbered system.now.facts) asked.now.command.now.steps asked.now.questions.now replies × AreRight (O.meaning order.now) axioms asked.now.questions.now replies × (answer.status ≡ replies_status replies) × (joined answer.lines ≡ reply_lines asked.now.symbols.now replies)) }
+{
+    let replies = replies(alloc, system, order, asked.questions, asked.command.steps)?;
+    let lines = reply_lines(alloc, replies.as_slice(), asked.symbols)?;
+    Ok(Answer {
+        status: replies_status(replies.as_slice()),
+        lines,
+    })
 }

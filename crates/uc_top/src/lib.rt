@@ -10,6 +10,7 @@ mod damage_tests;
 mod deciding;
 mod directing;
 mod laws;
+mod limit_lines;
 #[cfg(test)]
 mod limit_tests;
 mod lines;
@@ -26,6 +27,8 @@ mod program;
 #[cfg(test)]
 mod proof_tests;
 mod proving;
+mod question_word;
+mod replying;
 #[cfg(test)]
 mod rewrite_tests;
 mod rewriting;
@@ -38,6 +41,7 @@ mod term_word;
 mod tests;
 mod trace_lines;
 mod verdict_lines;
+mod word_lines;
 
 pub use laws::one_answer;
 pub use output::tell_memory_out;

@@ -9,19 +9,17 @@ ghost use Rattle.uc_ordering.specs.Fits.{Fits};
 ghost use Rattle.uc_top.specs.Lines.{joined};
 ghost use Rattle.uc_top.specs.TermWords.{IsTermWord, IsWordFault};
 ghost use Rattle.uc_rewrite.specs.declared.normal.Normal.{Normal as AnyNormal};
-ghost use Rattle.uc_top.specs.RewriteAnswers.{stop_status, word_name, word_line, IsNormalFor, AreNormalLines, IsRewritten};
+ghost use Rattle.uc_top.specs.RewriteAnswers.{stop_status, IsNormalFor, AreNormalLines, IsRewritten};
 ghost use Rattle.uc_top.specs.Answers.{RewriteAnswers};
 
 use crate::axioms::axioms_of;
 use crate::chaining::chain_lines;
 use crate::choosing::choice_answer;
-use crate::lines::{clause_line, word_line as line_at};
 use crate::loading::{bytes_of, load_answer};
-use crate::output::{Answer, DONE, REFUSED, STOPPED, of_line};
-use crate::term_word::{WordFault, read_word};
-use itoa::Buffer;
+use crate::output::{Answer, DONE, STOPPED};
+use crate::term_word::read_word;
+use crate::word_lines::word_answer;
 use std::alloc::{AllocError, Global};
-use uc_clause::print_word;
 use uc_edge::Library;
 use uc_fact::Stop;
 use uc_order::OrderSpec;
@@ -108,51 +106,9 @@ fn rewritten_answer(
     match choose(alloc, &command.order, symbols, &problem.signature, None) {
         Ok(spec) => match read {
             Ok(term) => normal_answer(alloc, &spec, problem, &term, command.limit, symbols),
-            Err(fault) => word_answer(alloc, &fault),
+            Err(fault) => word_answer(alloc, 0, &fault),
         },
         Err(fault) => choice_answer(alloc, &fault),
-    }
-}
-
-// What stands for a file's name where the word of a number is refused.
-fn word_name(alloc: Global, number: u32) -> Result<Text, AllocError>
-    ensures { IfOk result (λ text. text ≡ word_name number) }
-{
-    let mut buffer = Buffer::new();
-    let mut name = Text::from_bytes(alloc, b"word ")?;
-    name.extend(buffer.format(number).as_bytes())?;
-    Ok(name)
-}
-
-// The line of the word of a number that is no term; for want of memory, no bytes.
-fn word_line(alloc: Global, number: u32, fault: &WordFault) -> Result<Text, AllocError>
-    ensures { IfOk result (λ text. text ≡ word_line number fault.now) }
-{
-    let word = word_name(alloc, number)?;
-    match fault {
-        WordFault::Unread(why) => clause_line(alloc, word.as_bytes(), why),
-        WordFault::UnknownSymbol(place, name) => {
-            let name = print_word(alloc, name.as_bytes())?;
-            line_at(
-                alloc,
-                word.as_bytes(),
-                *place,
-                b"UnknownSymbol",
-                name.as_bytes(),
-            )
-        }
-        WordFault::NoMemory => Ok(Text::new(alloc)),
-    }
-}
-
-// The answer for a word that is no term.
-fn word_answer(alloc: Global, fault: &WordFault) -> Result<Answer, AllocError>
-    ensures answer { IfOk result (λ answer. (answer.status ≡ 3) × (joined answer.lines ≡ word_line 0 fault.now)) }
-    ensures not_memory { IfOk result (λ _. fault.now ≡ WordFault.NoMemory → ⊥) }
-{
-    match fault {
-        WordFault::NoMemory => Err(AllocError),
-        _ => of_line(alloc, REFUSED, word_line(alloc, 0, fault)?),
     }
 }
 

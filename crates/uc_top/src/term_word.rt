@@ -18,13 +18,15 @@ use std::alloc::{AllocError, Global};
 use uc_clause::{ClauseFault, Kind, Place, Token, TokenFault, read_term, tokens};
 use uc_term::{Node, Sym, Symbols, Term, Text};
 
-/// Why a word is no term over a signature.
+/// Why a word is no term, or no question, over a signature.
 #[derive(Debug, Drop)]
 pub(crate) enum WordFault {
-    /// It isn't read as a term.
+    /// It isn't read as a term, or as an equation of two.
     Unread(ClauseFault),
     /// The signature lacks the symbol of this name, which stands at this place.
     UnknownSymbol(Place, Text),
+    /// A variable stands at this place, where none may.
+    NotGround(Place),
     /// Memory is wanted.
     NoMemory,
 }
@@ -75,8 +77,8 @@ fn whole_term(alloc: Global, word: &[u8], symbols: &mut Symbols) -> Result<Term,
     }
 }
 
-// Whether a symbol is one of these.
-fn is_among(symbol: Sym, symbols: &[Sym]) -> bool
+/// Whether a symbol is one of these.
+pub(crate) fn is_among(symbol: Sym, symbols: &[Sym]) -> bool
     ensures { result ≡ list_any (same_symbol symbol) symbols.now }
 {
     symbols.iter().any(|other| symbol.0 == other.0)
@@ -121,7 +123,7 @@ fn is_mark(kind: Kind) -> bool
     }
 }
 
-// The tokens that are nodes of a term.
+// The tokens that are nodes of terms.
 fn node_tokens(alloc: Global, tokens: &[Token]) -> Result<Vec<Token>, AllocError>
     ensures { IfOk result (λ nodes. nodes.items ≡ node_tokens tokens.now) }
 {
@@ -134,7 +136,7 @@ fn node_tokens(alloc: Global, tokens: &[Token]) -> Result<Vec<Token>, AllocError
     Ok(nodes)
 }
 
-// Where the node of a number of a term of these tokens stands.
+// Where the node of a number of the terms of these tokens stands.
 fn node_place(alloc: Global, tokens: &[Token], number: usize) -> Result<Place, AllocError>
     ensures { IfOk result (λ place. place ≡ node_place tokens.now number) }
 {
@@ -145,8 +147,8 @@ fn node_place(alloc: Global, tokens: &[Token], number: usize) -> Result<Place, A
     }
 }
 
-// Where the node of a number stands in a word that is a term.
-fn place_in(alloc: Global, word: &[u8], number: usize) -> Result<Place, AllocError>
+/// Where the node of a number stands in a word that is a term, or an equation of two.
+pub(crate) fn place_in(alloc: Global, word: &[u8], number: usize) -> Result<Place, AllocError>
     requires small { length word.now < 2 ^ 31 }
     requires tokens { (ts : List Token) × AreTokens word.now ts }
     ensures { (ts : List Token) → AreTokens word.now ts → IfOk result (λ place. place ≡ node_place ts number) }

@@ -1,28 +1,23 @@
 //! What `prove` answers for the verdict of its book.
 
 ghost use Rattle.std.specs.Prelude.{◌≡◌, ◌<◌, ◌+◌, ◌^◌, ◌++◌, ℕ, List, [], codes, cond, IfOk, IsTrue};
-ghost use Rattle.uc_term.specs.Tree.{nodes};
-ghost use Rattle.uc_term.specs.Equations.{side_of};
-ghost use Rattle.uc_term.specs.Positions.{IsPlaceOf};
 ghost use Rattle.uc_fact.specs.Live.{equations_of};
 ghost use Rattle.uc_shelf.specs.Entries.{live};
-ghost use Rattle.uc_machine.specs.declared.event.Verdict.TheVariants.{Proved, Saturated, LargeOverlap};
+ghost use Rattle.uc_machine.specs.declared.event.Verdict.TheVariants.{Proved, Saturated};
 ghost use Rattle.uc_search.specs.Working.{CountsCommits};
 ghost use Rattle.uc_system.specs.Printing.{system_text};
 ghost use Rattle.uc_top.specs.Lines.{joined};
 ghost use Rattle.uc_top.specs.PrintableProblems.{CanBePrinted};
-ghost use Rattle.uc_top.specs.ProveAnswers.{budget_line, pairs_line, overlap_line, goal_line, status_line, verdict_status, trace_if, saturation_text, IsLimitLine, IsProofText, VerdictAnswers, HasEnded};
+ghost use Rattle.uc_top.specs.ProveAnswers.{status_line, verdict_status, trace_if, saturation_text, IsProofText, VerdictAnswers, HasEnded};
 ghost use Rattle.uc_top.specs.TraceLines.{trace_text};
 ghost use Rattle.uc_top.specs.ProveRuns.{Certifies, Settles, Keeps};
 
-use crate::chaining::{write_number, write_path};
+use crate::limit_lines::out_lines;
 use crate::output::{Answer, DONE, NO, STOPPED};
-use crate::pair_lines::{side_letter, side_of};
 use crate::szs::{line_for, status_line};
-use crate::trace_lines::{trace_lines, write_count};
+use crate::trace_lines::trace_lines;
 use std::alloc::{AllocError, Global};
 use uc_book::{Book, Pass};
-use uc_fact::Overlap;
 use uc_machine::Verdict;
 use uc_order::{Order, OrderSpec};
 use uc_problem::{Encoded, Problem};
@@ -30,7 +25,7 @@ use uc_proof::extract_from;
 use uc_search::{all_facts, live_system};
 use uc_shelf::Shelf;
 use uc_system::print_system;
-use uc_term::{Equation, Seq, Symbols, Text};
+use uc_term::{Seq, Symbols, Text};
 use uc_tstp::print_proof;
 use uc_words::Command;
 
@@ -121,7 +116,14 @@ fn verdict_lines<O: Order>(
     match verdict {
         Verdict::Proved(goal) => proved_lines(alloc, closed, book, goal),
         Verdict::Saturated => saturated_lines(alloc, closed, book),
-        _ => out_lines(alloc, closed, book, verdict),
+        _ => out_lines(
+            alloc,
+            closed.command,
+            closed.name,
+            closed.shelf,
+            book,
+            verdict,
+        ),
     }
 }
 
@@ -217,119 +219,4 @@ fn lines_of(alloc: Global, text: &[u8]) -> Result<Seq<Text>, AllocError>
         lines.push(Text::from_bytes(alloc, line)?)?;
     }
     Ok(lines)
-}
-
-/// The two lines of a search that a limit ended: its status, and which limit.
-fn out_lines<O: Order>(
-    alloc: Global,
-    closed: &Closed,
-    book: &Book<O>,
-    verdict: Verdict,
-) -> Result<Seq<Text>, AllocError>
-    requires shelf { book.now.opening.shelf ≡ closed.now.shelf.now }
-    requires ended { HasEnded closed.now.symbols.now closed.now.command.now closed.now.problem.now closed.now.encoded.now closed.now.spec.now verdict book.now.state }
-    requires out { verdict_status verdict ≡ 2 }
-    ensures { IfOk result (λ lines. (line : List ℕ) × IsLimitLine closed.now.command.now book.now.state verdict line × (joined lines ≡ status_line (codes "ResourceOut") closed.now.name.now ++ line)) }
-{
-    let mut lines = Seq::new(alloc);
-    lines.push(status_line(alloc, b"ResourceOut", closed.name)?)?;
-    lines.push(cause_line(alloc, closed, book, verdict)?)?;
-    Ok(lines)
-}
-
-/// The line of the limit that ended a search.
-fn cause_line<O: Order>(
-    alloc: Global,
-    closed: &Closed,
-    book: &Book<O>,
-    verdict: Verdict,
-) -> Result<Text, AllocError>
-    requires shelf { book.now.opening.shelf ≡ closed.now.shelf.now }
-    requires ended { HasEnded closed.now.symbols.now closed.now.command.now closed.now.problem.now closed.now.encoded.now closed.now.spec.now verdict book.now.state }
-    requires out { verdict_status verdict ≡ 2 }
-    ensures { IfOk result (IsLimitLine closed.now.command.now book.now.state verdict) }
-{
-    match verdict {
-        Verdict::BudgetOut { counted } => budget_line(alloc, counted, closed.command.budget),
-        Verdict::PairsOut { waiting, new } => pairs_line(alloc, waiting, new, closed.command.pairs),
-        Verdict::LargeOverlap(overlap) => large_line(alloc, closed, book, &overlap),
-        Verdict::LargeGoal(goal) => goal_line(alloc, goal),
-        Verdict::Proved(_) | Verdict::Saturated => unreachable!(),
-    }
-}
-
-/// The line of an overlap of the book's facts whose pair is too large.
-fn large_line<O: Order>(
-    alloc: Global,
-    closed: &Closed,
-    book: &Book<O>,
-    overlap: &Overlap,
-) -> Result<Text, AllocError>
-    requires shelf { book.now.opening.shelf ≡ closed.now.shelf.now }
-    requires ended { HasEnded closed.now.symbols.now closed.now.command.now closed.now.problem.now closed.now.encoded.now closed.now.spec.now (LargeOverlap overlap.now) book.now.state }
-    ensures { IfOk result (IsLimitLine closed.now.command.now book.now.state (LargeOverlap overlap.now)) }
-{
-    let facts = all_facts(alloc, closed.shelf, book.front())?;
-    let fact = facts[overlap.outer as usize];
-    let outer = Equation {
-        left: fact.left.copy(alloc)?,
-        right: fact.right.copy(alloc)?,
-    };
-    overlap_line(alloc, overlap, &outer)
-}
-
-/// The line of a budget that is spent.
-fn budget_line(alloc: Global, counted: u32, budget: u32) -> Result<Text, AllocError>
-    ensures { IfOk result (λ text. text ≡ budget_line counted budget) }
-{
-    let mut line = Text::from_bytes(alloc, b"% budget ")?;
-    write_number(&mut line, counted)?;
-    line.extend(b" of ")?;
-    write_number(&mut line, budget)?;
-    line.extend(b"\n")?;
-    Ok(line)
-}
-
-/// The line of the limit on pairs that wait.
-fn pairs_line(alloc: Global, waiting: u32, new: u64, limit: u32) -> Result<Text, AllocError>
-    ensures { IfOk result (λ text. text ≡ pairs_line waiting new limit) }
-{
-    let mut line = Text::from_bytes(alloc, b"% pairs ")?;
-    write_number(&mut line, waiting)?;
-    line.extend(b" plus ")?;
-    write_count(&mut line, new)?;
-    line.extend(b" of ")?;
-    write_number(&mut line, limit)?;
-    line.extend(b"\n")?;
-    Ok(line)
-}
-
-/// The line of an overlap whose pair is too large, by its outer fact.
-fn overlap_line(alloc: Global, overlap: &Overlap, outer: &Equation) -> Result<Text, AllocError>
-    requires { overlap.now.position.0 < nodes (side_of overlap.now.outer_side outer.now) }
-    ensures { IfOk result (λ text. (path : List ℕ) × IsPlaceOf (side_of overlap.now.outer_side outer.now) path overlap.now.position.0 × (text ≡ overlap_line overlap.now path)) }
-{
-    let path = side_of(outer, overlap.outer_side).path(alloc, overlap.position)?;
-    let mut line = Text::from_bytes(alloc, b"% size overlap ")?;
-    write_number(&mut line, overlap.outer)?;
-    line.extend(b" ")?;
-    line.extend(side_letter(overlap.outer_side))?;
-    line.extend(b" ")?;
-    write_number(&mut line, overlap.inner)?;
-    line.extend(b" ")?;
-    line.extend(side_letter(overlap.inner_side))?;
-    line.extend(b" ")?;
-    write_path(&mut line, path.as_slice())?;
-    line.extend(b"\n")?;
-    Ok(line)
-}
-
-/// The line of a goal whose next step is too large.
-fn goal_line(alloc: Global, goal: u32) -> Result<Text, AllocError>
-    ensures { IfOk result (λ text. text ≡ goal_line goal) }
-{
-    let mut line = Text::from_bytes(alloc, b"% size goal ")?;
-    write_number(&mut line, goal)?;
-    line.extend(b"\n")?;
-    Ok(line)
 }

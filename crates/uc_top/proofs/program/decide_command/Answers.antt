@@ -2,11 +2,12 @@ use Rattle.std.proofs.Common.{◌≡◌, ◌-◌, ◌∷◌, length, take, drop,
 use Rattle.std.proofs.lemmas.Result.{IfOk-weaker}
 use Rattle.uc_top.specs.Answers.{IsSearching, decides, has_many_workers}
 use Rattle.uc_top.specs.Runs.{MayAnswer, is_answer}
+use Rattle.uc_top.specs.QuestionWords.{AreShort}
 use Rattle.uc_top.proofs.Answering.{one_line, name_and_more, none_distinct}
 use Rattle.uc_top.proofs.DecidePromises.{kept_answers}
 use Rattle.uc_top.proofs.ProvedAnswers.{no_promise}
 use Rattle.uc_top.proofs.SeenWords.{budget_within, pairs_within}
-use Rattle.uc_top.proofs.ShortWords.{AreShort, positionals_short, each_short}
+use Rattle.uc_top.proofs.ShortWords.{positionals_short}
 use Rattle.uc_top.proofs.VariableWeights.{w0_within}
 use Rattle.uc_top.proofs.program.decide_command.Goals as goal
 
@@ -31,7 +32,7 @@ decide_answer-requires-clause-pairs g c = pairs_within c.requires.words.0 c.args
 pub decide_answer-requires-clause-short : goal.decide_answer-requires-clause-short
 decide_answer-requires-clause-short g c =
     let names : c.args.command.now.positionals ≡ c.name-item.result ∷ take (length c.as_slice.result.now - 1) (drop 1 c.as_slice.result.now) = sym c.as_slice.ensures ∙ name_and_more c.as_slice.result.now c.name-item.result c.in-len1-up.len_at_least c.name-item.is in
-    each_short (take (length c.as_slice.result.now - 1) (drop 1 c.as_slice.result.now)) (subst AreShort names (positionals_short c.requires.words.0 c.args.command.now c.requires.words.1)).1
+    (subst AreShort names (positionals_short c.requires.words.0 c.args.command.now c.requires.words.1)).1
 
 pub returns-clause-answers : goal.returns-clause-answers
 returns-clause-answers g c words r =

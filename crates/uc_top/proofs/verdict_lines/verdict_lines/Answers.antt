@@ -1,3 +1,6 @@
+use Rattle.uc_ordering.specs.Meaning.{meaning_of}
+use Rattle.uc_top.specs.ProveAnswers.{opening_for}
+use Rattle.uc_top.proofs.LargeLines.{searched_large}
 use Rattle.uc_top.proofs.ProveKeeping.{out_status}
 use Rattle.uc_top.proofs.VerdictTold.{proved_told, proved_promised, saturated_told, saturated_promised, out_told, out_promised}
 use Rattle.uc_top.proofs.verdict_lines.verdict_lines.Goals as goal
@@ -13,6 +16,9 @@ returns-in-Saturated-clause-answers g c = rw c.in-Saturated.is (saturated_told c
 
 pub returns-in-Saturated-clause-promise : goal.returns-in-Saturated-clause-promise
 returns-in-Saturated-clause-promise g c = rw c.in-Saturated.is (saturated_promised c.args.closed.now.symbols.now c.args.closed.now.command.now c.args.closed.now.name.now c.args.closed.now.problem.now c.args.closed.now.encoded.now c.args.closed.now.spec.now c.args.book.now.state c.saturated_lines.result (rw c.in-Saturated.is at c.requires.ended) c.saturated_lines.ensures.lines c.saturated_lines.ensures.promise)
+
+pub out_lines-requires-clause-large : goal.out_lines-requires-clause-large
+out_lines-requires-clause-large g c = searched_large (meaning_of c.args.closed.now.symbols.now c.args.closed.now.spec.now) (opening_for c.args.closed.now.command.now c.args.closed.now.encoded.now) c.args.book.now.state c.args.verdict c.requires.ended.searched
 
 pub returns-in_default-clause-answers : goal.returns-in_default-clause-answers
 returns-in_default-clause-answers g c = out_told c.args.closed.now.symbols.now c.args.closed.now.command.now c.args.closed.now.name.now c.args.closed.now.problem.now c.args.closed.now.encoded.now c.args.closed.now.spec.now c.args.book.now.state c.args.verdict c.out_lines.result c.out_lines.ensures
