@@ -1,4 +1,4 @@
--- The tokens of a term that are no marks are its nodes, in order.
+-- The tokens of a term, or of an equation of two, that are no marks are its nodes, in order.
 use Rattle.std.proofs.Common.{◌⊎◌, inl, inr, ℕ, zero, suc, ◌+◌, ◌≡◌, ◌==◌, not, Bool, true, false, cond, List, [], ◌∷◌, ◌++◌, slice_get, drop, if◌then◌else◌, Option, Some, None, refl, sym, ap, ◌∙◌, subst, arith, append_assoc}
 use Rattle.std.proofs.lemmas.List.{append-nil}
 use Rattle.uc_clause.specs.declared.token.Token.{Token}
@@ -9,9 +9,10 @@ use Rattle.uc_clause.specs.declared.terminal.Terminal.TheVariants.{Open, Close, 
 use Rattle.uc_clause.specs.declared.grammar.head.Head.TheVariants.{Variable, Functor, Neither}
 use Rattle.uc_clause.specs.declared.grammar.head.Head.{Head}
 use Rattle.uc_clause.specs.Terminals.{terminal_of_mark, terminal_of_kind, terminal_or_end, terminal_at}
-use Rattle.uc_clause.specs.Rules.{Outcome, read, stop, mapped}
-use Rattle.uc_clause.specs.Parse.{Parse, applied, Parses, also, leaves, leaves_all}
+use Rattle.uc_clause.specs.Rules.{Outcome, read, stop, mapped, goes_on}
+use Rattle.uc_clause.specs.Parse.{Parse, applied, Parses, also, leaves, leaves_all, Sides}
 use Rattle.uc_clause.specs.Terms.{head_of, head_at, Term, is_variable, is_constant, is_applied, is_node_too_many, is_no_term, Args, stops_in_it, is_last, is_followed, is_one_too_many, is_followed_by_neither}
+use Rattle.uc_clause.specs.Items.{equals, equals_alone}
 use Rattle.uc_top.specs.TermWords.{is_mark, node_tokens}
 
 -- the tokens of these numbers
@@ -39,11 +40,12 @@ drop_next (x ∷ xs) (suc at) t e = drop_next xs at t e
 drop_some : (tokens : List Token) (at : ℕ) (t : Token) → slice_get tokens at ≡ Some t → drop at tokens ≡ t ∷ drop (at + 1) tokens
 drop_some tokens at t e = let next : suc at ≡ at + 1 = omega arith in subst (λ n. drop at tokens ≡ t ∷ drop n tokens) next (drop_next tokens at t e)
 
--- a kind by what it is to the grammar
+-- what stands between the nodes
 abbrev is_between : Terminal → Bool
 is_between Open = true
 is_between Close = true
 is_between Comma = true
+is_between Equal = true
 is_between other = false
 
 between_is_mark : (k : Kind) (b : ℕ) (m : Terminal) → terminal_of_kind k b ≡ m → is_between m ≡ true → is_mark k ≡ true
@@ -174,4 +176,22 @@ module _ (bytes : List ℕ) (tokens : List Token) where
   node_at {end = end} {p = p} i k h e =
       let n = term_has h in
       let found = one_at tokens (leaves p) n.0 (nodes_from end) i k n.1 e in
+      (found.0, found.1, ap (λ ts. slice_get ts i) n.2 ∙ found.2)
+
+  equals_has : (s : Sides) (end : ℕ) → equals bytes tokens 0 (read s end) → HasNodes (leaves s.left ++ leaves s.right) 0 end
+  equals_has s end (goes_on {middle = first} e0 (goes_on {v = left} {middle = sign} h (goes_on {middle = second} e1 (goes_on {v = right} {middle = last} k e2)))) =
+      let begins : first ≡ 0 = cc in
+      let left_is : left ≡ s.left = cc in
+      let right_is : right ≡ s.right = cc in
+      let ends : last ≡ end = cc in
+      let whole : HasNodes (leaves left ++ leaves right) first last = both_have (leaves left) (leaves right) first sign last (term_has h) (begun (leaves right) sign second last (no_node sign Equal e1.0 refl ∙ ap nodes_from (sym e1.1)) (term_has k)) in
+      let fitted : HasNodes (leaves left ++ leaves right) 0 end = subst (λ (n : ℕ). HasNodes (leaves left ++ leaves right) 0 n) ends (subst (λ (n : ℕ). HasNodes (leaves left ++ leaves right) n last) begins whole) in
+      subst (λ (p : Parse). HasNodes (leaves s.left ++ leaves p) 0 end) right_is (subst (λ (p : Parse). HasNodes (leaves p ++ leaves right) 0 end) left_is fitted)
+
+  -- and so it is of an equation that is the whole text
+  pub side_node_at : {end : ℕ} {s : Sides} (i k : ℕ) → equals_alone bytes tokens 0 (read s end) → slice_get (leaves s.left ++ leaves s.right) i ≡ Some k → (t : Token) × (slice_get tokens k ≡ Some t) × (slice_get (node_tokens tokens) i ≡ Some t)
+  side_node_at {s = s} i k (goes_on {v = q} {middle = middle} h (goes_on e0 e1)) e =
+      let same : q ≡ s = cc in
+      let n = equals_has s middle (subst (λ (x : Sides). equals bytes tokens 0 (read x middle)) same h) in
+      let found = one_at tokens (leaves s.left ++ leaves s.right) n.0 (nodes_from middle) i k n.1 e in
       (found.0, found.1, ap (λ ts. slice_get ts i) n.2 ∙ found.2)

@@ -21,12 +21,12 @@ use Rattle.uc_clause.specs.Reading.{ReadsTerm}
 use Rattle.uc_top.specs.TermWords.{is_foreign, first_foreign, place_or_first, node_place, HasForeign}
 use Rattle.uc_top.proofs.NodeTokens.{node_at}
 
-some_within : {X : Type 0} (xs : List X) (i : ℕ) (x : X) → slice_get xs i ≡ Some x → i < length xs
+pub some_within : {X : Type 0} (xs : List X) (i : ℕ) (x : X) → slice_get xs i ≡ Some x → i < length xs
 some_within [] i x e = absurd cc
 some_within (y ∷ xs) zero x e = omega arith
 some_within (y ∷ xs) (suc i) x e = let h = some_within xs i x e in omega (arith, h)
 
-within_some : {X : Type 0} (xs : List X) (i : ℕ) → i < length xs → (x : X) × (slice_get xs i ≡ Some x)
+pub within_some : {X : Type 0} (xs : List X) (i : ℕ) → i < length xs → (x : X) × (slice_get xs i ≡ Some x)
 within_some [] i h = absurd (omega arith)
 within_some (x ∷ xs) zero h = (x, refl)
 within_some (x ∷ xs) (suc i) h = within_some xs i (omega arith)
@@ -46,7 +46,7 @@ module _ (bytes : List ℕ) (tokens : List Token) (table : Table) where
     mean_all_of (more_mean m ms) = (means_of m, mean_all_of ms)
 
   mutual
-    leaves_are : {seen : Variables} {p : Parse} {t : Tree} → Means bytes tokens table seen p t → length (leaves p) ≡ length (flat t)
+    pub leaves_are : {seen : Variables} {p : Parse} {t : Tree} → Means bytes tokens table seen p t → length (leaves p) ≡ length (flat t)
     leaves_are (variable_means e) = refl
     leaves_are (functor_means s ms) = omega (arith, leaves_all_are ms)
 
@@ -62,7 +62,7 @@ term_alone_reads : (bytes : List ℕ) (tokens : List Token) (p : Parse) (end : �
 term_alone_reads bytes tokens p end (goes_on {v = q} {middle = middle} h (goes_on k e)) = let same : q ≡ p = cc in (middle, subst (λ x. Term bytes tokens 0 0 (read x middle)) same h)
 
 -- symbols of a term that is of a table
-has_both : (table : Table) (xs ys : List Node) (i : ℕ) (f : Sym) (n : ℕ) → ((i : ℕ) → slice_get xs i ≡ Some (App f n) → Has table f) → ((i : ℕ) → slice_get ys i ≡ Some (App f n) → Has table f) → slice_get (xs ++ ys) i ≡ Some (App f n) → Has table f
+pub has_both : (table : Table) (xs ys : List Node) (i : ℕ) (f : Sym) (n : ℕ) → ((i : ℕ) → slice_get xs i ≡ Some (App f n) → Has table f) → ((i : ℕ) → slice_get ys i ≡ Some (App f n) → Has table f) → slice_get (xs ++ ys) i ≡ Some (App f n) → Has table f
 has_both table [] ys i f n h k e = k i e
 has_both table (x ∷ xs) ys zero f n h k e = h zero e
 has_both table (x ∷ xs) ys (suc i) f n h k e = has_both table xs ys i f n (λ j q. h (suc j) q) k e
@@ -84,7 +84,7 @@ foreign_symbol known (Var x) e = absurd cc
 foreign_symbol known (App f n) e = (f, n, refl)
 
 module _ (table : Table) (known : List Sym) (word : List ℕ) (t : Tree) (r : ReadsTerm word table t) (number : ℕ) (first : first_foreign known t ≡ Some number) where
-  first_within : {X : Type 0} (p : X → Bool) (xs : List X) → position p xs ≡ Some number → number < length xs
+  pub first_within : {X : Type 0} (p : X → Bool) (xs : List X) → position p xs ≡ Some number → number < length xs
   first_within p [] e = absurd (cc e)
   first_within p (x ∷ xs) e = (position-Some p (x ∷ xs) number x e).0
 

@@ -107,24 +107,24 @@ fn is_unfit(known: &[Sym], node: Node) -> bool
     }
 }
 
-// The number of a term's first node that no question may have, if there is one.
-fn first_in(known: &[Sym], term: &Term) -> Option<usize>
-    ensures { result ≡ position (is_unfit known.now) (flat term.now) }
+// The number of the first of these nodes that no question may have, if there is one.
+fn first_in(known: &[Sym], nodes: &[Node]) -> Option<usize>
+    ensures { result ≡ position (is_unfit known.now) nodes.now }
 {
-    term.as_nodes()
-        .iter()
-        .position(|node| is_unfit(known, *node))
+    nodes.iter().position(|node| is_unfit(known, *node))
 }
 
 // The number of the first such node of two sides, left side first.
 fn first_unfit(known: &[Sym], sides: &Question) -> Option<usize>
     ensures { result ≡ first_unfit known.now sides.now }
 {
-    if let Some(number) = first_in(known, &sides.0) {
+    let left = sides.0.as_nodes();
+    let right = sides.1.as_nodes();
+    if let Some(number) = first_in(known, left) {
         return Some(number);
     }
-    let number = first_in(known, &sides.1)?;
-    Some(sides.0.nodes() as usize + number)
+    let number = first_in(known, right)?;
+    Some(left.len() + number)
 }
 
 // The node of this number of two sides, left side first.

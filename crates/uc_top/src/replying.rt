@@ -1,6 +1,7 @@
 //! The replies to questions, and their lines.
 
 ghost use Rattle.std.specs.Prelude.{◌≡◌, ◌<◌, ◌^◌, ◌++◌, codes, decimal, List, length, IfOk};
+ghost use Rattle.std.specs.List.{list_any};
 ghost use Rattle.uc_term.specs.declared.equation.Equation.{Equation as AnyEquation};
 ghost use Rattle.uc_term.specs.Table.{IsOf};
 ghost use Rattle.uc_order.specs.Laws.{HasSym};
@@ -134,6 +135,7 @@ pub(crate) fn reply_lines(
     Ok(lines)
 }
 
+// Whether a reply says nothing of its question.
 fn is_open(reply: &Reply) -> bool
     ensures { result ≡ is_open reply.now }
 {
@@ -143,13 +145,16 @@ fn is_open(reply: &Reply) -> bool
     }
 }
 
+// Whether one of the replies says nothing of its question.
+fn is_one_open(replies: &[Reply]) -> bool
+    ensures { result ≡ list_any is_open replies.now }
+{
+    replies.iter().any(|reply| is_open(reply))
+}
+
 /// The status of an answer with these replies.
 pub(crate) fn replies_status(replies: &[Reply]) -> u8
     ensures { result ≡ replies_status replies.now }
 {
-    if replies.iter().any(is_open) {
-        STOPPED
-    } else {
-        DONE
-    }
+    if is_one_open(replies) { STOPPED } else { DONE }
 }

@@ -1,0 +1,27 @@
+use Rattle.std.proofs.Common.{arith}
+use Rattle.uc_clause.proofs.Tables.{grows_not, grows_twice}
+use Rattle.uc_top.proofs.Questions.{short_at, one_question_more, none_yet, first_fault, all_read}
+use Rattle.uc_top.proofs.question_word.read_questions.Goals as goal
+
+pub loop-number-init : goal.loop-number-init
+loop-number-init c = record {
+  so_far = rw c.new-questions.ensures (none_yet c.args.symbols.now c.args.known.now);
+  grows = grows_not c.args.symbols.now;
+}
+
+pub read_next-requires : goal.read_next-requires
+read_next-requires c = rw c.as_bytes.ensures (short_at c.args.words.now c.loop-number.number c.index-words-number.result c.loop-number-test.true c.index-words-number.is c.requires)
+
+pub returns-in-Err-clause-refused : goal.returns-in-Err-clause-refused
+returns-in-Err-clause-refused c = first_fault c.args.known.now c.args.words.now c.loop-number.number c.index-words-number.result c.loop-number.questions c.loop-number.symbols c.read_next.new.symbols c.in-Err.fault c.loop-number-test.true c.index-words-number.is c.read_next.ensures.grows c.loop-number.invariant.so_far (rw c.as_bytes.ensures at c.in-Err.ensures.refused)
+
+pub loop-number-preserved : goal.loop-number-preserved
+loop-number-preserved c =
+    let read = c.in_default.ensures.reads in
+    record {
+      so_far = rw read.2 (one_question_more c.args.known.now c.args.words.now c.loop-number.number c.index-words-number.result c.loop-number.questions c.loop-number.symbols c.read_next.new.symbols read.0 c.loop-number-test.true c.index-words-number.is c.read_next.ensures.grows c.loop-number.invariant.so_far (rw c.as_bytes.ensures at read.1));
+      grows = grows_twice c.args.symbols.now c.loop-number.symbols c.read_next.new.symbols c.loop-number.invariant.grows c.read_next.ensures.grows;
+    }
+
+pub returns-clause-reads : goal.returns-clause-reads
+returns-clause-reads c = all_read c.loop-number.symbols c.args.known.now c.args.words.now c.loop-number.number c.loop-number.questions (omega (arith, c.loop-number-test.false)) c.loop-number.invariant.so_far

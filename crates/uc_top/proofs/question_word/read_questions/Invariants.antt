@@ -1,0 +1,10 @@
+use Rattle.std.proofs.Common.{take}
+use Rattle.uc_term.specs.Table.{Grows}
+use Rattle.uc_top.specs.QuestionWords.{AreQuestions}
+use Rattle.uc_top.proofs.question_word.read_questions.Given as goal
+
+abbrev pub invariant-loop-number : goal.invariant-loop-number
+invariant-loop-number l = record {
+  so_far : AreQuestions l.symbols l.known (take l.number l.words) l.questions;
+  grows : Grows l.fn.symbols l.symbols;
+}
