@@ -157,7 +157,7 @@ fn searched_answer<R: Wait>(
     requires pairs { command.now.pairs ≤ 8000000 }
     ensures { IfOk result (λ answer. IsToldBySearch symbols.now (meaning_of symbols.now spec.now) command.now name.now (axioms_of problem.now.clauses) questions.now (opening_of_axioms command.now problem.now) answer.status (joined answer.lines)) }
 {
-    let axioms = without_goals(alloc, problem)?;
+    let encoded = without_goals(alloc, problem)?;
     let order = Chosen::new(alloc, spec, symbols, problem.signature.symbols.as_slice())?;
     let shelf = Shelf::new(alloc)?;
     let asked = Asked {
@@ -166,7 +166,7 @@ fn searched_answer<R: Wait>(
         questions,
         symbols,
     };
-    told_answer(rt, alloc, &asked, &axioms, &order, &shelf)
+    told_answer(rt, alloc, &asked, &encoded, &order, &shelf)
 }
 
 /// Questions of a command about the problem of this name, and the symbols.
@@ -183,22 +183,22 @@ fn told_answer<R: Wait, O: Order>(
     rt: &R,
     alloc: Global,
     asked: &Asked,
-    axioms: &Encoded,
+    encoded: &Encoded,
     order: &O,
     shelf: &Shelf,
 ) -> Result<Answer, AllocError>
-    requires no_goals { axioms.now.goals ≡ [] }
-    requires over { AreOfSignature (HasSym (O.meaning order.now)) (O.meaning order.now).arity axioms.now.axioms }
+    requires no_goals { encoded.now.goals ≡ [] }
+    requires over { AreOfSignature (HasSym (O.meaning order.now)) (O.meaning order.now).arity encoded.now.axioms }
     requires ground { AreGround (O.meaning order.now) asked.now.questions.now }
     requires of_table { AreGroundOfTable asked.now.symbols.now (O.meaning order.now) }
     requires budget { asked.now.command.now.budget ≤ 10000000 }
     requires pairs { asked.now.command.now.pairs ≤ 8000000 }
-    ensures { IfOk result (λ answer. IsToldBySearch asked.now.symbols.now (O.meaning order.now) asked.now.command.now asked.now.name.now axioms.now.axioms asked.now.questions.now (opening_for asked.now.command.now axioms.now) answer.status (joined answer.lines)) }
+    ensures { IfOk result (λ answer. IsToldBySearch asked.now.symbols.now (O.meaning order.now) asked.now.command.now asked.now.name.now encoded.now.axioms asked.now.questions.now (opening_for asked.now.command.now encoded.now) answer.status (joined answer.lines)) }
 {
     let (budget, pairs) = (asked.command.budget, asked.command.pairs);
-    let mut book = Book::start(alloc, axioms, order, shelf, budget, pairs)?;
+    let mut book = Book::start(alloc, encoded, order, shelf, budget, pairs)?;
     let mut pass = book.enroll(alloc, 0)?;
-    let verdict = search_alone(rt, alloc, &mut book, shelf, axioms, order, &mut pass)?;
+    let verdict = search_alone(rt, alloc, &mut book, shelf, encoded, order, &mut pass)?;
     closed_answer(alloc, asked, order, shelf, &book, verdict)
 }
 
