@@ -1,6 +1,6 @@
 -- The words are the same questions in every table of symbols.
-use Rattle.std.proofs.Common.{ℕ, zero, suc, ◌+◌, ◌≡◌, ◌||◌, true, not, cond, List, [], ◌∷◌, ◌++◌, map, take, position, slice_get, Option, Some, None, refl, sym, ap, ap₂, ◌∙◌, subst}
-use Rattle.std.specs.List.{list_any, position_from}
+use Rattle.std.proofs.Common.{ℕ, zero, suc, ◌+◌, ◌≡◌, not, cond, List, [], ◌∷◌, ◌++◌, map, position, slice_get, Some, refl, sym, ap, ap₂, ◌∙◌, subst}
+use Rattle.std.specs.List.{position_from}
 use Rattle.std.proofs.lemmas.List.{map-append}
 use Rattle.std.proofs.lemmas.Iterator.Adapters.{position_from-zero}
 use Rattle.uc_term.specs.declared.node.Sym.{Sym}
@@ -8,7 +8,7 @@ use Rattle.uc_term.specs.declared.node.Node.{Node}
 use Rattle.uc_term.specs.declared.node.Node.TheVariants.{Var, App}
 use Rattle.uc_term.specs.Tree.{Tree}
 use Rattle.uc_term.specs.Flat.{flat}
-use Rattle.uc_term.specs.Table.{Table, Entry, Has, IsOf, IsDistinct}
+use Rattle.uc_term.specs.Table.{Table, Entry, Has, IsDistinct}
 use Rattle.uc_clause.specs.declared.token.Place.{Place}
 use Rattle.uc_clause.specs.Reading.{ReadsEquation}
 use Rattle.uc_order.specs.Members.{Each}
