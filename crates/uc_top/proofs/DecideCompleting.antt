@@ -1,5 +1,5 @@
 -- How `decide` ends.
-use Rattle.std.proofs.Common.{inl, inr, ℕ, ◌≡◌, List, [], ◌∷◌, map, slice_get, Option, Some, None, sym, ap, ◌∙◌, subst}
+use Rattle.std.proofs.Common.{inl, inr, ℕ, ◌≡◌, List, ◌∷◌, map, slice_get, Option, Some, None, sym, ap, ◌∙◌, subst}
 use Rattle.std.specs.Io.KnownBytes.{Appends}
 use Rattle.uc_term.specs.declared.node.Sym.{Sym}
 use Rattle.uc_term.specs.Tree.{Tree}
@@ -23,7 +23,7 @@ use Rattle.uc_top.specs.QuestionWords.{AreQuestions, IsFirstFault}
 use Rattle.uc_top.specs.DecideAnswers.{IsDecided, is_unordered, is_no_question, is_answered, is_out}
 use Rattle.uc_top.specs.Answers.{DecideAnswers, fetch_fails, is_refused, is_loaded}
 use Rattle.uc_top.specs.Runs.{MayAnswer, is_answer, wants_memory, IsRun, EndsWith, tells_all, tells_want}
-use Rattle.uc_top.specs.DecideRuns.{EndAnswers, tells_replies, tells_limit, IsHeldDecision, QuestionsEnd, tells_answer, lacks_memory, DecideEnds, CompletesDecide}
+use Rattle.uc_top.specs.DecideRuns.{tells_replies, tells_limit, QuestionsEnd, tells_answer, lacks_memory, DecideEnds, CompletesDecide}
 use Rattle.uc_top.proofs.AnswersOnce.{head_name, tail_names}
 use Rattle.uc_top.proofs.ByVerb.{OfDecide, of_verb}
 use Rattle.uc_top.proofs.Completing.{told_whole}
