@@ -1,8 +1,10 @@
 -- The first node of a question that it may not have, and where it stands in the word; and questions in a table that grows.
-use Rattle.std.proofs.Common.{ℕ, zero, suc, ◌+◌, ◌^◌, ◌≡◌, ◌<◌, ◌≤◌, not, Bool, true, false, cond, List, [], ◌∷◌, ◌++◌, length, length-append, position, get_or, slice_get, take, Option, Some, None, refl, sym, ap, ◌∙◌, subst, arith}
-use Rattle.std.specs.List.{prefix_len, list_any}
+use Rattle.std.proofs.Common.{ℕ, zero, suc, ◌+◌, ◌^◌, ◌≡◌, ◌<◌, ◌≤◌, ◌==◌, not, Bool, cond, List, [], ◌∷◌, ◌++◌, length, length-append, position, get_or, slice_get, take, Option, Some, None, refl, sym, ap, ◌∙◌, subst, arith}
+use Rattle.std.specs.List.{prefix_len}
 use Rattle.std.proofs.lemmas.Grind.{common_steps}
 use Rattle.std.proofs.lemmas.List.{take_more}
+use Rattle.std.proofs.lemmas.List.Folds.{prefix_len-append}
+use Rattle.std.proofs.lemmas.List.Sums.{prefix_len-le-length}
 use Rattle.std.proofs.lemmas.Option.{slice_get-get_or}
 use Rattle.uc_term.specs.declared.node.Sym.{Sym}
 use Rattle.uc_term.specs.declared.node.Node.{Node}
@@ -12,6 +14,7 @@ use Rattle.uc_term.specs.Flat.{flat}
 use Rattle.uc_term.specs.Table.{Table, Grows, Has, IsOf, name_of}
 use Rattle.uc_term.proofs.Terms.{take_of_length-le}
 use Rattle.uc_clause.specs.declared.token.Place.{Place}
+use Rattle.uc_clause.specs.declared.token.Token.{Token}
 use Rattle.uc_clause.specs.Terminals.{place_or_end}
 use Rattle.uc_clause.specs.Parse.{leaves}
 use Rattle.uc_clause.specs.Reading.{ReadsEquation}
@@ -20,50 +23,28 @@ use Rattle.uc_top.specs.declared.term_word.WordFault.{WordFault}
 use Rattle.uc_top.specs.TermWords.{place_or_first, node_place}
 use Rattle.uc_top.specs.QuestionWords.{nodes_of, is_unfit, first_unfit, IsQuestionWord, HasUnfit, HasUnknown, HasVariable, IsQuestionFault, AreShort, AreQuestions, no_question, one_question, IsFirstFault}
 use Rattle.uc_top.proofs.NodeTokens.{side_node_at}
-use Rattle.uc_top.proofs.TermWords.{some_within, within_some, means_of, leaves_are, symbol_of, has_both, first_within}
+use Rattle.uc_top.proofs.TermWords.{some_within, within_some, means_of, leaves_are, symbol_of, has_both}
 
 -- THE FIRST OF TWO LISTS
 
-module _ {X : Type 0} (q : X → Bool) where
-  stays_within : (xs ys : List X) → prefix_len q xs < length xs → prefix_len q (xs ++ ys) ≡ prefix_len q xs
-  stays_within [] ys h = absurd (omega (arith, h))
-  stays_within (x ∷ xs) ys h = go (q x) h (stays_within xs ys)
-    where
-      go : (b : Bool) → cond b (1 + prefix_len q xs) 0 < length (x ∷ xs) → (prefix_len q xs < length xs → prefix_len q (xs ++ ys) ≡ prefix_len q xs) → cond b (1 + prefix_len q (xs ++ ys)) 0 ≡ cond b (1 + prefix_len q xs) 0
-      go true k later = ap (λ n. 1 + n) (later (omega (arith, k)))
-      go false k later = refl
-
-  goes_past : (xs ys : List X) → length xs ≤ prefix_len q xs → prefix_len q (xs ++ ys) ≡ length xs + prefix_len q ys
-  goes_past [] ys h = omega arith
-  goes_past (x ∷ xs) ys h = go (q x) h (goes_past xs ys)
-    where
-      go : (b : Bool) → length (x ∷ xs) ≤ cond b (1 + prefix_len q xs) 0 → (length xs ≤ prefix_len q xs → prefix_len q (xs ++ ys) ≡ length xs + prefix_len q ys) → cond b (1 + prefix_len q (xs ++ ys)) 0 ≡ length (x ∷ xs) + prefix_len q ys
-      go true k later = omega (arith, later (omega (arith, k)))
-      go false k later = absurd (omega (arith, k))
-
 module _ {X : Type 0} (p : X → Bool) (xs ys : List X) where
+  joint : prefix_len (λ x. not (p x)) (xs ++ ys) ≡ cond (prefix_len (λ x. not (p x)) xs == length xs) (length xs + prefix_len (λ x. not (p x)) ys) (prefix_len (λ x. not (p x)) xs)
+  joint = prefix_len-append (λ x. not (p x)) xs ys
+
   pub first_of_left : (n : ℕ) → position p xs ≡ Some n → position p (xs ++ ys) ≡ Some n
-  first_of_left n e =
-      let at : prefix_len (λ x. not (p x)) xs ≡ n = grind (arith, common_steps) in
-      let inside : prefix_len (λ x. not (p x)) xs < length xs = grind (arith, common_steps) in
-      let same = stays_within (λ x. not (p x)) xs ys inside in
-      let long = length-append xs ys in
-      grind (arith, common_steps)
+  first_of_left n e = let both = joint in let long = length-append xs ys in grind (arith, common_steps)
 
   pub first_of_right : (n : ℕ) → position p xs ≡ None → position p ys ≡ Some n → position p (xs ++ ys) ≡ Some (length xs + n)
   first_of_right n none e =
-      let past : length xs ≤ prefix_len (λ x. not (p x)) xs = grind (arith, common_steps) in
-      let at : prefix_len (λ x. not (p x)) ys ≡ n = grind (arith, common_steps) in
-      let inside : prefix_len (λ x. not (p x)) ys < length ys = grind (arith, common_steps) in
-      let same = goes_past (λ x. not (p x)) xs ys past in
+      let most = prefix_len-le-length (λ x. not (p x)) xs in
+      let both = joint in
       let long = length-append xs ys in
       grind (arith, common_steps)
 
   pub first_of_neither : position p xs ≡ None → position p ys ≡ None → position p (xs ++ ys) ≡ None
   first_of_neither none e =
-      let past : length xs ≤ prefix_len (λ x. not (p x)) xs = grind (arith, common_steps) in
-      let over : length ys ≤ prefix_len (λ x. not (p x)) ys = grind (arith, common_steps) in
-      let same = goes_past (λ x. not (p x)) xs ys past in
+      let most = prefix_len-le-length (λ x. not (p x)) xs in
+      let both = joint in
       let long = length-append xs ys in
       grind (arith, common_steps)
 
@@ -81,6 +62,9 @@ unfit_within known sides number e = position_within (is_unfit known) (nodes_of s
 
 pub question_of : (word : List ℕ) (table : Table) (sides : Tree × Tree) → ReadsEquation word table sides → IsOf table sides.0 × IsOf table sides.1
 question_of word table sides r = (means_of word r.tokens table r.means.means_left, means_of word r.tokens table r.means.means_right)
+
+same_place : (word : List ℕ) (a b : Option Token) (token : Token) → a ≡ Some token → b ≡ Some token → place_or_first a ≡ place_or_end word b
+same_place word a b token e k = ap place_or_first e ∙ sym (ap (place_or_end word) k)
 
 module _ (table : Table) (word : List ℕ) (sides : Tree × Tree) (r : ReadsEquation word table sides) (number : ℕ) where
   pub symbol_is : (f : Sym) (n : ℕ) → slice_get (nodes_of sides) number ≡ Some (App f n) → Has table f
@@ -104,7 +88,7 @@ module _ (table : Table) (word : List ℕ) (sides : Tree × Tree) (r : ReadsEqua
           node_is = at;
           token = leaf.0;
           leaf = leaf.1;
-          place_is = place_is ∙ ap place_or_first token.2 ∙ sym (ap (place_or_end word) token.1);
+          place_is = place_is ∙ same_place word _ _ token.0 token.2 token.1;
         }
 
     pub has_unknown : (f : Sym) (n : ℕ) (name : List ℕ) → slice_get (nodes_of sides) number ≡ Some (App f n) → name ≡ name_of table f → HasUnknown table known word place name

@@ -84,7 +84,7 @@ foreign_symbol known (Var x) e = absurd cc
 foreign_symbol known (App f n) e = (f, n, refl)
 
 module _ (table : Table) (known : List Sym) (word : List ℕ) (t : Tree) (r : ReadsTerm word table t) (number : ℕ) (first : first_foreign known t ≡ Some number) where
-  pub first_within : {X : Type 0} (p : X → Bool) (xs : List X) → position p xs ≡ Some number → number < length xs
+  first_within : {X : Type 0} (p : X → Bool) (xs : List X) → position p xs ≡ Some number → number < length xs
   first_within p [] e = absurd (cc e)
   first_within p (x ∷ xs) e = (position-Some p (x ∷ xs) number x e).0
 

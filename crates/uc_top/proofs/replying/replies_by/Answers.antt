@@ -1,4 +1,3 @@
-use Rattle.std.proofs.Common.{arith}
 use Rattle.uc_fact.specs.Live.{numbered}
 use Rattle.uc_top.proofs.ReplyLists.{none_replied, one_reply_more, all_replied, none_right, one_right_more, all_right}
 use Rattle.uc_top.proofs.replying.replies_by.Goals as goal
