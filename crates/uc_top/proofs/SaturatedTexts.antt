@@ -1,5 +1,5 @@
 -- From an ended search to the text of a system, and to what it decides.
-use Rattle.std.proofs.Common.{ℕ, zero, suc, ◌≡◌, ◌≤◌, ◌+◌, ◌||◌, Bool, true, false, List, [], ◌∷◌, ◌++◌, length, map, slice_get, Option, Some, None, Result, Ok, Err, if◌then◌else◌, refl, sym, ap, ◌∙◌, subst, arith}
+use Rattle.std.proofs.Common.{ℕ, zero, suc, ◌≡◌, ◌↔◌, ◌≤◌, ◌+◌, ◌||◌, Bool, true, false, List, [], ◌∷◌, ◌++◌, length, map, slice_get, Option, Some, None, Result, Ok, Err, if◌then◌else◌, refl, sym, ap, ◌∙◌, subst, arith}
 use Rattle.std.specs.Result.{IfOk}
 use Rattle.std.specs.declared.alloc.AllocError.{AllocError}
 use Rattle.std.specs.List.{list_any}
@@ -9,10 +9,11 @@ use Rattle.uc_term.specs.declared.equation.Equation.{Equation}
 use Rattle.uc_term.specs.Tree.{Tree, nodes}
 use Rattle.uc_term.specs.Over.{IsTerm}
 use Rattle.uc_term.specs.Table.{Table, Has, IsOf, arity_of}
+use Rattle.uc_term.specs.Conversion.{Conv}
 use Rattle.uc_clause.specs.declared.clause.Sourced.{Sourced}
 use Rattle.uc_clause.specs.Printable.{IsPrintableSymbol}
 use Rattle.uc_order.specs.Members.{In, in_front, in_rest, Each}
-use Rattle.uc_order.specs.Laws.{HasSym}
+use Rattle.uc_order.specs.Laws.{HasSym, IsGroundOf}
 use Rattle.uc_order.specs.declared.spec.OrderSpec.{OrderSpec}
 use Rattle.uc_order.specs.declared.spec.OrderSpec.TheVariants.{Kbo, Lpo}
 use Rattle.uc_kbo.proofs.Tables.{each_in, symbols-weighed}
@@ -29,6 +30,7 @@ use Rattle.uc_runs.specs.Written.{AreNumbered, AreSmall}
 use Rattle.uc_runs.specs.Signatures.{AreGroundEquations}
 use Rattle.uc_runs.proofs.GoalsApart.{goals_apart}
 use Rattle.uc_runs.proofs.WrittenFacts.{facts_numbered, facts_small}
+use Rattle.uc_decide.specs.NormalForms.{HasNormalForm}
 use Rattle.uc_decide.specs.Deciding.{Decides, AreAllApart}
 use Rattle.uc_decide.proofs.Verdicts.{no_goal}
 use Rattle.uc_system.specs.Facts.{IsFact, IsSide}
@@ -40,9 +42,10 @@ use Rattle.uc_ordering.specs.Fits.{Fits}
 use Rattle.uc_ordering.specs.Meaning.{meaning_of}
 use Rattle.uc_top.specs.PrintableProblems.{IsSmallClause, ArePrintableSourced, CanBePrinted}
 use Rattle.uc_top.specs.ProveAnswers.{HasEnded}
-use Rattle.uc_top.specs.ProveRuns.{Settles}
+use Rattle.uc_top.specs.ProveRuns.{Settles, IsOwnGround}
 use Rattle.uc_top.proofs.SpecSymbols.{term_from, known_symbol, table_term}
 use Rattle.uc_top.proofs.SearchEnds.{o, laws, reaches, verdict_is, opens, each_printable}
+use Rattle.uc_top.proofs.OwnTerms.{own_ground, own_equal}
 use Rattle.uc_top.proofs.NoGoalFollows.{goals_closed, ground_term, encoded_follows}
 use Rattle.uc_top.proofs.Saturation.{facts_over as system_over, decided as system_decides}
 use Rattle.uc_top.proofs.SmallAxioms.{encoded_small}
@@ -109,6 +112,13 @@ module _ (table : Table) (command : Command) (problem : Problem) (encoded : Enco
   decided : Decides (meaning_of table spec) facts encoded.axioms
   decided = system_decides (meaning_of table spec) (laws table command problem encoded spec Saturated s h) (o table command problem encoded spec Saturated s h) (opens table command problem encoded spec Saturated s h) s h.searched
 
+  own : (u v n k : Tree) → IsOwnGround table problem u → IsOwnGround table problem v → HasNormalForm (meaning_of table spec) facts u n → HasNormalForm (meaning_of table spec) facts v k → (n ≡ k) ↔ Conv (axioms_of problem.clauses) u v
+  own u v n k hu hv to_n to_k =
+      let ground : (t : Tree) → IsOwnGround table problem t → IsGroundOf (meaning_of table spec) t = own_ground table problem h.agrees encoded h.encodes spec h.fits in
+      let shared = decided.shared u v n k (ground u hu) (ground v hv) to_n to_k in
+      let same = own_equal table problem h.agrees encoded h.encodes u v hu hv in
+      ((λ e. same.0 (shared.0 e)), (λ c. shared.1 (same.1 c)))
+
   apart : AreAllApart (meaning_of table spec) facts encoded.axioms encoded.goals
   apart =
       let m_is = meaning_of table spec in
@@ -151,6 +161,7 @@ module _ (table : Table) (command : Command) (problem : Problem) (encoded : Enco
         system = record { facts = facts };
         reads = printed (system_printable can.clauses);
         decides = decided;
+        own = own;
         none_follows = λ f. no_goal (meaning_of table spec) (laws table command problem encoded spec Saturated s h) facts encoded.axioms decided encoded.goals apart (encoded_follows table problem h.agrees encoded h.encodes f);
       }
 

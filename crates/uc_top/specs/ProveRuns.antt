@@ -1,9 +1,11 @@
 -- How a run of `prove` ends, and what its answers promise.
-use Rattle.std.specs.Prelude.{ℕ, ◌≡◌, ◌≤◌, List, [], ◌∷◌, ◌++◌, length, codes, Option, Ok}
+use Rattle.std.specs.Prelude.{ℕ, ◌≡◌, ◌≤◌, ◌↔◌, List, [], ◌∷◌, ◌++◌, length, codes, Option, Ok}
 use Rattle.std.specs.Io.KnownBytes.{Appends}
 use Rattle.uc_term.specs.declared.fresh.Fresh.{Fresh}
-use Rattle.uc_term.specs.Table.{Table, IsDistinct}
-use Rattle.uc_term.specs.Conversion.{SomeFollows}
+use Rattle.uc_term.specs.Tree.{Tree}
+use Rattle.uc_term.specs.Over.{IsGround}
+use Rattle.uc_term.specs.Table.{Table, IsDistinct, arity_of}
+use Rattle.uc_term.specs.Conversion.{Conv, SomeFollows}
 use Rattle.uc_edge.specs.Files.{Files}
 use Rattle.uc_check.specs.declared.proof.Proof.{Proof}
 use Rattle.uc_check.specs.Checks.{AreRightBefore, EndsInRefutation}
@@ -14,12 +16,14 @@ use Rattle.uc_problem.specs.declared.problem.Encoded.{Encoded}
 use Rattle.uc_problem.specs.Holds.{Holds}
 use Rattle.uc_problem.specs.Encodes.{Encodes}
 use Rattle.uc_problem.specs.Marks.{Marks}
+use Rattle.uc_order.specs.Members.{In}
 use Rattle.uc_order.specs.declared.spec.OrderSpec.{OrderSpec}
 use Rattle.uc_fact.specs.declared.fact.System.{System}
 use Rattle.uc_machine.specs.declared.event.Verdict.{Verdict}
 use Rattle.uc_machine.specs.State.{State}
 use Rattle.uc_search.specs.Searching.{IsSearched}
 use Rattle.uc_search.specs.Causes.{HasCause}
+use Rattle.uc_decide.specs.NormalForms.{HasNormalForm}
 use Rattle.uc_decide.specs.Deciding.{Decides}
 use Rattle.uc_system.specs.Reading.{ReadsSystem}
 use Rattle.uc_words.specs.declared.command.Command.{Command}
@@ -52,14 +56,20 @@ pub record IsRefuted (table : Table) (name : List ℕ) (problem : Problem) (answ
 
 -- A PRINTED SYSTEM
 
+-- a ground term over the problem's own symbols, its fresh constant among them, without those of the encoding
+abbrev pub IsOwnGround : Table → Problem → Tree → Type 0
+IsOwnGround table problem = IsGround (In problem.signature.symbols) (arity_of table)
+
 -- The text is read as a system of this order, by which every ground term has exactly one normal form, two share it exactly if
--- their equation follows from the encoded axioms, and that form is the least of its class; and no goal of the problem follows.
+-- their equation follows from the encoded axioms, and that form is the least of its class. Two terms over the problem's own symbols
+-- share it exactly if their equation follows from the problem's own axioms. And no goal of the problem follows.
 pub record Settles (table : Table) (problem : Problem) (spec : OrderSpec) (text : List ℕ) : Type 0 where
   pub encoded : Encoded
   pub encodes : Encodes table problem (Ok encoded)
   pub system : System
   pub reads : ReadsSystem table text (Ok (record { spec = spec; system = system }))
   pub decides : Decides (meaning_of table spec) system.facts encoded.axioms
+  pub own : (u v n k : Tree) → IsOwnGround table problem u → IsOwnGround table problem v → HasNormalForm (meaning_of table spec) system.facts u n → HasNormalForm (meaning_of table spec) system.facts v k → (n ≡ k) ↔ Conv (axioms_of problem.clauses) u v
   pub none_follows : SomeFollows (axioms_of problem.clauses) (goals_of problem.clauses) → ⊥
 
 -- the answer has such a system between its two lines

@@ -1,4 +1,4 @@
-use Rattle.std.proofs.Common.{ap, ◌∙◌}
+use Rattle.std.proofs.Common.{ap}
 use Rattle.uc_problem.specs.declared.problem.Encoded.{Encoded}
 use Rattle.uc_ordering.specs.Chosen.{chosen_meaning, meaning_is}
 use Rattle.uc_top.proofs.DecidedAnswers.{axioms_over, ground_by, ground_of_table, told_for}
