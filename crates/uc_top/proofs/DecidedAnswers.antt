@@ -1,22 +1,22 @@
 -- From what the calls beneath `decide` promise to its answers.
-use Rattle.std.proofs.Common.{ℕ, ◌≡◌, ◌≤◌, ◌⊎◌, inl, inr, List, [], ◌∷◌, ◌++◌, codes, Option, Some, None, Result, Ok, Err, refl, sym, ap, ◌∙◌, subst, arith}
+use Rattle.std.proofs.Common.{ℕ, ◌≡◌, ◌≤◌, ◌⊎◌, inl, inr, List, [], ◌∷◌, ◌++◌, codes, Option, Some, None, Result, Ok, Err, refl, sym, subst, arith}
 use Rattle.std.specs.Result.{IfOk}
 use Rattle.std.specs.declared.alloc.AllocError.{AllocError}
 use Rattle.uc_term.specs.declared.equation.Equation.{Equation}
 use Rattle.uc_term.specs.Tree.{Tree}
-use Rattle.uc_term.specs.Table.{Table, Grows, Has, IsOf}
+use Rattle.uc_term.specs.Table.{Table, Grows, Has}
 use Rattle.uc_edge.specs.Files.{Files}
 use Rattle.uc_check.specs.Clauses.{axioms_of}
 use Rattle.uc_problem.specs.declared.problem.Problem.{Problem}
 use Rattle.uc_problem.specs.declared.problem.Encoded.{Encoded}
-use Rattle.uc_problem.specs.Holds.{Agrees, Holds, IsProblem}
+use Rattle.uc_problem.specs.Holds.{Agrees, IsProblem}
 use Rattle.uc_order.specs.declared.spec.OrderSpec.{OrderSpec}
 use Rattle.uc_order.specs.Laws.{Meaning, HasSym}
 use Rattle.uc_fact.specs.Ground.{AreOfSignature}
 use Rattle.uc_fact.specs.Live.{equations_of, numbered}
 use Rattle.uc_shelf.specs.Entries.{live}
 use Rattle.uc_machine.specs.declared.event.Verdict.{Verdict}
-use Rattle.uc_machine.specs.declared.event.Verdict.TheVariants.{Proved, Saturated, BudgetOut, PairsOut, LargeOverlap, LargeGoal}
+use Rattle.uc_machine.specs.declared.event.Verdict.TheVariants.{Saturated}
 use Rattle.uc_machine.specs.State.{Opening, State}
 use Rattle.uc_machine.specs.Runs.{Starts}
 use Rattle.uc_runs.specs.Signatures.{OpensOver}
@@ -41,7 +41,7 @@ use Rattle.uc_top.specs.OrderAnswers.{choice_line}
 use Rattle.uc_top.specs.RewriteAnswers.{word_line}
 use Rattle.uc_top.specs.QuestionWords.{AreQuestions, IsFirstFault}
 use Rattle.uc_top.specs.ProveAnswers.{status_line, opening_for, verdict_status, IsLimitLine, budget_is_spent, limit_is_passed, pair_is_large, step_is_large}
-use Rattle.uc_top.specs.DecideAnswers.{AreReplies, IsReplyOf, AreRepliesOf, replies_status, reply_lines, opening_of_axioms, facts_of, IsDecided, is_unordered, is_no_question, is_answered, is_out}
+use Rattle.uc_top.specs.DecideAnswers.{AreReplies, IsReplyOf, AreRepliesOf, replies_status, reply_lines, opening_of_axioms, IsDecided, is_unordered, is_no_question, is_answered, is_out}
 use Rattle.uc_top.specs.DecideRuns.{AreGround, AreRight, none_is_wrong, one_is_right, IsAnswered, IsOut, Decided, IsDecidedBy}
 use Rattle.uc_top.specs.DecideTold.{without_goals, AreGroundOfTable, IsTold, tells_replies, tells_limit, IsToldBySearch}
 use Rattle.uc_top.proofs.Answering.{one_line}

@@ -1,5 +1,5 @@
 -- The axioms and the goals of an encoded problem are over its signature.
-use Rattle.std.proofs.Common.{ℕ, zero, suc, ◌≡◌, ◌+◌, ◌==◌, ◌||◌, Bool, true, false, List, [], ◌∷◌, ◌++◌, map, slice_get, unwrap_or, Option, Some, None, Result, Ok, Err, if◌then◌else◌, refl, sym, ap, ◌∙◌, subst}
+use Rattle.std.proofs.Common.{ℕ, suc, ◌≡◌, ◌+◌, ◌==◌, ◌||◌, Bool, true, false, List, [], ◌∷◌, ◌++◌, map, unwrap_or, Option, Some, None, Result, Ok, if◌then◌else◌, refl, sym, ap, subst}
 use Rattle.std.specs.List.{list_any}
 use Rattle.std.proofs.lemmas.Bool.{eqb-true}
 use Rattle.uc_term.specs.declared.node.Sym.{Sym}
@@ -9,12 +9,12 @@ use Rattle.uc_term.specs.declared.fault.TermFault.{TermFault}
 use Rattle.uc_term.specs.declared.fresh.Fresh.{Fresh}
 use Rattle.uc_term.specs.declared.signature.Signature.{Signature}
 use Rattle.uc_term.specs.declared.equation.Equation.{Equation}
-use Rattle.uc_term.specs.Tree.{Tree, var, app, Trees, none, more, count}
+use Rattle.uc_term.specs.Tree.{Tree, var, app, Trees, none, more}
 use Rattle.uc_term.specs.Flat.{flat, flat_all}
 use Rattle.uc_term.specs.Over.{IsTerm, AreOver}
 use Rattle.uc_term.specs.Table.{Table, Entry, Has, IsOf, IsSymbol, arity_of}
 use Rattle.uc_term.specs.Gathering.{AreOf}
-use Rattle.uc_term.specs.Signatures.{Occurrence, occurrences_in, occurrences_from, occurrences_of, same_symbol, Gathers, all_seen, seen_before, is_new, clashes, is_too_many, IsFreshFor, Completes, has_constant, gets_constant}
+use Rattle.uc_term.specs.Signatures.{Occurrence, occurrences_in, occurrences_from, same_symbol, Gathers, all_seen, seen_before, is_new, clashes, is_too_many, Completes, has_constant, gets_constant}
 use Rattle.uc_term.specs.Encoding.{pair_term, reflexive, refuted, encoded}
 use Rattle.uc_order.specs.Members.{In, in_front, in_rest, Each}
 use Rattle.uc_clause.specs.declared.clause.Sourced.{Sourced}
@@ -22,7 +22,7 @@ use Rattle.uc_check.specs.Clauses.{equation_of, axioms_of, goals_of}
 use Rattle.uc_problem.specs.declared.problem.Problem.{Problem}
 use Rattle.uc_problem.specs.declared.problem.Encoded.{Encoded}
 use Rattle.uc_problem.specs.Holds.{terms_of, Agrees}
-use Rattle.uc_problem.specs.Marks.{Marks, AreMarks, is_open_goal}
+use Rattle.uc_problem.specs.Marks.{Marks, is_open_goal}
 use Rattle.uc_problem.specs.Encodes.{is_ground_goal, equations_where, last_goal, encoding_of, Encodes}
 use Rattle.uc_ordering.specs.Choice.{all_symbols}
 

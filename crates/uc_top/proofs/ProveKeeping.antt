@@ -1,5 +1,5 @@
 -- What the answer for a verdict keeps.
-use Rattle.std.proofs.Common.{ℕ, ◌≡◌, List, [], ◌++◌, codes, Option, Some, None, Ok, refl, sym, ap, ◌∙◌, subst, arith, append_assoc}
+use Rattle.std.proofs.Common.{ℕ, ◌≡◌, List, [], ◌++◌, codes, refl, sym, ap, ◌∙◌, arith, append_assoc}
 use Rattle.std.proofs.lemmas.List.{append-nil}
 use Rattle.uc_term.specs.Table.{Table}
 use Rattle.uc_order.specs.declared.spec.OrderSpec.{OrderSpec}

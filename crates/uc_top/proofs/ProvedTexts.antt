@@ -1,12 +1,10 @@
 -- From an ended search to the text of a proof, and to what it proves.
-use Rattle.std.proofs.Common.{ℕ, ◌≡◌, ◌<◌, ◌≤◌, ◌+◌, ◌^◌, List, [], ◌∷◌, ◌++◌, length, slice_get, Option, Some, None, Result, Ok, Err, refl, sym, ap, ◌∙◌, subst, arith}
+use Rattle.std.proofs.Common.{ℕ, ◌≡◌, ◌<◌, ◌+◌, ◌^◌, List, length, slice_get, Option, Some, None, Result, Ok, Err, refl, sym, ap, ◌∙◌, subst, arith}
 use Rattle.std.specs.Result.{IfOk}
 use Rattle.std.specs.declared.alloc.AllocError.{AllocError}
 use Rattle.std.proofs.lemmas.Option.{slice_get_within}
 use Rattle.uc_term.specs.declared.fresh.Fresh.{Fresh}
 use Rattle.uc_term.specs.Table.{Table}
-use Rattle.uc_clause.specs.declared.clause.Sourced.{Sourced}
-use Rattle.uc_check.specs.declared.proof.Proof.{Proof}
 use Rattle.uc_check.specs.declared.proof.Line.{Line}
 use Rattle.uc_check.specs.declared.checker.Checked.TheVariants.{Accepted}
 use Rattle.uc_check.specs.Checks.{AreRightBefore, EndsInRefutation, accepted}
@@ -40,7 +38,7 @@ use Rattle.uc_words.specs.declared.command.Command.{Command}
 use Rattle.uc_top.specs.PrintableProblems.{CanBePrinted}
 use Rattle.uc_top.specs.ProveAnswers.{HasEnded, IsProofText}
 use Rattle.uc_top.specs.ProveRuns.{Certifies}
-use Rattle.uc_top.proofs.SearchEnds.{replay, encoding, parts_of, parts_printable, proved_goal, proves_goal}
+use Rattle.uc_top.proofs.SearchEnds.{replay, parts_of, parts_printable, proved_goal, proves_goal}
 use Rattle.uc_proof.proofs.TableLines.{proof_lines_of, as_many_files}
 
 pub fresh_for : (table : Table) (problem : Problem) → Agrees table problem → (fresh : Option Fresh) → Marks table problem (Ok fresh) → AreFresh fresh problem.clauses

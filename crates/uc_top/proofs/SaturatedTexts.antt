@@ -1,27 +1,23 @@
 -- From an ended search to the text of a system, and to what it decides.
-use Rattle.std.proofs.Common.{ℕ, zero, suc, ◌≡◌, ◌↔◌, ◌≤◌, ◌+◌, ◌||◌, Bool, true, false, List, [], ◌∷◌, ◌++◌, length, map, slice_get, Option, Some, None, Result, Ok, Err, if◌then◌else◌, refl, sym, ap, ◌∙◌, subst, arith}
+use Rattle.std.proofs.Common.{ℕ, suc, ◌≡◌, ◌↔◌, List, [], ◌∷◌, slice_get, Some, Result, Ok, Err, refl, sym, subst}
 use Rattle.std.specs.Result.{IfOk}
 use Rattle.std.specs.declared.alloc.AllocError.{AllocError}
-use Rattle.std.specs.List.{list_any}
 use Rattle.uc_term.specs.declared.node.Sym.{Sym}
-use Rattle.uc_term.specs.declared.fresh.Fresh.{Fresh}
 use Rattle.uc_term.specs.declared.equation.Equation.{Equation}
-use Rattle.uc_term.specs.Tree.{Tree, nodes}
+use Rattle.uc_term.specs.Tree.{Tree}
 use Rattle.uc_term.specs.Over.{IsTerm}
 use Rattle.uc_term.specs.Table.{Table, Has, IsOf, arity_of}
 use Rattle.uc_term.specs.Conversion.{Conv}
-use Rattle.uc_clause.specs.declared.clause.Sourced.{Sourced}
 use Rattle.uc_clause.specs.Printable.{IsPrintableSymbol}
 use Rattle.uc_order.specs.Members.{In, in_front, in_rest, Each}
 use Rattle.uc_order.specs.Laws.{HasSym, IsGroundOf}
 use Rattle.uc_order.specs.declared.spec.OrderSpec.{OrderSpec}
 use Rattle.uc_order.specs.declared.spec.OrderSpec.TheVariants.{Kbo, Lpo}
 use Rattle.uc_kbo.proofs.Tables.{each_in, symbols-weighed}
-use Rattle.uc_fact.specs.declared.fact.System.{System}
 use Rattle.uc_fact.specs.Ground.{AreOfSignature}
 use Rattle.uc_fact.specs.Live.{equations_of}
 use Rattle.uc_shelf.specs.Entries.{live}
-use Rattle.uc_check.specs.Clauses.{equation_of, axioms_of}
+use Rattle.uc_check.specs.Clauses.{axioms_of}
 use Rattle.uc_problem.specs.declared.problem.Problem.{Problem}
 use Rattle.uc_problem.specs.declared.problem.Encoded.{Encoded}
 use Rattle.uc_machine.specs.declared.event.Verdict.TheVariants.{Saturated}
@@ -33,14 +29,14 @@ use Rattle.uc_runs.proofs.WrittenFacts.{facts_numbered, facts_small}
 use Rattle.uc_decide.specs.NormalForms.{HasNormalForm}
 use Rattle.uc_decide.specs.Deciding.{Decides, AreAllApart}
 use Rattle.uc_decide.proofs.Verdicts.{no_goal}
-use Rattle.uc_system.specs.Facts.{IsFact, IsSide}
+use Rattle.uc_system.specs.Facts.{IsFact}
 use Rattle.uc_system.specs.Reading.{ReadsSystem, precedence_of}
 use Rattle.uc_system.specs.Printing.{IsSpecOf, IsEquationOf}
 use Rattle.uc_system.specs.Printable.{IsPrintableSystem}
 use Rattle.uc_words.specs.declared.command.Command.{Command}
 use Rattle.uc_ordering.specs.Fits.{Fits}
 use Rattle.uc_ordering.specs.Meaning.{meaning_of}
-use Rattle.uc_top.specs.PrintableProblems.{IsSmallClause, ArePrintableSourced, CanBePrinted}
+use Rattle.uc_top.specs.PrintableProblems.{ArePrintableSourced, CanBePrinted}
 use Rattle.uc_top.specs.ProveAnswers.{HasEnded}
 use Rattle.uc_top.specs.ProveRuns.{Settles, IsOwnGround}
 use Rattle.uc_top.proofs.SpecSymbols.{term_from, known_symbol, table_term}

@@ -1,5 +1,5 @@
 -- What holds where a search has ended.
-use Rattle.std.proofs.Common.{ℕ, zero, suc, ◌≡◌, ◌<◌, ◌≤◌, List, [], ◌∷◌, length, map, slice_get, Some, Ok, refl, sym, ap, ◌∙◌, subst, arith}
+use Rattle.std.proofs.Common.{ℕ, zero, suc, ◌≡◌, List, [], ◌∷◌, map, slice_get, Some, refl, sym, ap, ◌∙◌, subst}
 use Rattle.std.specs.List.{AllByRecursion}
 use Rattle.uc_term.specs.declared.node.Sym.{Sym}
 use Rattle.uc_term.specs.declared.equation.Equation.{Equation}
@@ -7,7 +7,7 @@ use Rattle.uc_term.specs.Tree.{Tree}
 use Rattle.uc_term.specs.Over.{IsTerm}
 use Rattle.uc_term.specs.Table.{Table, Has, IsOf, arity_of}
 use Rattle.uc_clause.specs.declared.clause.Sourced.{Sourced}
-use Rattle.uc_clause.specs.Printable.{IsPrintableSymbol, IsPrintable}
+use Rattle.uc_clause.specs.Printable.{IsPrintableSymbol}
 use Rattle.uc_order.specs.Members.{In, Each}
 use Rattle.uc_order.specs.Laws.{Meaning, Laws, HasSym}
 use Rattle.uc_order.specs.declared.spec.OrderSpec.{OrderSpec}
@@ -33,7 +33,7 @@ use Rattle.uc_runs.proofs.OverRuns.{stays_over}
 use Rattle.uc_runs.proofs.ProvedGoals.{proved}
 use Rattle.uc_proof.specs.Chains.{ProvesGoal}
 use Rattle.uc_proof.specs.Extracted.{IsEncodingOf}
-use Rattle.uc_proof.specs.Printable.{IsPrintableChain, ArePrintable}
+use Rattle.uc_proof.specs.Printable.{ArePrintable}
 use Rattle.uc_words.specs.declared.command.Command.{Command}
 use Rattle.uc_ordering.specs.Fits.{Fits}
 use Rattle.uc_ordering.specs.Meaning.{meaning_of}
@@ -45,7 +45,7 @@ use Rattle.uc_top.proofs.Saturation.{searched_reaches, searched_verdict}
 use Rattle.uc_top.proofs.OverSignature.{IsEquationOver, encoded_problem_over}
 use Rattle.uc_top.proofs.PrintableFiles.{printable_at}
 use Rattle.uc_top.proofs.PrintableSymbols.{symbols_printable, encoded_symbols}
-use Rattle.uc_proof.proofs.TableLines.{IsChainOf, ArePartsOf}
+use Rattle.uc_proof.proofs.TableLines.{ArePartsOf}
 
 each_at : {A : Type 0} (P : A → Type 0) (xs : List A) → Each P xs → (n : ℕ) (x : A) → slice_get xs n ≡ Some x → P x
 each_at P [] h n x e = absurd cc

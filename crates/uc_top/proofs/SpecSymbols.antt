@@ -1,12 +1,12 @@
 -- The symbols of an order that fits a signature are the signature's, with their arities in the table.
-use Rattle.std.proofs.Common.{ℕ, ◌≡◌, ◌==◌, Bool, true, false, List, [], ◌∷◌, length, map, refl, sym, ap, ◌∙◌, subst, arith, if◌then◌else◌}
+use Rattle.std.proofs.Common.{ℕ, ◌≡◌, ◌==◌, Bool, true, false, List, [], ◌∷◌, length, refl, sym, ap, ◌∙◌, subst, arith, if◌then◌else◌}
 use Rattle.std.proofs.lemmas.Bool.{eqb-true, eq-eqb}
 use Rattle.uc_term.specs.declared.node.Sym.{Sym}
 use Rattle.uc_term.specs.Tree.{Tree, var, app, Trees, none, more}
 use Rattle.uc_term.specs.Over.{IsOver, AreOver, IsTerm, IsGround}
 use Rattle.uc_term.specs.Table.{Table, arity_of}
 use Rattle.uc_order.specs.Members.{In, in_front, in_rest, Each}
-use Rattle.uc_order.specs.Laws.{Meaning, HasSym, IsGroundOf}
+use Rattle.uc_order.specs.Laws.{HasSym, IsGroundOf}
 use Rattle.uc_order.specs.declared.spec.OrderSpec.{OrderSpec}
 use Rattle.uc_order.specs.declared.spec.OrderSpec.TheVariants.{Kbo, Lpo}
 use Rattle.uc_kbo.specs.Faults.{weighed}
