@@ -102,21 +102,41 @@ KeepsDecideWord files all old new result = (command : Command) (name : List ℕ)
 
 -- COMPLETENESS
 
--- How `decide` ends for a problem, an order and questions: with a reply to each question by the saturated system of worker 0
--- alone, with the limit that ended its search, or for want of memory, which is free.
-pub data QuestionsEnd (table : Table) (command : Command) (name : List ℕ) (problem : Problem) (spec : OrderSpec) (questions : List (Tree × Tree)) (old new : Option (List ℕ)) : ℕ → Type 0 where
-  tells_replies : {s : State} {replies : List Reply} → IsSearched (meaning_of table spec) (opening_of_axioms command problem) 0 Saturated s → AreReplies (meaning_of table spec) (facts_of s) command.steps questions replies → Appends old new (reply_lines table replies) → QuestionsEnd table command name problem spec questions old new (replies_status replies)
-  tells_limit : {v : Verdict} {s : State} {line : List ℕ} → IsSearched (meaning_of table spec) (opening_of_axioms command problem) 0 v s → IsLimitLine command s v line → Appends old new (status_line (codes "ResourceOut") name ++ line) → QuestionsEnd table command name problem spec questions old new 2
-  lacks_memory : Appends old new memory_line → QuestionsEnd table command name problem spec questions old new 7
+-- What is answered for the end of a search in this state: a reply to each question by the saturated system, or the limit that
+-- ended the search.
+pub data EndAnswers (table : Table) (command : Command) (name : List ℕ) (spec : OrderSpec) (questions : List (Tree × Tree)) (s : State) : Verdict → ℕ → List ℕ → Type 0 where
+  tells_replies : {replies : List Reply} → AreReplies (meaning_of table spec) (facts_of s) command.steps questions replies → EndAnswers table command name spec questions s Saturated (replies_status replies) (reply_lines table replies)
+  tells_limit : {v : Verdict} {line : List ℕ} → IsLimitLine command s v line → EndAnswers table command name spec questions s v 2 (status_line (codes "ResourceOut") name ++ line)
 
--- How `decide` ends for a problem and an order, by what the words are in one table.
-pub record DecideEnds (table : Table) (command : Command) (name : List ℕ) (problem : Problem) (spec : OrderSpec) (words : List (List ℕ)) (old new : Option (List ℕ)) (result : ℕ) : Type 0 where
+-- The status and the answer are those of the search by worker 0 alone, for the problem of this name that the files have, the order
+-- that the words name for it and the questions that they ask, with the symbols in some table whose entries are all different.
+pub record IsHeldDecision (files : Files) (command : Command) (name : List ℕ) (words : List (List ℕ)) (status : ℕ) (answer : List ℕ) : Type 0 where
+  pub table : Table
+  pub distinct : IsDistinct table
+  pub problem : Problem
+  pub holds : Holds table files command.root name problem
+  pub spec : OrderSpec
+  pub chosen : IsChosen table problem.signature command.order None spec
+  pub questions : List (Tree × Tree)
+  pub are_questions : AreQuestions table problem.signature.symbols words questions
+  pub verdict : Verdict
+  pub state : State
+  pub searched : IsSearched (meaning_of table spec) (opening_of_axioms command problem) 0 verdict state
+  pub answers : EndAnswers table command name spec questions state verdict status answer
+
+-- How `decide` ends for questions: with this answer, or for want of memory, which is free.
+pub data QuestionsEnd (files : Files) (command : Command) (name : List ℕ) (words : List (List ℕ)) (old new : Option (List ℕ)) : ℕ → Type 0 where
+  tells_answer : {status : ℕ} {answer : List ℕ} → IsHeldDecision files command name words status answer → Appends old new answer → QuestionsEnd files command name words old new status
+  lacks_memory : Appends old new memory_line → QuestionsEnd files command name words old new 7
+
+-- How `decide` ends for a problem and words, by what the words are in one table.
+pub record DecideEnds (table : Table) (files : Files) (command : Command) (name : List ℕ) (problem : Problem) (words : List (List ℕ)) (old new : Option (List ℕ)) (result : ℕ) : Type 0 where
   -- they are questions over the problem's signature
-  pub asked : (questions : List (Tree × Tree)) → AreQuestions table problem.signature.symbols words questions → QuestionsEnd table command name problem spec questions old new result
+  pub asked : (questions : List (Tree × Tree)) → AreQuestions table problem.signature.symbols words questions → QuestionsEnd files command name words old new result
   -- one is none
   pub no_question : (number : ℕ) (why : WordFault) → IsFirstFault table problem.signature.symbols words number why → (why ≡ NoMemory → ⊥) → EndsWith 3 (word_line number why) old new result
 
 -- Where the words of `decide`, with one worker, name an order for a problem that the files hold, in whatever table without an entry
 -- twice its symbols and those of the questions stand, `decide` ends so.
 abbrev pub CompletesDecide : Files → List (List ℕ) → Option (List ℕ) → Option (List ℕ) → ℕ → Type 0
-CompletesDecide files all old new result = (command : Command) (name : List ℕ) (words : List (List ℕ)) (table : Table) (problem : Problem) (spec : OrderSpec) → Reads all command → command.verb ≡ Decide → command.workers ≡ 1 → command.positionals ≡ name ∷ words → IsDistinct table → Holds table files command.root name problem → IsChosen table problem.signature command.order None spec → DecideEnds table command name problem spec words old new result
+CompletesDecide files all old new result = (command : Command) (name : List ℕ) (words : List (List ℕ)) (table : Table) (problem : Problem) (spec : OrderSpec) → Reads all command → command.verb ≡ Decide → command.workers ≡ 1 → command.positionals ≡ name ∷ words → IsDistinct table → Holds table files command.root name problem → IsChosen table problem.signature command.order None spec → DecideEnds table files command name problem words old new result

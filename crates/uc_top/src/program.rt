@@ -13,7 +13,7 @@ ghost use Rattle.uc_top.specs.OrderRuns.{CompletesOrder};
 ghost use Rattle.uc_top.specs.RewriteRuns.{CompletesRewrite};
 ghost use Rattle.uc_top.specs.PairsRuns.{CompletesPairs};
 ghost use Rattle.uc_top.specs.ProveRuns.{KeepsCommand, CompletesProve};
-ghost use Rattle.uc_top.specs.DecideRuns.{KeepsDecideCommand};
+ghost use Rattle.uc_top.specs.DecideRuns.{KeepsDecideCommand, CompletesDecide};
 ghost use Rattle.uc_top.specs.Headline.{Headline};
 
 use crate::checking::check_answer;
@@ -69,6 +69,7 @@ pub fn run<R: Threads + Wait + Sync, L: Library, S: Sink, G: Gate + Sync>(
     ensures complete_pairs { (files : Files) → L.holds library.old ≡ Some files → (Rose (L.faults library.old) (L.faults library.new) → ⊥) → (Rose (S.faults sink.old) (S.faults sink.new) → ⊥) → CompletesPairs files (map string_bytes words.now) (S.written sink.old) (S.written sink.new) result }
     ensures headline { (files : Files) → L.holds library.old ≡ Some files → Headline files (map string_bytes words.now) (S.written sink.old) (S.written sink.new) result }
     ensures complete_prove { (files : Files) → L.holds library.old ≡ Some files → (Rose (L.faults library.old) (L.faults library.new) → ⊥) → (Rose (S.faults sink.old) (S.faults sink.new) → ⊥) → CompletesProve files (map string_bytes words.now) (S.written sink.old) (S.written sink.new) result }
+    ensures complete_decide { (files : Files) → L.holds library.old ≡ Some files → (Rose (L.faults library.old) (L.faults library.new) → ⊥) → (Rose (S.faults sink.old) (S.faults sink.new) → ⊥) → CompletesDecide files (map string_bytes words.now) (S.written sink.old) (S.written sink.new) result }
     ensures same { L.holds library.new ≡ L.holds library.old }
     ensures later { L.faults library.old ≤ L.faults library.new }
     ensures sink_later { S.faults sink.old ≤ S.faults sink.new }

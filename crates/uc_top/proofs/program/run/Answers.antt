@@ -7,6 +7,7 @@ use Rattle.uc_top.proofs.RewriteCompleting.{rewrite_completes}
 use Rattle.uc_top.proofs.PairsCompleting.{pairs_complete}
 use Rattle.uc_top.proofs.ProveCompleting.{prove_completes, keeps_word}
 use Rattle.uc_top.proofs.DecidePromises.{keeps_decide_word}
+use Rattle.uc_top.proofs.DecideCompleting.{decide_completes}
 use Rattle.uc_top.proofs.program.run.Goals as goal
 
 pub returns-in-Err-clause-answers : goal.returns-in-Err-clause-answers
@@ -62,3 +63,9 @@ returns-in-Err-clause-complete_prove g c = prove_completes _ _ _ _ _ _ _ _ _ (re
 
 pub returns-in-Ok-clause-complete_prove : goal.returns-in-Ok-clause-complete_prove
 returns-in-Ok-clause-complete_prove g c = prove_completes _ _ _ _ _ _ _ _ _ (record { status = _; text = _; answer = c.in-Ok.ensures.answers; told = c.tell.ensures.told })
+
+pub returns-in-Err-clause-complete_decide : goal.returns-in-Err-clause-complete_decide
+returns-in-Err-clause-complete_decide g c = decide_completes _ _ _ _ _ _ _ _ _ (record { status = 7; text = _; answer = wants_memory; told = c.tell_memory_out.ensures.told })
+
+pub returns-in-Ok-clause-complete_decide : goal.returns-in-Ok-clause-complete_decide
+returns-in-Ok-clause-complete_decide g c = decide_completes _ _ _ _ _ _ _ _ _ (record { status = _; text = _; answer = c.in-Ok.ensures.answers; told = c.tell.ensures.told })
