@@ -1,5 +1,5 @@
 -- A search that ends at a limit has its cause.
-use Rattle.std.proofs.Common.{◌≡◌, ℕ, ◌+◌, ◌<◌, ◌≤◌, List, [], ◌∷◌, length, count_by, Some, None, refl, ap, ◌∙◌, arith, subst}
+use Rattle.std.proofs.Common.{◌≡◌, ℕ, ◌+◌, ◌<◌, ◌≤◌, List, [], ◌∷◌, ◌++◌, length, count_by, Some, None, refl, sym, ap, ◌∙◌, arith, subst, append_assoc}
 use Rattle.uc_order.specs.Laws.{Meaning}
 use Rattle.uc_fact.specs.declared.chain.Chain.{Chain}
 use Rattle.uc_fact.specs.declared.fact.Stop.{Stop}
@@ -12,21 +12,22 @@ use Rattle.uc_machine.specs.declared.task.Finding.{Finding}
 use Rattle.uc_machine.specs.declared.task.Job.TheVariants.{Meet}
 use Rattle.uc_machine.specs.declared.task.Missing.{Missing}
 use Rattle.uc_machine.specs.declared.task.Outcome.{Outcome}
+use Rattle.uc_machine.specs.declared.task.Outcome.TheVariants.{Missing as Lacks}
 use Rattle.uc_machine.specs.Lists.{each}
-use Rattle.uc_machine.specs.State.{Opening, State, Out, waiting, is_unit}
+use Rattle.uc_machine.specs.State.{Opening, State, Out, out_at, waiting, is_unit}
 use Rattle.uc_machine.specs.Effects.{closes, drops, kills, visits}
 use Rattle.uc_machine.specs.Draws.{Reply, Drained, Closed, Draws, verdict_stands, goal_is_due, fact_is_unmet, orphan_is_dropped, goal_is_continued, pair_is_drawn, budget_is_out, budget_is_spent, all_is_out, all_is_done, Waits, goal_waits, pair_waits}
 use Rattle.uc_machine.specs.Commits.{GoalEnds, ends_meet, ends_differ, Meets, within_limit, past_limit, newly_waiting, stays, Commits, is_late, goal_ends, more_ends, pair_joins, fact_is_kept, fact_is_stale, fact_is_dead, fact_meets}
 use Rattle.uc_machine.specs.Finals.{IsFinal}
 use Rattle.uc_machine.specs.Promises.{CountsUnits}
-use Rattle.uc_machine.specs.Runs.{Starts, axioms_wait, too_many_axioms, opened, KeptAs, ClosedBy, Audits, is_closed, is_spent, Closes, converges, has_large, has_stuck, IsDrained}
+use Rattle.uc_machine.specs.Runs.{Reaches, draws_on, Starts, axioms_wait, too_many_axioms, opened, KeptAs, ClosedBy, Audits, is_closed, is_spent, Closes, converges, has_large, has_stuck, IsDrained}
 use Rattle.uc_machine.proofs.Runs.{kept_reaches}
 use Rattle.uc_machine.proofs.Promises.{counts_units, ends_pairs_once}
-use Rattle.uc_search.specs.Working.{TakesTurn, Works, no_turn, one_more_turn}
-use Rattle.uc_search.specs.Searching.{AuditsAll, one_is_kept, book_is_closed, EndsRound, is_closed_by, audits_missing, Rounds, gets_verdict, gets_drained, Searches, last_round, next_round, IsSearched}
-use Rattle.uc_search.specs.Causes.{waits_in_book, waits_for_audit, at_start, at_meeting, budget_is_spent as is_spent_all, pairs_are_too_many, overlap_is_large, goal_is_stuck, HasCauseIfStopped}
-use Rattle.uc_search.proofs.Turns.{leaves, Stays, kills_stay, visits_stay}
-use Rattle.uc_search.proofs.Rests.{Rests, WereMissing, may_audit, missing_on, missing_first, audit_leaves, start_rests, works_rest, draws_one, closed_rests, round_rests, round_verdict}
+use Rattle.uc_search.specs.Working.{CommitsResult, TakesTurn, Works, no_turn, one_more_turn}
+use Rattle.uc_search.specs.Searching.{AuditsAll, all_are_kept, one_is_kept, book_is_closed, EndsRound, is_closed_by, audits_missing, Rounds, gets_verdict, gets_drained, Searches, last_round, next_round, IsSearched}
+use Rattle.uc_search.specs.Causes.{AreUnaudited, waits_in_book, waits_for_audit, at_start, at_meeting, budget_is_spent as is_spent_all, pairs_are_too_many, overlap_is_large, goal_is_stuck, HasCauseIfStopped}
+use Rattle.uc_search.proofs.Turns.{leaves, Stays, at_one, kills_stay, visits_stay}
+use Rattle.uc_search.proofs.Rests.{Rests, audit_leaves, start_rests, works_rest, draws_one, drained_rests, closed_rests, round_rests, round_verdict}
 
 two_verdicts : {A : Type 0} (s : State) (v : Verdict) → s.verdict ≡ None → s.verdict ≡ Some v → A
 two_verdicts s v e f = absurd (cc)
@@ -37,6 +38,11 @@ all_counted o s k e l =
     let r : s.reserved ≡ 0 = k.reserved ∙ ap (λ ts. count_by (λ (t : Out). is_unit t.job) ts) e in
     let w : s.counted + s.reserved ≤ o.budget = k.within in
     omega arith
+
+-- one more is audited and kept
+audits_more : (o : Opening) (done : List Missing) (x : Missing) (s u v : State) (n : ℕ) → AuditsAll o done s None u → Audits o x.fact u (KeptAs n) v → AuditsAll o (done ++ x ∷ []) s None v
+audits_more o _ x s _ v n all_are_kept b = one_is_kept b all_are_kept
+audits_more o _ x s u v n (one_is_kept {x = y} {xs = ys} {u = t} a rest) b = one_is_kept a (audits_more o ys x t u v n rest b)
 
 -- what waits, waits still where the book is closed
 waits_closed : (s : State) (w : ℕ) (v : Verdict) → Waits s → Waits (closes w v s)
@@ -61,25 +67,31 @@ module _ (m : Meaning) (o : Opening) where
       let s : State = closes 0 (PairsOut 0 (length o.axioms)) (opened o []) in
       told_by s (PairsOut 0 (length o.axioms)) refl (pairs_are_too_many {more = length o.axioms} (let x : o.limit < length o.axioms = l in omega arith) (at_start refl (too_many_axioms l)))
 
+  -- a run leads to the state, where the task is out and no verdict stands
+  record IsOutIn (t : Out) (s : State) : Type 0 where
+    reaches : Reaches m o s
+    at : out_at t.ticket s.out ≡ Some t
+    open_ : s.verdict ≡ None
+
   -- a commit, where no verdict stood
   goal_told : (kind : ℕ → ℕ → GoalEnd → Happening) (t : Out) (g : ℕ) (l r : Chain) (stop : Stop) (s u : State) → s.verdict ≡ None → GoalEnds kind t g l r stop s u → Told u
   goal_told kind t g l r stop s _ e (ends_meet q) = told_by _ (Proved g) refl tt
   goal_told kind t g l r stop s _ e (ends_differ c q a) = untold _ e
 
-  meets_told : (t : Out) (i pairs : ℕ) (does : State → State) (f : Finding) (s u : State) → s.verdict ≡ None → t.job ≡ Meet i → ((x : State) → Stays x (does x)) → Commits o t f s u → Meets o t i pairs does s u → Told u
-  meets_told t i pairs does f s _ e j d c (within_limit died a b) = untold _ ((d _).verdict ∙ e)
-  meets_told t i pairs does f s _ e j d c (past_limit more a b) =
-      told_by _ (PairsOut (waiting s) more) refl (pairs_are_too_many {more = more} b (at_meeting {before = s} {fact = i} {finding = f} t j c refl e))
+  meets_told : (t : Out) (i pairs : ℕ) (does : State → State) (s u : State) → IsOutIn t s → t.job ≡ Meet i → ((x : State) → Stays x (does x)) → CommitsResult m o t s u → Meets o t i pairs does s u → Told u
+  meets_told t i pairs does s _ e j d c (within_limit died a b) = untold _ ((d _).verdict ∙ e.open_)
+  meets_told t i pairs does s _ e j d c (past_limit more a b) =
+      told_by _ (PairsOut (waiting s) more) refl (pairs_are_too_many {more = more} b (at_meeting {before = s} {fact = i} t j e.reaches e.open_ e.at c refl))
 
-  commit_told : (t : Out) (f : Finding) (s u : State) → s.verdict ≡ None → Commits o t f s u → Told u
-  commit_told t f s _ e (is_late v q) = two_verdicts s v e q
-  commit_told t _ s u e (goal_ends {l = l} {r = r} {stop = stop} g a b q is x) = goal_told CommitGoal t g l r stop s u e x
-  commit_told t _ s u e (more_ends {l = l} {r = r} {stop = stop} g a b q is x) = goal_told CommitMore t g l r stop s u e x
-  commit_told t _ s _ e (pair_joins p a q is) = untold _ e
-  commit_told t _ s _ e (fact_is_kept p a q is) = untold _ e
-  commit_told t f s u e (fact_is_stale {k = k} i q is x) = meets_told t i 0 (λ y. kills k i y) f s u e is (kills_stay k i) (fact_is_stale i q is x) x
-  commit_told t f s u e (fact_is_dead i q is d x) = meets_told t i 0 stays f s u e is (λ y. record { out = refl; verdict = refl; history = refl }) (fact_is_dead i q is d x) x
-  commit_told t f s u e (fact_meets {ks = ks} {fs = fs} i q is d x) = meets_told t i (newly_waiting fs (each (λ c. kills i c) ks s)) (λ y. visits i ks fs y) f s u e is (visits_stay i ks fs) (fact_meets i q is d x) x
+  commit_told : (t : Out) (f : Finding) (s u : State) → IsOutIn t s → CommitsResult m o t s u → Commits o t f s u → Told u
+  commit_told t f s _ e c (is_late v q) = two_verdicts s v e.open_ q
+  commit_told t _ s u e c (goal_ends {l = l} {r = r} {stop = stop} g a b q is x) = goal_told CommitGoal t g l r stop s u e.open_ x
+  commit_told t _ s u e c (more_ends {l = l} {r = r} {stop = stop} g a b q is x) = goal_told CommitMore t g l r stop s u e.open_ x
+  commit_told t _ s _ e c (pair_joins p a q is) = untold _ e.open_
+  commit_told t _ s _ e c (fact_is_kept p a q is) = untold _ e.open_
+  commit_told t _ s u e c (fact_is_stale {k = k} i q is x) = meets_told t i 0 (λ y. kills k i y) s u e is (kills_stay k i) c x
+  commit_told t _ s u e c (fact_is_dead i q is d x) = meets_told t i 0 stays s u e is (λ y. record { out = refl; verdict = refl; history = refl }) c x
+  commit_told t _ s u e c (fact_meets {ks = ks} {fs = fs} i q is d x) = meets_told t i (newly_waiting fs (each (λ k. kills i k) ks s)) (λ y. visits i ks fs y) s u e is (visits_stay i ks fs) c x
 
   -- a draw that finds the book closed, or closes it
   spent_cause : (w : ℕ) (s : State) → Rests m o (closes w (BudgetOut s.counted) s) → Waits s → o.budget ≤ s.counted + s.reserved → HasCauseIfStopped m o (closes w (BudgetOut s.counted) s) (BudgetOut s.counted)
@@ -106,29 +118,42 @@ module _ (m : Meaning) (o : Opening) where
   closed_told w s _ _ t k (all_is_done l a b) = tt
 
   -- the audits of a drained book
-  audit_cause : (drained : State) (all xs : List Missing) (x : Missing) (s u : State) (v : Verdict) → s.verdict ≡ None → WereMissing m o drained all (x ∷ xs) s → Rests m o u → Audits o x.fact s (ClosedBy v) u → HasCauseIfStopped m o u v
-  audit_cause drained all xs x s _ v e a r (is_closed _ f) = two_verdicts s v e f
-  audit_cause drained all xs x s _ _ e a r (is_spent f c) =
+  audited_on : (x : Missing) (xs : List Missing) (s u : State) (n : ℕ) → AreUnaudited m o s (x ∷ xs) → Audits o x.fact s (KeptAs n) u → AreUnaudited m o u xs
+  audited_on x xs s u n a b = record {
+    drained = a.drained;
+    reaches = a.reaches;
+    is_drained = a.is_drained;
+    done = a.done ++ x ∷ [];
+    is_final = subst (λ (ms : List Missing). IsFinal m o.axioms a.drained (Lacks ms)) (sym (append_assoc a.done (x ∷ []) xs)) a.is_final;
+    audited = audits_more o a.done x a.drained s u n a.audited b;
+  }
+
+  audit_cause : (xs : List Missing) (x : Missing) (s u : State) (v : Verdict) → s.verdict ≡ None → AreUnaudited m o s (x ∷ xs) → Rests m o u → Audits o x.fact s (ClosedBy v) u → HasCauseIfStopped m o u v
+  audit_cause xs x s _ v e a r (is_closed _ f) = two_verdicts s v e f
+  audit_cause xs x s _ _ e a r (is_spent f c) =
       let u : State = closes 0 (BudgetOut s.counted) s in
       let kept = kept_reaches m o u r.reaches in
-      is_spent_all c (counts_units o u kept).counted (ends_pairs_once o u kept) r.none_out (waits_for_audit {before = s} x (may_audit m o drained all xs x s a) refl)
+      is_spent_all c (counts_units o u kept).counted (ends_pairs_once o u kept) r.none_out (waits_for_audit {before = s} {rest = xs} x a refl)
 
-  audits_told : (drained : State) (all xs : List Missing) (s : State) (v : Verdict) (u : State) → s.verdict ≡ None → WereMissing m o drained all xs s → Rests m o u → AuditsAll o xs s (Some v) u → HasCauseIfStopped m o u v
-  audits_told drained all _ s v t e a r (one_is_kept {x = x} {xs = xs} {u = u} {n = n} b rest) = audits_told drained all xs u v t (audit_leaves o x s u (KeptAs n) b) (missing_on m o drained all xs x s u (KeptAs n) a b) r rest
-  audits_told drained all _ s v _ e a r (book_is_closed {x = x} {xs = xs} {u = u} b) = audit_cause drained all xs x s u v e a r b
+  audits_told : (xs : List Missing) (s : State) (v : Verdict) (u : State) → s.verdict ≡ None → AreUnaudited m o s xs → Rests m o u → AuditsAll o xs s (Some v) u → HasCauseIfStopped m o u v
+  audits_told _ s v t e a r (one_is_kept {x = x} {xs = xs} {u = u} {n = n} b rest) = audits_told xs u v t (audit_leaves o x s u (KeptAs n) b) (audited_on x xs s u n a b) r rest
+  audits_told _ s v _ e a r (book_is_closed {x = x} {xs = xs} {u = u} b) = audit_cause xs x s u v e a r b
 
   close_told : (drained : State) (outcome : Outcome) (v : Verdict) (u : State) → IsDrained drained → IsFinal m o.axioms drained outcome → Closes drained outcome v u → HasCauseIfStopped m o u v
   close_told d _ _ _ i f converges = tt
   close_told d _ _ _ i f has_large = overlap_is_large i f refl
   close_told d _ _ _ i f has_stuck = goal_is_stuck i f refl
 
-  end_told : (drained : State) (v : Verdict) (u : State) → IsDrained drained → Rests m o u → EndsRound m o drained (Some v) u → HasCauseIfStopped m o u v
-  end_told d v u i r (is_closed_by {outcome = outcome} f c) = close_told d outcome v u i f c
-  end_told d v u i r (audits_missing {missing = xs} f a) = audits_told d xs xs d v u i.none_unmet.none_due.open_ (missing_first m o d xs i f) r a
+  end_told : (drained : State) (v : Verdict) (u : State) → Rests m o drained → IsDrained drained → Rests m o u → EndsRound m o drained (Some v) u → HasCauseIfStopped m o u v
+  end_told d v u k i r (is_closed_by {outcome = outcome} f c) = close_told d outcome v u i f c
+  end_told d v u k i r (audits_missing {missing = xs} f a) =
+      audits_told xs d v u i.none_unmet.none_due.open_ (record { drained = d; reaches = k.reaches; is_drained = i; done = []; is_final = f; audited = all_are_kept }) r a
 
   module _ (w : ℕ) (few : w < 65) where
     turn_told : (s u : State) → Rests m o s → TakesTurn m o w s u → Told u
-    turn_told s u r t = commit_told t.task t.commits.finding t.drawn u (draws_one m o w s u r.none_out t).open_ t.commits.commits
+    turn_told s u r t =
+        let d = draws_one m o w s u r.none_out t in
+        commit_told t.task t.commits.finding t.drawn u (record { reaches = draws_on w few r.reaches t.draws; at = at_one t.task t.drawn.out d.out; open_ = d.open_ }) t.commits t.commits.commits
 
     works_told : (s u : State) → Rests m o s → Told s → Works m o w s u → Told u
     works_told s _ r t no_turn = t
@@ -136,7 +161,7 @@ module _ (m : Meaning) (o : Opening) where
 
     round_told : (s : State) (v : Verdict) (u : State) → Rests m o s → Told s → Rounds m o w s (Some v) u → HasCauseIfStopped m o u v
     round_told s v u r t (gets_verdict a) = closed_told w a.last (Closed v) u (works_told s a.last r t a.works) (closed_rests m o w few s u v r a) a.draws
-    round_told s v u r t (gets_drained {drained = d} a b) = end_told d v u (leaves o w a.last Drained d a.draws) (round_rests m o w few s (Some v) u r (gets_drained a b)) b
+    round_told s v u r t (gets_drained {drained = d} a b) = end_told d v u (drained_rests m o w few s d r a) (leaves o w a.last Drained d a.draws) (round_rests m o w few s (Some v) u r (gets_drained a b)) b
 
     search_told : (s : State) (v : Verdict) (u : State) → Rests m o s → Told s → Searches m o w s v u → HasCauseIfStopped m o u v
     search_told s v u r t (last_round a) = round_told s v u r t a

@@ -1,5 +1,5 @@
 -- How many commits a history has of a worker, call by call.
-use Rattle.std.proofs.Common.{◌≡◌, ℕ, ◌+◌, ◌-◌, ◌^◌, ◌<◌, List, [], ◌∷◌, ◌++◌, cond, true, false, ◌==◌, ◌&&◌, min, refl, ap, ◌∙◌, arith}
+use Rattle.std.proofs.Common.{◌≡◌, ℕ, ◌+◌, List, [], ◌∷◌, ◌++◌, cond, true, false, ◌==◌, ◌&&◌, refl, ap, ◌∙◌, arith}
 use Rattle.std.proofs.lemmas.Bool.{eq-eqb}
 use Rattle.std.proofs.lemmas.List.Sums.{sum_by_push}
 use Rattle.uc_fact.specs.declared.chain.Chain.{Chain}
@@ -90,7 +90,3 @@ commit_commits o t _ s _ (fact_is_kept p a e is) = one_more s.history (by t.work
 commit_commits o t _ s u (fact_is_stale {k = k} i e is m) = meets_more o t i 0 (λ x. kills k i x) s u (kills_stay k i) m
 commit_commits o t _ s u (fact_is_dead i e is d m) = meets_more o t i 0 stays s u (λ x. record { out = refl; verdict = refl; history = refl }) m
 commit_commits o t _ s u (fact_meets {ks = ks} {fs = fs} i e is d m) = meets_more o t i (newly_waiting fs (each (λ c. kills i c) ks s)) (λ x. visits i ks fs x) s u (visits_stay i ks fs) m
-
--- the count is one more
-pub counts_on : (c n k : ℕ) → c ≡ n → k ≡ n + 1 → k < 2 ^ 64 → min (c + 1) (2 ^ 64 - 1) ≡ k
-counts_on c n k e f l = omega (arith, e, f, l)

@@ -18,9 +18,9 @@ use Rattle.uc_book.specs.Openings.{PassView}
 use Rattle.uc_book.specs.Answers.{IsRight, IsCommitted, IsReclaimed, IsNotOutTo}
 use Rattle.uc_search.specs.declared.working.Turn.TheVariants.{Ends}
 use Rattle.uc_search.specs.declared.working.Ended.TheVariants.{NoMemory as LacksMemory}
-use Rattle.uc_search.specs.Working.{IsDoneFor, task_out, CountsCommits, CommitsResult, EndsTask, is_put_back}
+use Rattle.uc_search.specs.Working.{IsDoneFor, task_out, Counts, CommitsResult, EndsTask, is_put_back}
 use Rattle.uc_search.proofs.Turns.{at_one, only_one, one_reclaims}
-use Rattle.uc_search.proofs.Counting.{commit_commits, reclaim_commits, counts_on}
+use Rattle.uc_search.proofs.Counting.{commit_commits, reclaim_commits}
 
 -- the task that the result was committed for is the one that is out
 pub committed_is : (o : Opening) (w : ℕ) (t : Task) (d : Done) (s u : State) (receipt : Receipt) → s.out ≡ task_out w t ∷ [] → (c : IsCommitted o s w d receipt u) → c.task ≡ task_out w t
@@ -41,12 +41,12 @@ finished m o w t d s u receipt e is axioms right c =
     }
 
 -- the pass counts it
-pub counted : (o : Opening) (w : ℕ) (t : Task) (d : Done) (s u : State) (receipt : Receipt) (old new : PassView) → s.out ≡ task_out w t ∷ [] → w ≡ old.worker → new ≡ record old { commits = min (old.commits + 1) (2 ^ 64 - 1) } → CountsCommits old s → IsCommitted o s w d receipt u
-    → ((v : ℕ) → commits_by v u.history < 2 ^ 64) → CountsCommits new u
-counted o w t d s u receipt old new e same is h c few =
+pub counted : (o : Opening) (w : ℕ) (t : Task) (d : Done) (s u : State) (receipt : Receipt) (old new : PassView) → s.out ≡ task_out w t ∷ [] → w ≡ old.worker → new ≡ record old { commits = min (old.commits + 1) (2 ^ 64 - 1) } → IsCommitted o s w d receipt u
+    → ((v : ℕ) → commits_by v u.history < 2 ^ 64) → Counts old new s u
+counted o w t d s u receipt old new e same is c few =
     let worker : c.task.worker ≡ old.worker = ap (λ (x : Out). x.worker) (committed_is o w t d s u receipt e c) ∙ same in
-    let more : commits_by old.worker u.history ≡ commits_by old.worker s.history + 1 = subst (λ v. commits_by v u.history ≡ commits_by v s.history + 1) worker (commit_commits o c.task d.found s u c.commits) in
-    subst (λ (p : PassView). CountsCommits p u) (sym is) (counts_on old.commits (commits_by old.worker s.history) (commits_by old.worker u.history) h more (few old.worker))
+    let made : commits_by old.worker u.history ≡ commits_by old.worker s.history + 1 = subst (λ v. commits_by v u.history ≡ commits_by v s.history + 1) worker (commit_commits o c.task d.found s u c.commits) in
+    record { more = 1; made = made; counted = ap (λ (p : PassView). p.commits) is; few = few old.worker }
 
 -- the only task that is out is put back
 pub put_back_is : (s u : State) (w ticket : ℕ) (t : Out) → s.out ≡ t ∷ [] → IsReclaimed s w ticket u → u ≡ reclaims t s

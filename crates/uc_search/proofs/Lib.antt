@@ -1,5 +1,6 @@
 pub mod Turns
 pub mod Counting
+pub mod Passes
 pub mod Alone
 pub mod Moved
 pub mod Finishing

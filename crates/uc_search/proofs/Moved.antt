@@ -5,7 +5,6 @@ use Rattle.uc_machine.specs.declared.event.Verdict.{Verdict}
 use Rattle.uc_machine.specs.declared.task.Job.{Job}
 use Rattle.uc_machine.specs.declared.task.Job.TheVariants.{Goal, More, Meet, Join}
 use Rattle.uc_machine.specs.State.{Opening, State, Out}
-use Rattle.uc_machine.specs.Events.{commits_by}
 use Rattle.uc_machine.specs.Origins.{CanCompute}
 use Rattle.uc_machine.specs.Draws.{Draws, Drew}
 use Rattle.uc_machine.specs.declared.task.Missing.{Missing}
@@ -16,7 +15,7 @@ use Rattle.uc_book.specs.declared.answer.Audited.{Audited}
 use Rattle.uc_book.specs.Answers.{IsSameBook, audit_reply_of}
 use Rattle.uc_book.specs.Openings.{Opened, BookView, PassView, opening_of}
 use Rattle.uc_search.specs.declared.working.Turn.{Turn}
-use Rattle.uc_search.specs.Working.{CountsCommits, IsSamePass, EndsTask, is_committed, is_put_back, TurnsTo, takes_turn, lacks_result}
+use Rattle.uc_search.specs.Working.{IsSamePass, EndsTask, is_committed, is_put_back, TurnsTo, takes_turn, lacks_result}
 use Rattle.uc_search.specs.Searching.{Rounds, EndsRound}
 
 pub same_book_on : {O : Type 0} (a b c : BookView O) → IsSameBook a b → IsSameBook b c → IsSameBook a c
@@ -27,10 +26,6 @@ same_pass_on a b c x y = record { worker = y.worker ∙ x.worker; opening = y.op
 
 pub book_state : {O : Type 0} (a b : BookView O) → b ≡ a → b.state ≡ a.state
 book_state a b e = ap (λ (x : BookView _). x.state) e
-
--- a pass that is the same counts the same
-pub count_on : (p q : PassView) (s u : State) → q ≡ p → ((v : ℕ) → commits_by v u.history ≡ commits_by v s.history) → CountsCommits p s → CountsCommits q u
-count_on p q s u e same c = subst (λ (x : PassView). CountsCommits x u) (sym e) (c ∙ sym (same p.worker))
 
 -- what its job names is there
 pub can_be_done : (m : Meaning) (o : Opening) (es : List Entry) (j : Job) → CanCompute m o es j → CanBeDone m o.axioms es j

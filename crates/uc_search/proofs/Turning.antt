@@ -3,7 +3,7 @@ use Rattle.std.proofs.Common.{◌≡◌, ℕ, [], ◌∷◌, ◌++◌, sym, ap, 
 use Rattle.uc_order.specs.Laws.{Meaning}
 use Rattle.uc_machine.specs.declared.event.Verdict.{Verdict}
 use Rattle.uc_machine.specs.State.{Opening, State}
-use Rattle.uc_machine.specs.Draws.{Reply, Drew, Idle, Drained, Closed, Draws}
+use Rattle.uc_machine.specs.Draws.{Drew, Idle, Drained, Closed, Draws}
 use Rattle.uc_book.specs.declared.token.Task.{Task}
 use Rattle.uc_book.specs.declared.answer.Drawn.{Drawn}
 use Rattle.uc_book.specs.declared.answer.Drawn.TheVariants.{Task as DrawnTask, Idle as DrawnIdle, Drained as DrawnDrained, Closed as DrawnClosed}
@@ -12,14 +12,9 @@ use Rattle.uc_book.specs.Answers.{IsSameBook, reply_of}
 use Rattle.uc_search.specs.declared.working.Turn.{Turn}
 use Rattle.uc_search.specs.declared.working.Turn.TheVariants.{Ends}
 use Rattle.uc_search.specs.declared.working.Ended.TheVariants.{Drained as EndsDrained, Closed as EndsClosed, NoMemory}
-use Rattle.uc_search.specs.Working.{CountsCommits, task_out, EndsTask, TurnsTo, is_drained, is_closed, lacks_draw}
+use Rattle.uc_search.specs.Working.{task_out, EndsTask, TurnsTo, is_drained, is_closed, lacks_draw}
 use Rattle.uc_search.proofs.Turns.{leaves}
-use Rattle.uc_search.proofs.Counting.{draw_commits}
-use Rattle.uc_search.proofs.Moved.{count_on, drawn_task}
-
--- the pass counts the commits still
-pub count_drawn : (o : Opening) (w : ℕ) (s : State) (r : Reply) (u : State) (p q : PassView) → q ≡ p → CountsCommits p s → Draws o w s r u → CountsCommits q u
-count_drawn o w s r u p q e c d = count_on p q s u e (draw_commits o w s r u d) c
+use Rattle.uc_search.proofs.Moved.{drawn_task}
 
 drawn_as : (o : Opening) (w : ℕ) (s u : State) (a b : Drawn) → a ≡ b → Draws o w s (reply_of w a) u → Draws o w s (reply_of w b) u
 drawn_as o w s u a b is d = subst (λ (x : Drawn). Draws o w s (reply_of w x) u) is d

@@ -1,5 +1,5 @@
 -- How one worker computes tasks, and how it works alone.
-use Rattle.std.specs.Prelude.{◌≡◌, ℕ, length, take}
+use Rattle.std.specs.Prelude.{◌≡◌, ℕ, ◌+◌, ◌-◌, ◌^◌, ◌<◌, length, min, take}
 use Rattle.uc_order.specs.Laws.{Meaning}
 use Rattle.uc_shelf.specs.Fronts.{IsOf}
 use Rattle.uc_machine.specs.declared.event.Verdict.{Verdict}
@@ -44,6 +44,14 @@ CountsCommits pass s = pass.commits ≡ commits_by pass.worker s.history
 pub record IsSamePass (old new : PassView) : Type 0 where
   pub worker : new.worker ≡ old.worker
   pub opening : new.opening ≡ old.opening
+
+-- The pass counts the commits of its worker by which the history grew, up to the greatest u64. The history has fewer than 2^64 of
+-- them, so a pass that had counted them all still has.
+pub record Counts (old new : PassView) (before after : State) : Type 0 where
+  pub more : ℕ
+  pub made : commits_by old.worker after.history ≡ commits_by old.worker before.history + more
+  pub counted : new.commits ≡ min (old.commits + more) (2 ^ 64 - 1)
+  pub few : commits_by old.worker after.history < 2 ^ 64
 
 -- By this order, in a book with this opening.
 module _ (m : Meaning) (o : Opening) where

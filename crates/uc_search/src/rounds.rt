@@ -7,10 +7,10 @@ ghost use Rattle.uc_machine.specs.Events.{commits_by};
 ghost use Rattle.uc_machine.specs.Finals.{IsFinal};
 ghost use Rattle.uc_machine.specs.Runs.{IsDrained};
 ghost use Rattle.uc_machine.specs.declared.task.Outcome.TheVariants.{Missing as Lacks};
-ghost use Rattle.uc_search.specs.Working.{CountsCommits, IsSamePass};
+ghost use Rattle.uc_search.specs.Working.{Counts, IsSamePass};
 ghost use Rattle.uc_search.specs.Searching.{AuditsAll, EndsRound, Rounds, Searches};
 
-use crate::working::{Ended, work_alone};
+use crate::working::{Ended, has_few_commits, work_alone};
 use std::alloc::{AllocError, Global};
 use std::sync::Wait;
 use uc_book::{Audited, Book, Pass};
@@ -22,7 +22,7 @@ use uc_shelf::Shelf;
 use uc_term::Seq;
 
 /// Works on a book until it has a verdict. Each time that it is drained the final pass is made: what is missing is kept and
-/// the work goes on, or the book is closed.
+/// the work goes on, or the book is closed. No task is out when it returns, whatever it answers.
 pub fn search_alone<R: Wait, O: Order>(
     rt: &R,
     alloc: Global,
@@ -36,15 +36,15 @@ pub fn search_alone<R: Wait, O: Order>(
     requires problem { book.old.opening.problem ≡ problem.now }
     requires shelf { book.old.opening.shelf ≡ shelf.now }
     requires order { book.old.order ≡ order.now }
-    requires count { CountsCommits pass.old book.old.state }
     requires none_out { book.old.state.out ≡ [] }
     ensures searched { IfOk result (λ verdict. Searches (O.meaning book.old.order) (opening_of book.old.opening) pass.old.worker book.old.state verdict book.new.state) }
     ensures verdict { IfOk result (λ verdict. book.new.state.verdict ≡ Some verdict) }
-    ensures none_out { IfOk result (λ _. book.new.state.out ≡ []) }
+    ensures none_out { book.new.state.out ≡ [] }
     ensures book { IsSameBook book.old book.new }
     ensures pass { IsSamePass pass.old pass.new }
-    ensures count { CountsCommits pass.new book.new.state }
+    ensures count { Counts pass.old pass.new book.old.state book.new.state }
 {
+    has_few_commits(book, pass);
     // Each round adds to the history, which no memory holds at so many rounds.
     for _ in 0..u64::MAX {
         if let Some(verdict) = round(rt, alloc, book, shelf, problem, order, pass)? {
@@ -69,14 +69,13 @@ fn round<R: Wait, O: Order>(
     requires problem { book.old.opening.problem ≡ problem.now }
     requires shelf { book.old.opening.shelf ≡ shelf.now }
     requires order { book.old.order ≡ order.now }
-    requires count { CountsCommits pass.old book.old.state }
     requires none_out { book.old.state.out ≡ [] }
     ensures round { IfOk result (λ verdict. Rounds (O.meaning book.old.order) (opening_of book.old.opening) pass.old.worker book.old.state verdict book.new.state) }
     ensures verdict { IfOk result (λ verdict. book.new.state.verdict ≡ verdict) }
-    ensures none_out { IfOk result (λ _. book.new.state.out ≡ []) }
+    ensures none_out { book.new.state.out ≡ [] }
     ensures book { IsSameBook book.old book.new }
     ensures pass { IsSamePass pass.old pass.new }
-    ensures count { CountsCommits pass.new book.new.state }
+    ensures count { Counts pass.old pass.new book.old.state book.new.state }
 {
     match work_alone(rt, alloc, book, shelf, problem, order, pass) {
         Ended::Drained => end_round(rt, alloc, book, shelf, order),

@@ -6,7 +6,7 @@ ghost use Rattle.uc_book.specs.Answers.{IsSameBook};
 ghost use Rattle.uc_machine.specs.Effects.{reclaims};
 ghost use Rattle.uc_machine.specs.Events.{commits_by};
 ghost use Rattle.uc_machine.specs.State.{Out};
-ghost use Rattle.uc_search.specs.Working.{CountsCommits, IsSamePass, IsToCompute, EndsAlone, EndsTask, TurnsTo, task_out, CommitsResult};
+ghost use Rattle.uc_search.specs.Working.{Counts, IsSamePass, IsToCompute, EndsAlone, EndsTask, TurnsTo, task_out, CommitsResult};
 
 use crate::computing::compute;
 use std::alloc::{AllocError, Global};
@@ -51,14 +51,14 @@ pub fn work_alone<R: Wait, O: Order>(
     requires problem { book.old.opening.problem ≡ problem.now }
     requires shelf { book.old.opening.shelf ≡ shelf.now }
     requires order { book.old.order ≡ order.now }
-    requires count { CountsCommits pass.old book.old.state }
     requires none_out { book.old.state.out ≡ [] }
     ensures ended { EndsAlone (O.meaning book.old.order) (opening_of book.old.opening) pass.old.worker book.old.state result book.new.state }
     ensures none_out { book.new.state.out ≡ [] }
     ensures book { IsSameBook book.old book.new }
     ensures pass { IsSamePass pass.old pass.new }
-    ensures count { CountsCommits pass.new book.new.state }
+    ensures count { Counts pass.old pass.new book.old.state book.new.state }
 {
+    has_few_commits(book, pass);
     // Each turn adds to the history, which no memory holds at so many turns.
     for _ in 0..u64::MAX {
         if let Turn::Ends(why) = take_turn(rt, alloc, book, shelf, problem, order, pass) {
@@ -82,14 +82,14 @@ fn take_turn<R: Wait, O: Order>(
     requires problem { book.old.opening.problem ≡ problem.now }
     requires shelf { book.old.opening.shelf ≡ shelf.now }
     requires order { book.old.order ≡ order.now }
-    requires count { CountsCommits pass.old book.old.state }
     requires none_out { book.old.state.out ≡ [] }
     ensures turned { TurnsTo (O.meaning book.old.order) (opening_of book.old.opening) pass.old.worker book.old.state result book.new.state }
     ensures none_out { book.new.state.out ≡ [] }
     ensures book { IsSameBook book.old book.new }
     ensures pass { IsSamePass pass.old pass.new }
-    ensures count { CountsCommits pass.new book.new.state }
+    ensures count { Counts pass.old pass.new book.old.state book.new.state }
 {
+    has_few_commits(book, pass);
     match book.draw(alloc, pass) {
         Ok(Drawn::Task(task)) => end_task(rt, alloc, book, shelf, problem, order, pass, &task),
         Ok(Drawn::Drained) => Turn::Ends(Ended::Drained),
@@ -114,15 +114,15 @@ fn end_task<R: Wait, O: Order>(
     requires problem { book.old.opening.problem ≡ problem.now }
     requires shelf { book.old.opening.shelf ≡ shelf.now }
     requires order { book.old.order ≡ order.now }
-    requires count { CountsCommits pass.old book.old.state }
     requires task { IsToCompute (O.meaning book.old.order) book.old.opening task.now }
     requires out { book.old.state.out ≡ task_out pass.old.worker task.now ∷ [] }
     ensures turned { EndsTask (O.meaning book.old.order) (opening_of book.old.opening) (task_out pass.old.worker task.now) book.old.state result book.new.state }
     ensures none_out { book.new.state.out ≡ [] }
     ensures book { IsSameBook book.old book.new }
     ensures pass { IsSamePass pass.old pass.new }
-    ensures count { CountsCommits pass.new book.new.state }
+    ensures count { Counts pass.old pass.new book.old.state book.new.state }
 {
+    has_few_commits(book, pass);
     match finish(rt, alloc, book, shelf, problem, order, pass, task) {
         Ok(()) => Turn::Worked,
         Err(_) => {
@@ -147,7 +147,6 @@ fn finish<R: Wait, O: Order>(
     requires problem { book.old.opening.problem ≡ problem.now }
     requires shelf { book.old.opening.shelf ≡ shelf.now }
     requires order { book.old.order ≡ order.now }
-    requires count { CountsCommits pass.old book.old.state }
     requires task { IsToCompute (O.meaning book.old.order) book.old.opening task.now }
     requires out { book.old.state.out ≡ task_out pass.old.worker task.now ∷ [] }
     ensures commits { OnOk result (CommitsResult (O.meaning book.old.order) (opening_of book.old.opening) (task_out pass.old.worker task.now) book.old.state book.new.state) }
@@ -155,23 +154,25 @@ fn finish<R: Wait, O: Order>(
     ensures err { OnErr result ((book.new ≡ book.old) × (pass.new ≡ pass.old)) }
     ensures book { IsSameBook book.old book.new }
     ensures pass { IsSamePass pass.old pass.new }
-    ensures count { CountsCommits pass.new book.new.state }
+    ensures count { OnOk result (Counts pass.old pass.new book.old.state book.new.state) }
 {
     let done = compute(alloc, task, shelf, problem, order)?;
     match book.commit(rt, alloc, pass, done) {
         Ok(_) => {
-            has_few_events(book);
+            has_few_commits(book, pass);
             Ok(())
         }
         Err(_) => Err(AllocError),
     }
 }
 
-/// There are fewer commits than a count of them can tell, since the history has a length.
-fn has_few_events<O: Order>(book: &Book<O>)
-    ensures { (w : ℕ) → commits_by w book.now.state.history < 2 ^ 64 }
+/// There are no more commits than a count of them can tell, since the history has a length; and the pass has such a count.
+pub(crate) fn has_few_commits<O: Order>(book: &Book<O>, pass: &Pass)
+    ensures history { (w : ℕ) → commits_by w book.now.state.history < 2 ^ 64 }
+    ensures pass { pass.now.commits < 2 ^ 64 }
 {
     let _events = book.history().len();
+    let _commits = pass.commits();
 }
 
 /// Lets the task that is out wait again.

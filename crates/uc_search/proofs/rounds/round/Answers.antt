@@ -1,7 +1,8 @@
-use Rattle.std.proofs.Common.{◌∙◌}
+use Rattle.std.proofs.Common.{refl, ◌∙◌}
 use Rattle.std.proofs.lemmas.Result.{IfOk-weaker}
 use Rattle.uc_book.specs.Openings.{opening_of}
 use Rattle.uc_search.specs.Searching.{EndsRound, Rounds}
+use Rattle.uc_search.proofs.Passes.{counts_as}
 use Rattle.uc_search.proofs.Moved.{moved_end}
 use Rattle.uc_search.proofs.RoundEnds.{is_drained_alone, drained_round, closed_round}
 use Rattle.uc_search.proofs.rounds.round.Goals as goal
@@ -18,6 +19,11 @@ returns-in-Drained-clause-round g c =
     let u = c.end_round.new.book.state in
     IfOk-weaker c.end_round.result (λ v. EndsRound (g.O.Order.meaning b.order) (opening_of b.opening) b.state v u) (λ v. Rounds (g.O.Order.meaning a.order) (opening_of a.opening) c.args.pass.now.worker a.state v u)
     (λ v e. drained_round (g.O.Order.meaning a.order) (opening_of a.opening) c.args.pass.now.worker a.state c.work_alone.result b.state v u c.in-Drained.is c.work_alone.ensures.ended (moved_end g.O.Order.meaning a b c.work_alone.ensures.book b.state v u e)) c.end_round.ensures.ends
+
+pub returns-in-Drained-clause-count : goal.returns-in-Drained-clause-count
+returns-in-Drained-clause-count g c =
+    let s = c.args.book.now.state in
+    counts_as c.args.pass.now c.work_alone.new.pass c.args.pass.now c.work_alone.new.pass s c.work_alone.new.book.state s c.end_round.new.book.state refl refl (λ v. refl) c.end_round.ensures.commits c.work_alone.ensures.count
 
 pub returns-in-Closed-clause-round : goal.returns-in-Closed-clause-round
 returns-in-Closed-clause-round g c =

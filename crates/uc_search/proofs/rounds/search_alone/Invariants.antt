@@ -3,7 +3,7 @@ use Rattle.uc_book.specs.Openings.{opening_of}
 use Rattle.uc_book.specs.Answers.{IsSameBook}
 use Rattle.uc_machine.specs.declared.event.Verdict.{Verdict}
 use Rattle.uc_machine.specs.State.{State}
-use Rattle.uc_search.specs.Working.{CountsCommits, IsSamePass}
+use Rattle.uc_search.specs.Working.{Counts, IsSamePass}
 use Rattle.uc_search.specs.Searching.{Searches}
 use Rattle.uc_search.proofs.rounds.search_alone.Given as goal
 
@@ -13,5 +13,5 @@ invariant-loop g l = record {
   none_out : l.book.state.out ≡ [];
   book : IsSameBook l.initial.book l.book;
   pass : IsSamePass l.initial.pass l.pass;
-  count : CountsCommits l.pass l.book.state;
+  count : Counts l.initial.pass l.pass l.initial.book.state l.book.state;
 }

@@ -1,11 +1,8 @@
 use Rattle.std.proofs.Common.{refl, sym, ap, ◌∙◌, subst}
-use Rattle.uc_machine.specs.State.{State}
-use Rattle.uc_machine.specs.Events.{commits_by}
 use Rattle.uc_book.specs.Openings.{Opened, opening_of}
 use Rattle.uc_book.specs.Answers.{IsRight}
 use Rattle.uc_search.specs.Working.{task_out}
 use Rattle.uc_search.proofs.Turns.{one_commits}
-use Rattle.uc_search.proofs.Moved.{book_state, count_on}
 use Rattle.uc_search.proofs.Finishing.{finished, counted}
 use Rattle.uc_search.proofs.working.finish.Goals.{in-Ok, in-Err}
 use Rattle.uc_search.proofs.working.finish.Goals as goal
@@ -34,8 +31,6 @@ returns-clause-none_out g c = elim c.match-commit.branch [
 pub returns-clause-count : goal.returns-clause-count
 returns-clause-count g c = elim c.match-commit.branch [
   | in-Ok w ↦
-      counted (opening_of c.args.book.now.opening) c.args.pass.now.worker c.args.task.now c.in_ok-done.done c.args.book.now.state c.commit.new.self.state w.in-Ok.field-0 c.args.pass.now c.commit.new.pass c.requires.out refl w.in-Ok.ensures.pass c.requires.count w.in-Ok.ensures.committed w.has_few_events.ensures
-  | in-Err w ↦
-      let same = book_state c.args.book.now c.commit.new.self w.in-Err.ensures.err.0 in
-      count_on c.args.pass.now c.commit.new.pass c.args.book.now.state c.commit.new.self.state w.in-Err.ensures.err.1 (λ v. ap (λ (s : State). commits_by v s.history) same) c.requires.count
+      rw w.result-is (counted (opening_of c.args.book.now.opening) c.args.pass.now.worker c.args.task.now c.in_ok-done.done c.args.book.now.state c.commit.new.self.state w.in-Ok.field-0 c.args.pass.now c.commit.new.pass c.requires.out refl w.in-Ok.ensures.pass w.in-Ok.ensures.committed w.has_few_commits.ensures.history)
+  | in-Err w ↦ rw w.result-is tt
 ]

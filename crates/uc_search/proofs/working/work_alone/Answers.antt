@@ -2,6 +2,7 @@ use Rattle.std.proofs.Common.{refl, subst}
 use Rattle.uc_book.specs.Openings.{opening_of}
 use Rattle.uc_search.specs.Working.{TurnsTo, no_turn, lacks_memory}
 use Rattle.uc_search.proofs.Alone.{works_on, ends_alone}
+use Rattle.uc_search.proofs.Passes.{counts_nothing, counts_on}
 use Rattle.uc_search.proofs.Moved.{moved_turn, same_book_on, same_pass_on}
 use Rattle.uc_search.proofs.working.work_alone.Goals as goal
 
@@ -11,7 +12,7 @@ loop-init g c = record {
   none_out = c.requires.none_out;
   book = record { opening = refl; order = refl; enrolled = refl };
   pass = record { worker = refl; opening = refl };
-  count = c.requires.count;
+  count = counts_nothing c.args.pass.now c.args.book.now.state c.has_few_commits.ensures.pass c.has_few_commits.ensures.history;
 }
 
 pub loop-preserved : goal.loop-preserved
@@ -25,7 +26,7 @@ loop-preserved g c =
       none_out = c.take_turn.ensures.none_out;
       book = same_book_on a b c.take_turn.new.book c.loop.invariant.book c.take_turn.ensures.book;
       pass = same_pass_on c.args.pass.now c.loop.pass c.take_turn.new.pass c.loop.invariant.pass c.take_turn.ensures.pass;
-      count = c.take_turn.ensures.count;
+      count = counts_on c.args.pass.now c.loop.pass c.take_turn.new.pass a.state b.state c.take_turn.new.book.state c.loop.invariant.pass.worker c.loop.invariant.count c.take_turn.ensures.count;
     }
 
 pub returns-in-Ends-clause-ended : goal.returns-in-Ends-clause-ended
@@ -35,6 +36,10 @@ returns-in-Ends-clause-ended g c =
     let w = c.args.pass.now.worker in
     let t = moved_turn g.O.Order.meaning a b c.loop.invariant.book c.loop.pass.worker w b.state c.take_turn.result c.take_turn.new.book.state c.loop.invariant.pass.worker c.take_turn.ensures.turned in
     ends_alone (g.O.Order.meaning a.order) (opening_of a.opening) w a.state b.state c.take_turn.new.book.state c.in-Ends.why c.loop.invariant.works (subst (λ x. TurnsTo (g.O.Order.meaning a.order) (opening_of a.opening) w b.state x c.take_turn.new.book.state) c.in-Ends.is t)
+
+pub returns-in-Ends-clause-count : goal.returns-in-Ends-clause-count
+returns-in-Ends-clause-count g c =
+    counts_on c.args.pass.now c.loop.pass c.take_turn.new.pass c.args.book.now.state c.loop.book.state c.take_turn.new.book.state c.loop.invariant.pass.worker c.loop.invariant.count c.take_turn.ensures.count
 
 pub returns-clause-ended : goal.returns-clause-ended
 returns-clause-ended g c = lacks_memory c.loop.invariant.works

@@ -1,7 +1,7 @@
 use Rattle.std.proofs.Common.{◌≡◌, []}
 use Rattle.uc_book.specs.Openings.{opening_of}
 use Rattle.uc_book.specs.Answers.{IsSameBook}
-use Rattle.uc_search.specs.Working.{CountsCommits, IsSamePass, Works}
+use Rattle.uc_search.specs.Working.{Counts, IsSamePass, Works}
 use Rattle.uc_search.proofs.working.work_alone.Given as goal
 
 abbrev pub invariant-loop : goal.invariant-loop
@@ -10,5 +10,5 @@ invariant-loop g l = record {
   none_out : l.book.state.out ≡ [];
   book : IsSameBook l.initial.book l.book;
   pass : IsSamePass l.initial.pass l.pass;
-  count : CountsCommits l.pass l.book.state;
+  count : Counts l.initial.pass l.pass l.initial.book.state l.book.state;
 }

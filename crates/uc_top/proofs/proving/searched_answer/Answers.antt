@@ -1,11 +1,14 @@
 use Rattle.std.proofs.Common.{refl}
 use Rattle.uc_book.specs.Openings.{opening_of}
 use Rattle.uc_ordering.specs.Chosen.{chosen_meaning, meaning_is}
+use Rattle.uc_search.proofs.Passes.{counts_all}
 use Rattle.uc_top.proofs.ProvedAnswers.{searched, searched_promises, ended, starts_fresh}
 use Rattle.uc_top.proofs.proving.searched_answer.Goals as goal
 
-pub search_alone-requires-clause-count : goal.search_alone-requires-clause-count
-search_alone-requires-clause-count g c = rw (c.in_ok-pass.ensures.commits, c.in_ok-pass.ensures.book) (starts_fresh (opening_of c.in_ok-book.book.opening) c.in_ok-book.book.state c.in_ok-pass.pass.worker c.in_ok-book.ensures.starts).0
+pub verdict_answer-requires-clause-count : goal.verdict_answer-requires-clause-count
+verdict_answer-requires-clause-count g c =
+    counts_all c.in_ok-pass.pass c.search_alone.new.pass c.enroll.new.self.state c.search_alone.new.book.state c.in_ok-verdict.ensures.pass.worker c.in_ok-verdict.ensures.count
+    (rw (c.in_ok-pass.ensures.commits, c.in_ok-pass.ensures.book) (starts_fresh (opening_of c.in_ok-book.book.opening) c.in_ok-book.book.state c.in_ok-pass.pass.worker c.in_ok-book.ensures.starts).0)
 
 pub search_alone-requires-clause-none_out : goal.search_alone-requires-clause-none_out
 search_alone-requires-clause-none_out g c = rw c.in_ok-pass.ensures.book (starts_fresh (opening_of c.in_ok-book.book.opening) c.in_ok-book.book.state 0 c.in_ok-book.ensures.starts).1
