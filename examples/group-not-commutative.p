@@ -4,6 +4,7 @@
 % greatest; under KBO it needs the inverse with weight 0.
 %
 % Status: Satisfiable
+% Options: --order lpo --precedence i
 
 cnf(left_identity, axiom, m(e,X) = X).
 cnf(left_inverse, axiom, m(i(X),X) = e).

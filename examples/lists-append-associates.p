@@ -4,6 +4,7 @@
 % also hold where there are other things than lists.
 %
 % Status: Satisfiable
+% Options: --precedence cons<append
 
 cnf(append_empty, axiom, append(empty,X) = X).
 cnf(append_more, axiom, append(cons(X,Y),Z) = cons(X,append(Y,Z))).
