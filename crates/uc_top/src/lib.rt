@@ -24,6 +24,8 @@ mod pairs_tests;
 mod program;
 #[cfg(test)]
 mod proof_tests;
+#[cfg(test)]
+mod prove_tests;
 mod proving;
 #[cfg(test)]
 mod rewrite_tests;
