@@ -1,24 +1,18 @@
 use crate::limit_tests::answered;
-use crate::run;
-use crate::tests::{strings, text};
+use crate::tests::text;
 use std::alloc::{AllocError, Global};
 use std::sync::Wait;
 use std::test::Fail;
 use std::thread::Threads;
-use uc_edge::{MemoryLibrary, MemorySink, NoGate, Sink, Written};
-use uc_term::Text;
+use uc_system::{SystemFault, print_system, read_system};
+use uc_term::{Symbols, Text};
 
-// The words, the last of which names the problem; the problem; the status; and what is answered, in pieces.
-type Search = (
-    &'static [&'static str],
-    &'static str,
-    u8,
-    &'static [&'static str],
-);
+// The words, of which the first that ends in `.p` names the problem; the problem; the status; and what is answered, in pieces.
+pub(crate) type Search<'a> = (&'a [&'a str], &'a str, u8, &'a [&'a str]);
 
-const REFLEXIVE: &str = "cnf(g, negated_conjecture, a != a).\n";
+pub(crate) const REFLEXIVE: &str = "cnf(g, negated_conjecture, a != a).\n";
 
-const REFLEXIVE_PROOF: &str = "% SZS status Unsatisfiable for r4.p
+pub(crate) const REFLEXIVE_PROOF: &str = "% SZS status Unsatisfiable for r4.p
 % SZS output start CNFRefutation for r4.p
 cnf(p1, negated_conjecture, a != a, file('r4.p', g)).
 cnf(p2, plain, a = a, inference(chain, [a], [])).
@@ -26,12 +20,12 @@ cnf(p3, plain, $false, inference(refute, [], [p1, p2])).
 % SZS output end CNFRefutation for r4.p
 ";
 
-const TWO_AXIOMS: &str = "cnf(ax1, axiom, f(a) = b).
+pub(crate) const TWO_AXIOMS: &str = "cnf(ax1, axiom, f(a) = b).
 cnf(ax2, axiom, f(b) = a).
 cnf(goal, negated_conjecture, f(f(a)) != a).
 ";
 
-const TWO_AXIOMS_PROOF: &str = "% SZS status Unsatisfiable for r5.p
+pub(crate) const TWO_AXIOMS_PROOF: &str = "% SZS status Unsatisfiable for r5.p
 % SZS output start CNFRefutation for r5.p
 cnf(p1, axiom, f(a) = b, file('r5.p', ax1)).
 cnf(p2, axiom, f(b) = a, file('r5.p', ax2)).
@@ -69,7 +63,7 @@ const NO_BUDGET_TRACE: &str = "% 1 w0 draw goal 0 front 0
 
 const NO_ROOM: &str = "% SZS status ResourceOut for r5.p\n% pairs 0 plus 2 of 1\n";
 
-const LEAST: &str = "cnf(p, axiom, f(X) = X).\n";
+pub(crate) const LEAST: &str = "cnf(p, axiom, f(X) = X).\n";
 
 const LEAST_SYSTEM: &str = "% SZS status Satisfiable for r8.p
 % SZS output start Saturation for r8.p
@@ -114,7 +108,8 @@ cnf(s1, plain, i(i(X1)) = X1).
 % SZS output end Saturation for iv.p
 ";
 
-const SOLVED: &str = "cnf(ax, axiom, f(b) = a).\ncnf(g, negated_conjecture, f(X) != a).\n";
+pub(crate) const SOLVED: &str =
+    "cnf(ax, axiom, f(b) = a).\ncnf(g, negated_conjecture, f(X) != a).\n";
 
 const SOLVED_PROOF: &str = "% SZS status Unsatisfiable for ra.p
 % SZS output start CNFRefutation for ra.p
@@ -152,7 +147,7 @@ cnf(s4, plain, eq(c,a) = false).
 % SZS output end Saturation for rb.p
 ";
 
-const ASSOCIATIVE: &str =
+pub(crate) const ASSOCIATIVE: &str =
     "cnf(as, axiom, m(m(X,Y),Z) = m(X,m(Y,Z))).\ncnf(g, negated_conjecture, m(a,b) != c).\n";
 
 const ASSOCIATIVE_SYSTEM: &str = "% SZS status Satisfiable for as.p
@@ -183,7 +178,7 @@ const ASSOCIATIVE_TRACE: &str = "% 1 w0 draw goal 0 front 0
 ";
 
 // The first axiom has two pairs with itself, and the second one still waits when they come.
-const CROWDED: &str = "cnf(h, axiom, f(X) = g(Y)).\ncnf(k, axiom, h(h(h(a))) = a).\n";
+pub(crate) const CROWDED: &str = "cnf(h, axiom, f(X) = g(Y)).\ncnf(k, axiom, h(h(h(a))) = a).\n";
 
 const CROWDED_OUT: &str = "% SZS status ResourceOut for w.p
 % pairs 1 plus 2 of 2
@@ -195,14 +190,14 @@ const CROWDED_OUT: &str = "% SZS status ResourceOut for w.p
 % share w0 2
 ";
 
-const GROUP: &str = "cnf(left_identity, axiom, m(e,X) = X).
+pub(crate) const GROUP: &str = "cnf(left_identity, axiom, m(e,X) = X).
 cnf(left_inverse, axiom, m(i(X),X) = e).
 cnf(associativity, axiom, m(m(X,Y),Z) = m(X,m(Y,Z))).
 cnf(goal, negated_conjecture, m(a,b) != m(b,a)).
 ";
 
 // Problems that are proved, saturated or given up.
-const SEARCHES: &[Search] = &[
+const SEARCHES: &[Search<'static>] = &[
     (&["prove", "r4.p"], REFLEXIVE, 0, &[REFLEXIVE_PROOF]),
     (&["prove", "r5.p"], TWO_AXIOMS, 0, &[TWO_AXIOMS_PROOF]),
     (
@@ -284,7 +279,7 @@ const SEARCHES: &[Search] = &[
 ];
 
 // Words of which some have no reading, and what is answered.
-const WORDS: &[Search] = &[
+const WORDS: &[Search<'static>] = &[
     (&["prove", "--", "r4.p"], REFLEXIVE, 0, &[REFLEXIVE_PROOF]),
     (
         &[
@@ -365,10 +360,10 @@ const WORDS: &[Search] = &[
     ),
 ];
 
-const USAGE: &[&str] = &["usage: uc COMMAND [--option VALUE].. [WORD]..\n"];
+pub(crate) const USAGE: &[&str] = &["usage: uc COMMAND [--option VALUE].. [WORD]..\n"];
 
 // Problems that are refused: each before the order is looked at.
-const REFUSALS: &[Search] = &[
+const REFUSALS: &[Search<'static>] = &[
     (
         &["prove", "--precedence", "zz", "r13.p"],
         "cnf(c1, axiom, p(a) | q(b)).",
@@ -421,6 +416,12 @@ const REFUSALS: &[Search] = &[
         &[INPUT_ERROR, "% r13.p:1:1 Absent no.ax\n"],
     ),
     (
+        &["prove", "none"],
+        "",
+        3,
+        &["% SZS status InputError for none\n% none Absent\n"],
+    ),
+    (
         &["prove", "r13.p"],
         "include('bad.ax').",
         3,
@@ -442,17 +443,26 @@ fn files_of(alloc: Global, files: &[(&str, &str)]) -> Result<Vec<(Text, Text)>, 
     Ok(all)
 }
 
-// The problem in the file of the last word, and two files that it may include.
-fn files_for(
+// The first word that ends like the names of problems here.
+fn name_in<'a>(words: &[&'a str]) -> &'a str {
+    for word in words {
+        if word.ends_with(".p") {
+            return word;
+        }
+    }
+    ""
+}
+
+// The problem in the file that is named among the words, and two files that it may include.
+pub(crate) fn files_for(
     alloc: Global,
     words: &[&str],
     problem: &str,
 ) -> Result<Vec<(Text, Text)>, AllocError> {
-    let name = words.last().copied().unwrap_or("");
     files_of(
         alloc,
         &[
-            (name, problem),
+            (name_in(words), problem),
             ("inc.ax", "cnf(k1, axiom, a = b).\ncnf(k2, axiom, b = c).\n"),
             ("bad.ax", "cnf(k1, axiom, a = b)\n"),
         ],
@@ -472,7 +482,7 @@ fn is_made_of(bytes: &[u8], pieces: &[&str]) -> bool {
 }
 
 // Whether the search is answered so.
-fn is_answered<R: Threads + Wait + Sync>(
+pub(crate) fn is_answered<R: Threads + Wait + Sync>(
     rt: &R,
     alloc: Global,
     search: Search,
@@ -494,6 +504,189 @@ fn searches_are_answered(rt: HostRuntime) -> Result<(), Fail> {
                 search.1
             );
         }
+    }
+    Ok(())
+}
+
+// Words and a problem that they prove.
+const PROVED: &[(&[&str], &str)] = &[
+    (&["prove", "r4.p"], REFLEXIVE),
+    (&["prove", "--trace", "r5.p"], TWO_AXIOMS),
+    (&["prove", "ra.p"], SOLVED),
+    (&["prove", "swap.p"], SWAP),
+    (&["prove", "free.p"], FREE),
+    (
+        &["prove", "--order", "lpo", "--precedence", "i", "inverse.p"],
+        RIGHT_INVERSE,
+    ),
+];
+
+pub(crate) const SWAP: &str =
+    "cnf(c, axiom, f(X,Y) = f(Y,X)).\ncnf(g, negated_conjecture, f(a,b) != f(b,a)).\n";
+
+pub(crate) const FREE: &str =
+    "cnf(h, axiom, f(X) = g(Y)).\ncnf(g, negated_conjecture, g(a) != g(b)).\n";
+
+const RIGHT_INVERSE: &str = "cnf(left_identity, axiom, m(e,X) = X).
+cnf(left_inverse, axiom, m(i(X),X) = e).
+cnf(associativity, axiom, m(m(X,Y),Z) = m(X,m(Y,Z))).
+cnf(right_inverse, negated_conjecture, m(a,i(a)) != e).
+";
+
+// What the words are answered for the problem.
+fn text_of<R: Threads + Wait + Sync>(
+    rt: &R,
+    alloc: Global,
+    words: &[&str],
+    problem: &str,
+) -> Result<Text, AllocError> {
+    let files = files_for(alloc, words, problem)?;
+    let (_, sink) = answered(rt, alloc, words, files)?;
+    Text::from_bytes(alloc, sink.bytes())
+}
+
+// The problem, and the proof in a file of its own.
+fn files_with(
+    alloc: Global,
+    name: &str,
+    problem: &str,
+    proof: &str,
+) -> Result<Vec<(Text, Text)>, AllocError> {
+    files_of(alloc, &[(name, problem), ("proof", proof)])
+}
+
+// Whether `check` accepts the proof.
+fn is_checked<R: Threads + Wait + Sync>(
+    rt: &R,
+    alloc: Global,
+    name: &str,
+    problem: &str,
+    proof: &Text,
+) -> Result<bool, AllocError> {
+    let Ok(proof) = str::from_utf8(proof.as_bytes()) else {
+        return Ok(false);
+    };
+    let files = files_with(alloc, name, problem, proof)?;
+    let (status, sink) = answered(rt, alloc, &["check", name, "proof"], files)?;
+    Ok(status == 0 && sink.bytes() == b"accepted\n".as_slice())
+}
+
+// Whether what the words are answered has a proof of the problem that `check` accepts.
+fn is_accepted<R: Threads + Wait + Sync>(
+    rt: &R,
+    alloc: Global,
+    words: &[&str],
+    problem: &str,
+) -> Result<bool, AllocError> {
+    let proof = text_of(rt, alloc, words, problem)?;
+    is_checked(rt, alloc, name_in(words), problem, &proof)
+}
+
+#[test]
+fn proofs_are_accepted(rt: HostRuntime) -> Result<(), Fail> {
+    for (words, problem) in PROVED {
+        assert!(rt; is_accepted(&rt, rt.alloc(), words, problem)?, "{words:?}");
+    }
+    Ok(())
+}
+
+const GROUP_WORDS: &[&str] = &["prove", "--order", "lpo", "--precedence", "i", "grp.p"];
+
+const GROUP_HEAD: &str = "% SZS status Satisfiable for grp.p
+% SZS output start Saturation for grp.p
+% system 1
+% order lpo
+% symbol e 0
+% symbol a 0
+% symbol b 0
+% symbol m 2
+% symbol i 1
+";
+
+const GROUP_END: &str = "% SZS output end Saturation for grp.p\n";
+
+// The ten rules that complete the axioms of a group.
+const GROUP_RULES: [&str; 10] = [
+    ", plain, m(e,X1) = X1).\n",
+    ", plain, m(X1,e) = X1).\n",
+    ", plain, m(i(X1),X1) = e).\n",
+    ", plain, m(X1,i(X1)) = e).\n",
+    ", plain, m(i(X1),m(X1,X2)) = X2).\n",
+    ", plain, m(X1,m(i(X1),X2)) = X2).\n",
+    ", plain, m(m(X1,X2),X3) = m(X1,m(X2,X3))).\n",
+    ", plain, i(m(X1,X2)) = m(i(X2),i(X1))).\n",
+    ", plain, i(i(X1)) = X1).\n",
+    ", plain, i(e) = e).\n",
+];
+
+// The lines between these two texts, up to the line `% end`.
+fn facts_in<'a>(text: &'a str, front: &str, back: &str) -> Option<&'a str> {
+    let (facts, end) = text.strip_prefix(front)?.split_once("% end\n")?;
+    if end == back { Some(facts) } else { None }
+}
+
+// Whether it is a system of these ten rules, in whatever order.
+fn is_group_completed(text: &str) -> bool {
+    let Some(facts) = facts_in(text, GROUP_HEAD, GROUP_END) else {
+        return false;
+    };
+    facts.split('\n').count() == 11
+        && GROUP_RULES
+            .iter()
+            .all(|rule| facts.split_once(*rule).is_some())
+}
+
+#[test]
+fn groups_are_completed(rt: HostRuntime) -> Result<(), Fail> {
+    let text = text_of(&rt, rt.alloc(), GROUP_WORDS, GROUP)?;
+    let is_completed = str::from_utf8(text.as_bytes()).is_ok_and(is_group_completed);
+    assert!(rt; is_completed);
+    Ok(())
+}
+
+// Words and a problem that they saturate.
+const SATURATED: &[(&[&str], &str)] = &[
+    (&["prove", "r8.p"], LEAST),
+    (&["prove", "e.p"], ""),
+    (&["prove", "--weights", "i=0", "iv.p"], LIGHT),
+    (&["prove", "rb.p"], UNSOLVED),
+    (&["prove", "--trace", "--order=lpo", "as.p"], ASSOCIATIVE),
+];
+
+// What stands between the lines that enclose a system.
+fn system_in(text: &str) -> Option<&str> {
+    let (_, behind) = text.split_once("% SZS output start Saturation for ")?;
+    let (_, lines) = behind.split_once("\n")?;
+    let (system, _) = lines.split_once("% SZS output end Saturation for ")?;
+    Some(system)
+}
+
+// The text of the system that the text says.
+fn again(alloc: Global, bytes: &[u8]) -> Result<Text, SystemFault> {
+    if bytes.len() > 1_000_000 {
+        return Err(SystemFault::NoMemory);
+    }
+    let mut symbols = Symbols::new(alloc);
+    let read = read_system(alloc, bytes, &mut symbols)?;
+    Ok(print_system(alloc, &read.spec, &read.system, &symbols)?)
+}
+
+// Whether the answer has a system, which is read and printed again as it was.
+fn has_system(alloc: Global, answer: &[u8]) -> bool {
+    let Ok(text) = str::from_utf8(answer) else {
+        return false;
+    };
+    let Some(system) = system_in(text) else {
+        return false;
+    };
+    again(alloc, system.as_bytes()).is_ok_and(|printed| printed.as_bytes() == system.as_bytes())
+}
+
+#[test]
+fn systems_are_read_again(rt: HostRuntime) -> Result<(), Fail> {
+    for (words, problem) in SATURATED {
+        let answer = text_of(&rt, rt.alloc(), words, problem)?;
+        assert!(rt; has_system(rt.alloc(), answer.as_bytes()), "{words:?}");
     }
     Ok(())
 }
