@@ -291,11 +291,11 @@ fn questions_are_answered(rt: HostRuntime) -> Result<(), Fail> {
 
 #[test]
 fn words_are_no_questions(rt: HostRuntime) -> Result<(), Fail> {
-    let alloc = rt.alloc();
     for (question, fault) in QUESTIONS {
+        let words = ["decide", "r5.p", question];
         let pieces = ["% word 0:1:", fault];
-        let search = (&["decide", "r5.p", question], TWO_AXIOMS, 3, &pieces);
-        assert!(rt; is_answered(&rt, alloc, search)?, "{question}");
+        let search = (words.as_slice(), TWO_AXIOMS, 3, pieces.as_slice());
+        assert!(rt; is_answered(&rt, rt.alloc(), search)?, "{question}");
     }
     Ok(())
 }
