@@ -173,13 +173,14 @@ impl Sink for Drip {
     ghost faults = { λ d. d.faults };
 
     fn write(&mut self, piece: &[u8]) -> Written {
-        let (front, _) = piece.split_at(piece.len().min(self.most.max(1)));
+        let taken = piece.len().min(self.most.max(1));
+        let (front, _) = piece.split_at(taken);
         if self.calls == 0 || self.bytes.extend_from_slice(front).is_err() {
             self.faults = self.faults.saturating_add(1);
             return Written::Failed;
         }
         self.calls -= 1;
-        Written::Taken(front.len())
+        Written::Taken(taken)
     }
 }
 
