@@ -130,13 +130,29 @@ fn first_lines(text: &str, lines: u32) -> &[u8] {
     let mut left = lines;
     for (at, byte) in bytes.iter().enumerate() {
         if left == 0 {
-            return &bytes[..at];
+            return bytes.get(..at).unwrap_or(bytes);
         }
         if *byte == b'\n' {
-            left -= 1;
+            left = left.saturating_sub(1);
         }
     }
     bytes
+}
+
+// Whether so many lines are written to a sink that fails at the next write.
+fn is_cut<R: Threads + Wait + Sync>(
+    rt: &R,
+    alloc: Global,
+    lines: u32,
+    status: u8,
+) -> Result<bool, AllocError> {
+    let failure = Failure {
+        writes: &[lines.saturating_add(1)],
+        status,
+        written: first_lines(TWO_AXIOMS_PROOF, lines),
+        ..NO_FAILURE
+    };
+    is_told(rt, alloc, &failure)
 }
 
 #[test]
@@ -144,23 +160,20 @@ fn failures_of_proofs_are_told(rt: HostRuntime) -> Result<(), Fail> {
     for failure in FAILURES {
         assert!(rt; is_told(&rt, rt.alloc(), failure)?, "{:?}", failure.words);
     }
-    for write in 1..12u32 {
-        let failure = Failure {
-            writes: &[write],
-            status: if write < 11 { 6 } else { 0 },
-            written: first_lines(TWO_AXIOMS_PROOF, write - 1),
-            ..NO_FAILURE
-        };
-        assert!(rt; is_told(&rt, rt.alloc(), &failure)?, "{write}");
+    for lines in 0..10u32 {
+        assert!(rt; is_cut(&rt, rt.alloc(), lines, 6)?, "{lines}");
     }
+    assert!(rt; is_cut(&rt, rt.alloc(), 10, 0)?);
     Ok(())
 }
 
-// A sink that takes at most so many bytes a call, at least one, and fails once no call is left.
+// The bytes that the sink below takes a call.
+const DRIP: usize = 7;
+
+// A sink that takes only so many bytes a call, and fails once no call is left.
 #[derive(Drop)]
 struct Drip {
     bytes: Vec<u8>,
-    most: usize,
     calls: u32,
     faults: u64,
 }
@@ -173,43 +186,36 @@ impl Sink for Drip {
     ghost faults = { λ d. d.faults };
 
     fn write(&mut self, piece: &[u8]) -> Written {
-        let taken = piece.len().min(self.most.max(1));
+        let taken = piece.len().min(DRIP);
         let (front, _) = piece.split_at(taken);
         if self.calls == 0 || self.bytes.extend_from_slice(front).is_err() {
             self.faults = self.faults.saturating_add(1);
             return Written::Failed;
         }
-        self.calls -= 1;
+        self.calls = self.calls.saturating_sub(1);
         Written::Taken(taken)
     }
 }
 
-// How many bytes a sink takes a call, and how many calls; the status; and how many bytes of the answer are written, which has 279,
-// its first line 36.
-const DRIPS: [(usize, u32, u8, usize); 9] = [
-    (1, 0, 6, 0),
-    (1, 35, 6, 35),
-    (1, 36, 6, 36),
-    (1, 37, 6, 37),
-    (7, 5, 6, 35),
-    (7, 6, 6, 36),
-    (7, 7, 6, 43),
-    (7, 1000, 0, 279),
-    (1, 1000, 0, 279),
+// How many calls there are; the status; and how many bytes of the answer are written, which has 279, its first line 36.
+const DRIPS: [(u32, u8, usize); 5] = [
+    (0, 6, 0),
+    (5, 6, 35),
+    (6, 6, 36),
+    (7, 6, 43),
+    (1000, 0, 279),
 ];
 
 // Whether so many bytes are written to such a sink, which is called no more once it failed.
 fn is_dripped<R: Threads + Wait + Sync>(
     rt: &R,
     alloc: Global,
-    most: usize,
     calls: u32,
     wanted: u8,
     length: usize,
 ) -> Result<bool, AllocError> {
     let mut drip = Drip {
         bytes: Vec::new(alloc),
-        most,
         calls,
         faults: 0,
     };
@@ -229,10 +235,10 @@ fn is_dripped<R: Threads + Wait + Sync>(
 
 #[test]
 fn sinks_may_take_little(rt: HostRuntime) -> Result<(), Fail> {
-    for (most, calls, status, length) in DRIPS {
+    for (calls, status, length) in DRIPS {
         assert!(rt;
-            is_dripped(&rt, rt.alloc(), most, calls, status, length)?,
-            "{most} {calls}"
+            is_dripped(&rt, rt.alloc(), calls, status, length)?,
+            "{calls}"
         );
     }
     Ok(())
