@@ -7,6 +7,8 @@ mod checking;
 mod choosing;
 #[cfg(test)]
 mod damage_tests;
+#[cfg(test)]
+mod decide_tests;
 mod deciding;
 mod directing;
 mod laws;
@@ -26,6 +28,10 @@ mod pairs_tests;
 mod program;
 #[cfg(test)]
 mod proof_tests;
+#[cfg(test)]
+mod prove_limit_tests;
+#[cfg(test)]
+mod prove_tests;
 mod proving;
 mod question_word;
 mod replying;
