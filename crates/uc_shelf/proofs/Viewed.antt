@@ -1,9 +1,8 @@
 -- What is found by looking through the entries of a front.
-use Rattle.std.proofs.Common.{◌≡◌, ℕ, zero, suc, ◌==◌, ◌+◌, ◌<◌, ◌≤◌, Bool, true, false, cond, List, [], ◌∷◌, ◌++◌, length, drop, slice_get, Option, Some, None, if◌then◌else◌, MatchOption, refl, sym, ap, ◌∙◌, arith, append_assoc, append-nil, subst, add-one, inl, inr}
-use Rattle.std.specs.Prelude.{◌||◌, not, filter}
+use Rattle.std.proofs.Common.{◌≡◌, ℕ, zero, suc, ◌==◌, ◌+◌, ◌≤◌, Bool, true, false, cond, List, [], ◌∷◌, ◌++◌, length, drop, slice_get, Option, Some, None, if◌then◌else◌, MatchOption, refl, sym, ap, ◌∙◌, arith, append_assoc, append-nil, subst, inl, inr}
+use Rattle.std.specs.Prelude.{not, filter}
 use Rattle.std.proofs.lemmas.Bool.{cases_Bool, eqb-true}
 use Rattle.std.proofs.Math.ListN.{drop_of_length-le}
-use Rattle.uc_term.specs.declared.equation.Equation.{Equation}
 use Rattle.uc_term.specs.declared.equation.Side.{Side}
 use Rattle.uc_term.specs.declared.equation.Side.TheVariants.{Left, Right}
 use Rattle.uc_term.specs.Tree.{Tree}
@@ -15,7 +14,7 @@ use Rattle.uc_fact.specs.Live.{Live, Rule, fact_at, numbered_from, rule_of, rule
 use Rattle.uc_fact.specs.Retrieval.{Generalises, no_rules, is_instance, is_no_instance, IsFound, by_first, by_later, FirstThat, no_rule_left, accepted, not_accepted}
 use Rattle.uc_shelf.specs.declared.entry.Entry.{Entry}
 use Rattle.uc_shelf.specs.declared.entry.Entry.TheVariants.{Born, Dies}
-use Rattle.uc_shelf.specs.Entries.{born, is_dead, equations, living, live}
+use Rattle.uc_shelf.specs.Entries.{born, is_dead, equations, living}
 use Rattle.uc_shelf.specs.Viewing.{Adds, FindsOnly, rule_if_lives}
 use Rattle.std.specs.Prelude.{Result, Ok, Err, OnErr}
 use Rattle.uc_term.specs.Subst.{image}
@@ -30,18 +29,6 @@ drop_at (x ∷ es) (suc k) e h = let s : suc k + 1 ≡ suc (k + 1) = omega arith
 
 pub past_end : (es : List Entry) (k : ℕ) → length es ≤ k → drop k es ≡ []
 past_end es k h = drop_of_length-le es h
-
--- who is dead
-
-pub dead_split : (e : Entry) (es : List Entry) (n : ℕ) → is_dead (e ∷ es) n ≡ (is_dead (e ∷ []) n || is_dead es n)
-dead_split (Born f) es n = refl
-dead_split (Dies f k) es n = elim (cases_Bool (f == n)) as (λ b. ((f == n) || is_dead es n) ≡ (((f == n) || false) || is_dead es n)) [ inl b ↦ rw b refl | inr b ↦ rw b refl ]
-
-pub dead_here : (es : List Entry) (k n : ℕ) (e : Entry) → Some e ≡ slice_get es k → is_dead (e ∷ []) n ≡ true → is_dead (drop k es) n ≡ true
-dead_here es k n e at h = ap (λ z. is_dead z n) (drop_at es k e at) ∙ dead_split e (drop (k + 1) es) n ∙ ap (λ b. b || is_dead (drop (k + 1) es) n) h
-
-pub dead_later : (es : List Entry) (k n : ℕ) (e : Entry) → Some e ≡ slice_get es k → is_dead (e ∷ []) n ≡ false → is_dead (drop k es) n ≡ is_dead (drop (k + 1) es) n
-dead_later es k n e at h = ap (λ z. is_dead z n) (drop_at es k e at) ∙ dead_split e (drop (k + 1) es) n ∙ ap (λ b. b || is_dead (drop (k + 1) es) n) h
 
 -- an entry and those behind it
 
@@ -106,26 +93,6 @@ same_if_alive all i (f ∷ fs) h = elim (cases_Bool (is_dead all f.number)) as (
     | inr q ↦ rw q (same_if_alive all i fs h)
   ])
 ]
-
-at_more : (xs ys : List Live) (i : ℕ) (e : Equation) → fact_at xs i ≡ Some e → fact_at (xs ++ ys) i ≡ Some e
-at_more [] ys i e h = absurd (cc)
-at_more (x ∷ xs) ys i e h = elim (cases_Bool (x.number == i)) as (λ _. fact_at (x ∷ (xs ++ ys)) i ≡ Some e) [
-  | inl b ↦ rw b (rw b at h)
-  | inr b ↦ rw b (at_more xs ys i e (rw b at h))
-]
-
-at_past : (xs ys : List Live) (i : ℕ) → fact_at xs i ≡ None → fact_at (xs ++ ys) i ≡ fact_at ys i
-at_past [] ys i h = refl
-at_past (x ∷ xs) ys i h = elim (cases_Bool (x.number == i)) as (λ _. fact_at (x ∷ (xs ++ ys)) i ≡ fact_at ys i) [
-  | inl b ↦ (let none : Some x.equation ≡ None = rw b at h in absurd (cc))
-  | inr b ↦ rw b (at_past xs ys i (rw b at h))
-]
-
-pub fact_here : (es : List Entry) (k n i : ℕ) (e : Entry) (q : Equation) → Some e ≡ slice_get es k → fact_at (numbered_from n (equations (e ∷ []))) i ≡ Some q → fact_at (numbered_from n (equations (drop k es))) i ≡ Some q
-fact_here es k n i e q at h = ap (λ z. fact_at (numbered_from n (equations z)) i) (drop_at es k e at) ∙ ap (λ z. fact_at z i) (numbered_split n e (drop (k + 1) es)) ∙ at_more (numbered_from n (equations (e ∷ []))) (numbered_from (n + length (born (e ∷ []))) (equations (drop (k + 1) es))) i q h
-
-pub fact_past : (es : List Entry) (k n i : ℕ) (e : Entry) → Some e ≡ slice_get es k → fact_at (numbered_from n (equations (e ∷ []))) i ≡ None → fact_at (numbered_from n (equations (drop k es))) i ≡ fact_at (numbered_from (n + length (born (e ∷ []))) (equations (drop (k + 1) es))) i
-fact_past es k n i e at h = ap (λ z. fact_at (numbered_from n (equations z)) i) (drop_at es k e at) ∙ ap (λ z. fact_at z i) (numbered_split n e (drop (k + 1) es)) ∙ at_past (numbered_from n (equations (e ∷ []))) (numbered_from (n + length (born (e ∷ []))) (equations (drop (k + 1) es))) i h
 
 -- matches
 

@@ -1,5 +1,6 @@
 pub mod Sights
 pub mod Fronts
 pub mod Entries
+pub mod Numbers
 pub mod Viewing
 pub mod Rising

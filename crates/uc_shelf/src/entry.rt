@@ -1,6 +1,7 @@
 //! Entries: what a front is a list of.
 
 ghost use Rattle.std.specs.Prelude.{◌≡◌, ◌↔◌, IsTrue, IfOk};
+ghost use Rattle.uc_shelf.specs.Numbers.{dying};
 
 use crate::same::same_fact;
 use std::alloc::{AllocError, Global};
@@ -25,6 +26,16 @@ impl Entry {
                 fact: *fact,
                 killer: *killer,
             }),
+        }
+    }
+
+    /// The number of the fact that dies by it.
+    pub(crate) fn dies(&self) -> Option<u32>
+        ensures { result ≡ dying self.now }
+    {
+        match self {
+            Entry::Born(_) => None,
+            Entry::Dies { fact, .. } => Some(*fact),
         }
     }
 

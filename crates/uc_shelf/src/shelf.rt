@@ -1,11 +1,15 @@
 //! The shelf, and the fronts that stand on it.
 
 ghost use Rattle.std.specs.Prelude.{◌≡◌, ◌↔◌, ◌+◌, ◌<◌, ◌≤◌, ◌^◌, ◌++◌, ◌∷◌, [], length, slice_get, Some, IsTrue, IfOk, OnOk, OnErr};
+ghost use Rattle.std.specs.Vec.{vec_len, vec_capacity};
 ghost use Rattle.boxcar.specs.Table.{Shows};
+ghost use Rattle.uc_shelf.specs.Entries.{is_dead};
 ghost use Rattle.uc_shelf.specs.Fronts.{IsOf};
+ghost use Rattle.uc_shelf.specs.Numbers.{births_from, Notes};
 
 use crate::Entry;
 use boxcar::Pushed;
+use indexmap::IndexSet;
 use std::alloc::{AllocError, Global};
 use std::marker::Model;
 use std::sync::{Arc, Wait};
@@ -29,16 +33,25 @@ impl Model for Shelf {
 
 /// A list of entries, by their places on a shelf. No other front's entries are changed by what is put on it, and it isn't
 /// changed by what is put on others.
+///
+/// It also keeps where each fact is born and which facts die, so that a fact is found by its number without a look through
+/// the entries. A copy copies all of this, in time and memory that grow with the entries.
 #[derive(Drop)]
 pub struct Front {
+    /// The entries' places.
     places: Vec<Arc<Pushed<Entry>>>,
+    /// For each fact that is born, the number of its entry.
+    births: Vec<u32>,
+    /// The numbers of the facts that die.
+    dead: IndexSet<u32>,
 }
 
 impl Model for Front {
-    ghost use Rattle.std.specs.Prelude.{◌≤◌, ◌^◌, length};
+    ghost use Rattle.std.specs.Prelude.{◌≡◌, ◌≤◌, ◌^◌, length};
     ghost use Rattle.std.specs.Coded.{codes};
     ghost use Rattle.uc_term.specs.Code.{tree_code};
     ghost use Rattle.uc_shelf.specs.Sights.{Sight, entries_at, homes_of};
+    ghost use Rattle.uc_shelf.specs.Numbers.{births_from, AreDead};
 
     ghost Value = { Sight };
 
@@ -46,7 +59,7 @@ impl Model for Front {
 
     ghost view = { λ f. record { entries = entries_at f.places.items; homes = homes_of f.places.items } };
 
-    ghost invariant = { λ f. length f.places.items ≤ 2 ^ 31 };
+    ghost invariant = { λ f. (length f.places.items ≤ 2 ^ 31) × (f.births.items ≡ births_from 0 (entries_at f.places.items)) × AreDead (entries_at f.places.items) f.dead.keys };
 }
 
 impl Shelf {
@@ -72,11 +85,15 @@ impl Shelf {
         ensures err { OnErr result (front.new ≡ front.old) }
         ensures of { IsOf self.now front.new }
     {
+        let number = front.len();
         front.places.reserve(1)?;
+        front.births.reserve(1)?;
+        let dies = entry.dies();
         let Ok(pushed) = self.slots.push_shown(rt, entry) else {
             return Err(AllocError);
         };
         let place = Arc::new(alloc, pushed)?;
+        note(&mut front.births, &mut front.dead, number, dies)?;
         front.places.push_reserved(place);
         Ok(())
     }
@@ -128,6 +145,8 @@ impl Front {
     {
         Front {
             places: Vec::new(alloc),
+            births: Vec::new(alloc),
+            dead: IndexSet::new(alloc),
         }
     }
 
@@ -146,7 +165,21 @@ impl Front {
         self.places.is_empty()
     }
 
-    /// A front of the same entries, at the same places.
+    /// The number of the entry by which the fact of a number is born.
+    pub(crate) fn birth(&self, number: u32) -> Option<u32>
+        ensures { result ≡ slice_get (births_from 0 self.now.entries) number }
+    {
+        self.births.get(number as usize).copied()
+    }
+
+    /// Whether the fact of a number is dead.
+    pub(crate) fn is_dead(&self, number: u32) -> bool
+        ensures { result ≡ is_dead self.now.entries number }
+    {
+        self.dead.contains(&number)
+    }
+
+    /// A front of the same entries, at the same places. It takes time and memory for each entry, though none is copied.
     pub fn copy(&self, alloc: Global) -> Result<Front, AllocError>
         ensures { IfOk result (λ front. front ≡ self.now) }
     {
@@ -155,6 +188,32 @@ impl Front {
         for place in &self.places {
             places.push(Arc::try_clone(place)?)?;
         }
-        Ok(Front { places })
+        Ok(Front {
+            places,
+            births: self.births.clone()?,
+            dead: self.dead.clone()?,
+        })
     }
+}
+
+/// Notes one entry: its own number among the births, which have room for it, or the number of the fact that dies among the
+/// dead. For want of memory both stay.
+fn note(
+    births: &mut Vec<u32>,
+    dead: &mut IndexSet<u32>,
+    number: u32,
+    dies: Option<u32>,
+) -> Result<(), AllocError>
+    requires room { vec_len births.old < vec_capacity births.old }
+    ensures ok { OnOk result (Notes number dies births.old.items dead.old.keys births.new.items dead.new.keys) }
+    ensures err_births { OnErr result (births.new.items ≡ births.old.items) }
+    ensures err_dead { OnErr result (dead.new.keys ≡ dead.old.keys) }
+{
+    match dies {
+        None => births.push_reserved(number),
+        Some(fact) => {
+            dead.insert(fact)?;
+        }
+    }
+    Ok(())
 }

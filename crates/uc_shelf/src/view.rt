@@ -4,7 +4,7 @@ ghost use Rattle.std.specs.Prelude.{◌≡◌, ◌≤◌, ◌∷◌, [], length,
 ghost use Rattle.uc_term.specs.Flat.{tree_of, IsWhole};
 ghost use Rattle.uc_term.specs.Equations.{side_of};
 ghost use Rattle.uc_fact.specs.declared.index.Found.{Found as AnyFound};
-ghost use Rattle.uc_fact.specs.Live.{rules_of, fact_at, numbered_from, equation_of};
+ghost use Rattle.uc_fact.specs.Live.{rules_of, equation_of};
 ghost use Rattle.uc_fact.specs.Retrieval.{IsFound, FirstThat, FindsNothing};
 ghost use Rattle.uc_shelf.specs.Entries.{born, equations, is_dead, living};
 ghost use Rattle.uc_shelf.specs.Fronts.{IsOf};
@@ -87,15 +87,8 @@ impl<'a> Index for View<'a> {
         if self.is_dead(fact) {
             return None;
         }
-        let mut number = 0;
-        for k in 0..self.front.len() {
-            let entry = self.shelf.read(self.front, k);
-            if let Some(sides) = sides_if(entry, number, fact) {
-                return Some(sides);
-            }
-            number += births(entry);
-        }
-        None
+        let k = self.front.birth(fact)?;
+        sides(self.shelf.read(self.front, k))
     }
 
     ghost rising = { live_rise };
@@ -106,12 +99,7 @@ impl<'a> View<'a> {
     fn is_dead(&self, number: u32) -> bool
         ensures { result ≡ is_dead self.now number }
     {
-        for k in 0..self.front.len() {
-            if names(self.shelf.read(self.front, k), number) {
-                return true;
-            }
-        }
-        false
+        self.front.is_dead(number)
     }
 
     /// Puts both sides of a fact that is born here at the end of the list, left before right, as `add_side` does.
@@ -284,30 +272,13 @@ fn births(entry: &Entry) -> u32
     }
 }
 
-/// Whether the entry says that the fact of a number dies.
+/// The sides of the fact that is born in an entry.
 #[inline]
-fn names(entry: &Entry, number: u32) -> bool
-    ensures { result ≡ is_dead (entry.now ∷ []) number }
+fn sides(entry: &Entry) -> Option<(&Term, &Term)>
+    ensures { MatchOption result (equations (entry.now ∷ []) ≡ []) (λ sides. equations (entry.now ∷ []) ≡ record { left = sides.0.now; right = sides.1.now } ∷ []) }
 {
     match entry {
-        Entry::Born(_) => false,
-        Entry::Dies { fact, .. } => *fact == number,
-    }
-}
-
-/// The sides of the fact that is born in an entry under one number, where the other number is the same.
-#[inline]
-fn sides_if(entry: &Entry, number: u32, fact: u32) -> Option<(&Term, &Term)>
-    ensures { MatchOption result (fact_at (numbered_from number (equations (entry.now ∷ []))) fact ≡ None) (λ sides. fact_at (numbered_from number (equations (entry.now ∷ []))) fact ≡ Some (record { left = sides.0.now; right = sides.1.now })) }
-{
-    match entry {
-        Entry::Born(born) => {
-            if number == fact {
-                Some((&born.left, &born.right))
-            } else {
-                None
-            }
-        }
+        Entry::Born(born) => Some((&born.left, &born.right)),
         Entry::Dies { .. } => None,
     }
 }

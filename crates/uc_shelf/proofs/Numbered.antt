@@ -1,0 +1,147 @@
+-- What a front keeps beside its places tells where a fact of a number is born, and whether it is dead.
+use Rattle.std.proofs.Common.{◌≡◌, ℕ, zero, suc, ◌==◌, ◌+◌, ◌<◌, ◌≤◌, ◌^◌, Bool, true, false, List, [], ◌∷◌, ◌++◌, length, slice_get, Option, Some, None, MatchOption, refl, sym, ap, ◌∙◌, arith, append-nil, subst}
+use Rattle.std.specs.Prelude.{◌||◌}
+use Rattle.std.proofs.lemmas.List.{map-append, length-map, length-append}
+use Rattle.std.specs.declared.sync.Arc.{Arc}
+use Rattle.boxcar.specs.Table.{Where}
+use Rattle.uc_term.specs.declared.equation.Equation.{Equation}
+use Rattle.uc_fact.specs.declared.fact.Fact.{Fact}
+use Rattle.uc_fact.specs.Live.{fact_at, numbered_from, equation_of}
+use Rattle.uc_shelf.specs.declared.entry.Entry.{Entry}
+use Rattle.uc_shelf.specs.declared.entry.Entry.TheVariants.{Born, Dies}
+use Rattle.uc_shelf.specs.Entries.{is_dead, equations, live}
+use Rattle.uc_shelf.specs.Numbers.{births_from, is_among, AreDead, dying, Notes}
+use Rattle.uc_shelf.specs.Sights.{entries_at}
+use Rattle.uc_shelf.proofs.Viewed.{same_if_alive}
+
+from_zero : (n : ℕ) → 0 + n ≡ n
+from_zero n = omega arith
+
+-- one entry more
+
+births_more : (k : ℕ) (es : List Entry) (e : Entry) → births_from k (es ++ e ∷ []) ≡ births_from k es ++ births_from (k + length es) (e ∷ [])
+births_more k [] e = ap (λ z. births_from z (e ∷ [])) (let r : k ≡ k + 0 = omega arith in r)
+births_more k (Born f ∷ es) e = ap (λ z. k ∷ z) (births_more (k + 1) es e ∙ ap (λ z. births_from (k + 1) es ++ births_from z (e ∷ [])) (let r : k + 1 + length es ≡ k + suc (length es) = omega arith in r))
+births_more k (Dies f l ∷ es) e = births_more (k + 1) es e ∙ ap (λ z. births_from (k + 1) es ++ births_from z (e ∷ [])) (let r : k + 1 + length es ≡ k + suc (length es) = omega arith in r)
+
+or_nothing : (a : Bool) → a ≡ (a || false)
+or_nothing true = refl
+or_nothing false = refl
+
+or_swapped : (a b c : Bool) → (a || (b || c)) ≡ (b || (a || c))
+or_swapped true true c = refl
+or_swapped true false c = refl
+or_swapped false b c = refl
+
+dead_more : (es : List Entry) (e : Entry) (n : ℕ) → is_dead (es ++ e ∷ []) n ≡ (is_dead (e ∷ []) n || is_dead es n)
+dead_more [] e n = or_nothing (is_dead (e ∷ []) n)
+dead_more (Born f ∷ es) e n = dead_more es e n
+dead_more (Dies f l ∷ es) e n = ap (λ b. (f == n) || b) (dead_more es e n) ∙ or_swapped (f == n) (is_dead (e ∷ []) n) (is_dead es n)
+
+noted_more : (es : List Entry) (e : Entry) (bs ds bs' ds' : List ℕ) → bs ≡ births_from 0 es → AreDead es ds
+    → Notes (length es) (dying e) bs ds bs' ds' → (bs' ≡ births_from 0 (es ++ e ∷ [])) × AreDead (es ++ e ∷ []) ds'
+noted_more es (Born f) bs ds bs' ds' b d h = (
+  h.0 ∙ ap (λ z. z ++ length es ∷ []) b ∙ ap (λ z. births_from 0 es ++ z ∷ []) (sym (from_zero (length es))) ∙ sym (births_more 0 es (Born f)),
+  λ n. dead_more es (Born f) n ∙ d n ∙ ap (λ z. is_among z n) (sym h.1),
+)
+noted_more es (Dies f l) bs ds bs' ds' b d h = (
+  h.0 ∙ b ∙ sym (append-nil (births_from 0 es)) ∙ sym (births_more 0 es (Dies f l)),
+  λ n. dead_more es (Dies f l) n ∙ ap (λ z. z || is_dead es n) (sym (or_nothing (f == n))) ∙ ap (λ z. (f == n) || z) (d n) ∙ sym (h.1 n),
+)
+
+pub still_few : {X : Type 0} (xs : List X) (x : X) → length xs < 2 ^ 31 → length (xs ++ x ∷ []) ≤ 2 ^ 31
+still_few xs x few = let more = length-append xs (x ∷ []) in omega (arith, few, more)
+
+pub noted : {Z : Type 0} (ps : List (Arc (Where Entry) Z)) (p : Arc (Where Entry) Z) (e : Entry) (dies : Option ℕ) (k : ℕ) (bs ds bs' ds' : List ℕ)
+    → p.value.value ≡ e → dies ≡ dying e → k ≡ length ps → bs ≡ births_from 0 (entries_at ps) → AreDead (entries_at ps) ds
+    → Notes k dies bs ds bs' ds' → (bs' ≡ births_from 0 (entries_at (ps ++ p ∷ []))) × AreDead (entries_at (ps ++ p ∷ [])) ds'
+noted {Z = Z} ps p e dies k bs ds bs' ds' is named long b d h =
+    let f : Arc (Where Entry) Z → Entry = λ q. q.value.value in
+    let m : k ≡ length (entries_at ps) = long ∙ sym (length-map ps f) in
+    let at : entries_at (ps ++ p ∷ []) ≡ entries_at ps ++ e ∷ [] = map-append f ps (p ∷ []) ∙ ap (λ z. entries_at ps ++ z ∷ []) is in
+    let more = noted_more (entries_at ps) e bs ds bs' ds' b d (subst (λ z. Notes z (dying e) bs ds bs' ds') m (subst (λ z. Notes k z bs ds bs' ds') named h)) in
+    subst (λ z. (bs' ≡ births_from 0 z) × AreDead z ds') (sym at) more
+
+-- the birth of a fact
+
+record BornAt (k n i : ℕ) (es : List Entry) (j : ℕ) : Type 0 where
+  place : ℕ
+  fact : Fact
+  here : j ≡ k + place
+  is : slice_get es place ≡ Some (Born fact)
+  found : fact_at (numbered_from n (equations es)) (n + i) ≡ Some (equation_of fact)
+
+same_number : (n : ℕ) → (n == n + 0) ≡ true
+same_number n = grind arith
+
+other_number : (n i : ℕ) → (n == n + suc i) ≡ false
+other_number n i = grind arith
+
+born_at : (es : List Entry) (k n i j : ℕ) → slice_get (births_from k es) i ≡ Some j → BornAt k n i es j
+born_at [] k n i j h = absurd (cc)
+born_at (Born f ∷ es) k n zero j h = record {
+  place = 0;
+  fact = f;
+  here = (let same : k ≡ j = cc in omega (arith, same));
+  is = refl;
+  found = rw (same_number n) refl;
+}
+born_at (Born f ∷ es) k n (suc i) j h =
+    let b = born_at es (k + 1) (n + 1) i j h in
+    let r : n + suc i ≡ n + 1 + i = omega arith in
+    record {
+      place = suc b.place;
+      fact = b.fact;
+      here = omega (arith, b.here);
+      is = b.is;
+      found = rw (other_number n i) (rw r b.found);
+    }
+born_at (Dies f l ∷ es) k n i j h =
+    let b = born_at es (k + 1) n i j h in
+    record {
+      place = suc b.place;
+      fact = b.fact;
+      here = omega (arith, b.here);
+      is = b.is;
+      found = b.found;
+    }
+
+not_born : (es : List Entry) (k n i : ℕ) → slice_get (births_from k es) i ≡ None → fact_at (numbered_from n (equations es)) (n + i) ≡ None
+not_born [] k n i h = refl
+not_born (Born f ∷ es) k n zero h = absurd (cc)
+not_born (Born f ∷ es) k n (suc i) h =
+    let r : n + suc i ≡ n + 1 + i = omega arith in
+    rw (other_number n i) (rw r (not_born es (k + 1) (n + 1) i h))
+not_born (Dies f l ∷ es) k n i h = not_born es (k + 1) n i h
+
+get_inside : (es : List Entry) (k : ℕ) (e : Entry) → slice_get es k ≡ Some e → k < length es
+get_inside [] k e h = absurd (cc)
+get_inside (x ∷ es) zero e h = omega arith
+get_inside (x ∷ es) (suc k) e h = let l = get_inside es k e h in omega (arith, l)
+
+-- a birth's entry is one of the front's
+pub birth_inside : (es : List Entry) (i j : ℕ) → Some j ≡ slice_get (births_from 0 es) i → j < length es
+birth_inside es i j h =
+    let b = born_at es 0 0 i j (sym h) in
+    let l = get_inside es b.place (Born b.fact) b.is in
+    omega (arith, l, b.here)
+
+-- a fact that isn't born isn't found
+pub none_if_unborn : (es : List Entry) (i : ℕ) → is_dead es i ≡ false → None ≡ slice_get (births_from 0 es) i → fact_at (live es) i ≡ None
+none_if_unborn es i alive h = same_if_alive es i (numbered_from 0 (equations es)) alive ∙ ap (fact_at (numbered_from 0 (equations es))) (sym (from_zero i)) ∙ not_born es 0 0 i (sym h)
+
+of_born : {S : Type 0} (es : List Entry) (i : ℕ) (f : Fact) (e : Entry) (of : S → Equation) (o : Option S) → e ≡ Born f
+    → fact_at (live es) i ≡ Some (equation_of f) → MatchOption o (equations (e ∷ []) ≡ []) (λ s. equations (e ∷ []) ≡ of s ∷ [])
+    → MatchOption o (fact_at (live es) i ≡ None) (λ s. fact_at (live es) i ≡ Some (of s))
+of_born es i f e of None is found h = (let none : equation_of f ∷ [] ≡ [] = sym (ap (λ z. equations (z ∷ [])) is) ∙ h in absurd (cc))
+of_born es i f e of (Some s) is found h = (let one : equation_of f ∷ [] ≡ of s ∷ [] = sym (ap (λ z. equations (z ∷ [])) is) ∙ h in let same : equation_of f ≡ of s = cc in found ∙ ap (λ z. Some z) same)
+
+-- what is read at a fact's birth are its sides
+pub sides_at_birth : {S : Type 0} (es : List Entry) (i j : ℕ) (e : Entry) (of : S → Equation) (o : Option S) → is_dead es i ≡ false
+    → Some j ≡ slice_get (births_from 0 es) i → Some e ≡ slice_get es j
+    → MatchOption o (equations (e ∷ []) ≡ []) (λ s. equations (e ∷ []) ≡ of s ∷ [])
+    → MatchOption o (fact_at (live es) i ≡ None) (λ s. fact_at (live es) i ≡ Some (of s))
+sides_at_birth es i j e of o alive birth at h =
+    let b = born_at es 0 0 i j (sym birth) in
+    let same : Some e ≡ Some (Born b.fact) = at ∙ ap (slice_get es) (b.here ∙ from_zero b.place) ∙ b.is in
+    of_born es i b.fact e of o (let r : e ≡ Born b.fact = cc in r) (same_if_alive es i (numbered_from 0 (equations es)) alive ∙ ap (fact_at (numbered_from 0 (equations es))) (sym (from_zero i)) ∙ b.found) h
