@@ -37,6 +37,7 @@ use Rattle.uc_problem.specs.Holds.{Holds, Refuses, FailsAt, IsProblem, IsLoadFau
 use Rattle.uc_problem.specs.Marks.{IsMarked, is_too_large}
 use Rattle.uc_problem.specs.declared.fault.EncodeFault.TheVariants.{GoalTooLarge}
 use Rattle.uc_problem.specs.Loading.{held}
+use Rattle.uc_problem.specs.Filling.{WhereTold}
 use Rattle.uc_problem.proofs.Fetches.{no_text}
 use Rattle.uc_problem.proofs.Later.{Grows-refl}
 use Rattle.uc_tstp.specs.declared.fault.ProofFault.{ProofFault}
@@ -48,7 +49,7 @@ use Rattle.uc_top.specs.declared.output.Answer.{Answer}
 use Rattle.uc_top.specs.Lines.{joined, load_line, proof_line}
 use Rattle.std.proofs.lemmas.Option.{slice_get_read}
 use Rattle.uc_top.specs.Answers.{IsBuilt, IsProofFetched, TextAnswers, is_not_read, is_checked, ProofAnswers, is_absent, isnt_fetched, is_found, ProblemAnswers, has_large_goal, is_marked, LoadAnswers, CheckAnswers, fetch_fails, is_refused, is_loaded}
-use Rattle.uc_top.specs.Refusals.{large_line, WhereTold, load_status}
+use Rattle.uc_top.specs.Refusals.{large_line, load_status}
 
 -- A count that rose in a part of a call rose in the call.
 pub rose_before : (first before now : ℕ) → first ≤ before → Rose before now → Rose first now

@@ -13,6 +13,7 @@ use Rattle.uc_problem.specs.declared.problem.Problem.{Problem}
 use Rattle.uc_problem.specs.Loading.{held}
 use Rattle.uc_problem.specs.Holds.{Holds, Refuses, FailsAt}
 use Rattle.uc_problem.specs.Marks.{Marks}
+use Rattle.uc_problem.specs.Filling.{WhereTold, IsFilled}
 use Rattle.uc_tstp.specs.declared.fault.ProofFault.{ProofFault}
 use Rattle.uc_tstp.specs.Framing.{max_proof}
 use Rattle.uc_tstp.specs.declared.fault.ProofFault.TheVariants.{NoMemory}
@@ -27,7 +28,7 @@ use Rattle.uc_words.specs.declared.command.Verb.{Verb}
 use Rattle.uc_words.specs.declared.command.Verb.TheVariants as verb
 use Rattle.uc_words.specs.Reads.{Reads}
 use Rattle.uc_top.specs.Lines.{about_file, load_line, proof_line, checked_line, shown_lines, usage_line}
-use Rattle.uc_top.specs.Refusals.{WhereTold, load_status, large_line}
+use Rattle.uc_top.specs.Refusals.{load_status, large_line}
 use Rattle.uc_top.specs.OrderAnswers.{IsOrdered}
 use Rattle.uc_top.specs.RewriteAnswers.{IsRewritten}
 use Rattle.uc_top.specs.PairsAnswers.{IsPaired}
@@ -117,9 +118,15 @@ module _ (table : Table) where
     abbrev pub PairsAnswers : OrderWords → Option (List ℕ) → List ℕ → ℕ → List ℕ → Type 0
     PairsAnswers order root name = LoadAnswers (IsPaired table order) root name
 
+    -- the answer to `decide` for a problem that is loaded, by the table that loading leaves
+    pub record IsDecidedLoaded (command : Command) (name : List ℕ) (questions : List (List ℕ)) (problem : Problem) (status : ℕ) (answer : List ℕ) : Type 0 where
+      pub loaded : Table
+      pub filled : WhereTold holds (λ files. IsFilled files command.root name [] loaded problem)
+      pub decided : IsDecided table command name questions loaded problem status answer
+
     -- the answer to `decide` for the problem file of this name and these questions, by one worker
     abbrev pub DecideAnswers : Command → List ℕ → List (List ℕ) → ℕ → List ℕ → Type 0
-    DecideAnswers command name questions = LoadAnswers (IsDecided table command name questions) command.root name
+    DecideAnswers command name questions = LoadAnswers (IsDecidedLoaded command name questions) command.root name
 
     -- the answer to the words of a command line; each command that is built has a case
     module _ (words : List (List ℕ)) where

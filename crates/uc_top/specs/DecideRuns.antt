@@ -8,6 +8,7 @@ use Rattle.uc_edge.specs.Files.{Files}
 use Rattle.uc_check.specs.Clauses.{axioms_of}
 use Rattle.uc_problem.specs.declared.problem.Problem.{Problem}
 use Rattle.uc_problem.specs.Holds.{Holds}
+use Rattle.uc_problem.specs.Filling.{IsFilled}
 use Rattle.uc_order.specs.declared.spec.OrderSpec.{OrderSpec}
 use Rattle.uc_order.specs.Laws.{Meaning, IsGroundOf}
 use Rattle.uc_fact.specs.Live.{numbered}
@@ -79,13 +80,14 @@ pub record Decided (table : Table) (command : Command) (name : List ℕ) (words 
   pub are_questions : AreQuestions table problem.signature.symbols words questions
   pub told : IsAnswered table command problem spec questions status answer ⊎ IsOut table command name problem spec status answer
 
--- so it is for the problem of this name that the files have, with its symbols in this table
+-- so it is for the problem of this name that the files have, with its symbols in this table, which loading it leaves
 pub record IsDecidedBy (table : Table) (files : Files) (command : Command) (name : List ℕ) (words : List (List ℕ)) (status : ℕ) (answer : List ℕ) : Type 0 where
   pub problem : Problem
+  pub filled : IsFilled files command.root name [] table problem
   pub holds : Holds table files command.root name problem
   pub decided : Decided table command name words problem status answer
 
--- and with its symbols in some table whose entries are all different
+-- and the entries of that table are all different
 pub record KeepsDecision (files : Files) (command : Command) (name : List ℕ) (words : List (List ℕ)) (status : ℕ) (answer : List ℕ) : Type 0 where
   pub table : Table
   pub distinct : IsDistinct table
@@ -109,11 +111,13 @@ pub data EndAnswers (table : Table) (command : Command) (name : List ℕ) (spec 
   tells_limit : {v : Verdict} {line : List ℕ} → IsLimitLine command s v line → EndAnswers table command name spec questions s v 2 (status_line (codes "ResourceOut") name ++ line)
 
 -- The status and the answer are those of the search by worker 0 alone, for the problem of this name that the files have, the order
--- that the words name for it and the questions that they ask, with the symbols in some table whose entries are all different.
+-- that the words name for it and the questions that they ask, with the symbols in the table that loading it leaves, whose entries are
+-- all different. So there is one such answer.
 pub record IsHeldDecision (files : Files) (command : Command) (name : List ℕ) (words : List (List ℕ)) (status : ℕ) (answer : List ℕ) : Type 0 where
   pub table : Table
   pub distinct : IsDistinct table
   pub problem : Problem
+  pub filled : IsFilled files command.root name [] table problem
   pub holds : Holds table files command.root name problem
   pub spec : OrderSpec
   pub chosen : IsChosen table problem.signature command.order None spec

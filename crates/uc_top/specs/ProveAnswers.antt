@@ -16,6 +16,7 @@ use Rattle.uc_problem.specs.declared.problem.Problem.{Problem}
 use Rattle.uc_problem.specs.declared.problem.Encoded.{Encoded}
 use Rattle.uc_problem.specs.Holds.{Agrees, Holds, Refuses, FailsAt}
 use Rattle.uc_problem.specs.Encodes.{Encodes}
+use Rattle.uc_problem.specs.Filling.{WhereTold, IsFilled, AddsMarks}
 use Rattle.uc_order.specs.declared.spec.OrderSpec.{OrderSpec}
 use Rattle.uc_fact.specs.declared.fact.Fact.{Fact}
 use Rattle.uc_fact.specs.declared.fact.Overlap.{Overlap}
@@ -37,7 +38,7 @@ use Rattle.uc_top.specs.Lines.{about_file, load_line, spaced}
 use Rattle.uc_top.specs.OrderAnswers.{choice_line}
 use Rattle.uc_top.specs.PairsAnswers.{side_letter}
 use Rattle.uc_top.specs.TraceLines.{trace_text}
-use Rattle.uc_top.specs.Refusals.{WhereTold, load_status, large_line}
+use Rattle.uc_top.specs.Refusals.{load_status, large_line}
 
 -- THE STATUS LINES
 
@@ -130,11 +131,12 @@ module _ (table : Table) (command : Command) (name : List ℕ) where
   -- THE PROBLEM
 
   -- A goal is too large to be encoded; or the order is refused; or worker 0 searches alone by the order that the words and the
-  -- defaults name for the encoded problem, and the answer is that for its book's verdict.
-  pub data IsProveAnswer (problem : Problem) : ℕ → List ℕ → Type 0 where
-    has_large_goal : {number : ℕ} {goal : Sourced} → Encodes table problem (Err (GoalTooLarge number)) → slice_get problem.clauses number ≡ Some goal → IsProveAnswer problem 3 (status_line (codes "InputError") name ++ large_line goal)
-    is_unordered : {encoded : Encoded} {why : ChoiceFault} → Encodes table problem (Ok encoded) → IsChoiceFault table problem.signature command.order why → (why ≡ NoMemory → ⊥) → IsProveAnswer problem 4 (choice_line why)
-    is_searched : {encoded : Encoded} {spec : OrderSpec} {v : Verdict} {s : State} {text : List ℕ} → Encodes table problem (Ok encoded) → IsChosen table problem.signature command.order encoded.fresh spec → IsSearched (meaning_of table spec) (opening_for command encoded) 0 v s → VerdictAnswers problem encoded spec s v text → IsProveAnswer problem (verdict_status v) (text ++ trace_if command s)
+  -- defaults name for the encoded problem, and the answer is that for its book's verdict. Encoding makes the table of the one that
+  -- loading left.
+  pub data IsProveAnswer (loaded : Table) (problem : Problem) : ℕ → List ℕ → Type 0 where
+    has_large_goal : {number : ℕ} {goal : Sourced} → Encodes table problem (Err (GoalTooLarge number)) → slice_get problem.clauses number ≡ Some goal → IsProveAnswer loaded problem 3 (status_line (codes "InputError") name ++ large_line goal)
+    is_unordered : {encoded : Encoded} {why : ChoiceFault} → AddsMarks loaded table encoded.fresh → Encodes table problem (Ok encoded) → IsChoiceFault table problem.signature command.order why → (why ≡ NoMemory → ⊥) → IsProveAnswer loaded problem 4 (choice_line why)
+    is_searched : {encoded : Encoded} {spec : OrderSpec} {v : Verdict} {s : State} {text : List ℕ} → AddsMarks loaded table encoded.fresh → Encodes table problem (Ok encoded) → IsChosen table problem.signature command.order encoded.fresh spec → IsSearched (meaning_of table spec) (opening_for command encoded) 0 v s → VerdictAnswers problem encoded spec s v text → IsProveAnswer loaded problem (verdict_status v) (text ++ trace_if command s)
 
   -- The library's files are these, where it tells them, and its count of faults was and is this.
   module _ (holds : Option Files) (before now : ℕ) where
@@ -142,4 +144,4 @@ module _ (table : Table) (command : Command) (name : List ℕ) where
     pub data ProveAnswers : ℕ → List ℕ → Type 0 where
       fetch_fails : (file : List ℕ) → Rose before now → WhereTold holds (λ files. FailsAt table files command.root name file) → ProveAnswers 5 (status_line (codes "InputError") name ++ about_file file (codes "ReadFault"))
       is_refused : (why : LoadFault) → WhereTold holds (λ files. Refuses table files command.root name why) → load_status why ≡ 3 → ProveAnswers 3 (status_line (unloaded_word why) name ++ load_line why)
-      is_loaded : {problem : Problem} {status : ℕ} {answer : List ℕ} → WhereTold holds (λ files. Holds table files command.root name problem) → IsProveAnswer problem status answer → ProveAnswers status answer
+      is_loaded : {loaded : Table} {problem : Problem} {status : ℕ} {answer : List ℕ} → WhereTold holds (λ files. IsFilled files command.root name [] loaded problem) → WhereTold holds (λ files. Holds table files command.root name problem) → IsProveAnswer loaded problem status answer → ProveAnswers status answer

@@ -14,6 +14,7 @@ use Rattle.uc_tstp.specs.Reading.{ReadsProof}
 use Rattle.uc_problem.specs.declared.problem.Problem.{Problem}
 use Rattle.uc_problem.specs.declared.problem.Encoded.{Encoded}
 use Rattle.uc_problem.specs.Holds.{Holds}
+use Rattle.uc_problem.specs.Filling.{IsFilled, AddsMarks}
 use Rattle.uc_problem.specs.Encodes.{Encodes}
 use Rattle.uc_problem.specs.Marks.{Marks}
 use Rattle.uc_order.specs.Members.{In}
@@ -107,17 +108,20 @@ pub record Keeps (table : Table) (command : Command) (name : List ℕ) (problem 
   pub settled : status ≡ 1 → IsSettled table name problem spec answer
   pub stopped : status ≡ 2 → IsStopped table command name problem spec answer
 
--- so it is for the problem of this name that the files have, with its symbols in this table
+-- so it is for the problem of this name that the files have, with its symbols in this table, which grew from the one that loading left
 pub record IsKept (table : Table) (files : Files) (command : Command) (name : List ℕ) (status : ℕ) (answer : List ℕ) : Type 0 where
   pub problem : Problem
   pub holds : Holds table files command.root name problem
   pub keeps : Keeps table command name problem status answer
+  pub loaded : Table
+  pub filled : IsFilled files command.root name [] loaded problem
 
--- and with its symbols in some table whose entries are all different
+-- and by the encoding's symbols, and its entries are all different
 pub record KeepsPromise (files : Files) (command : Command) (name : List ℕ) (status : ℕ) (answer : List ℕ) : Type 0 where
   pub table : Table
   pub distinct : IsDistinct table
   pub is_kept : IsKept table files command name status answer
+  pub adds : AddsMarks is_kept.loaded table is_kept.keeps.fresh
 
 -- So it is where the command is `prove`, with one worker.
 abbrev pub KeepsCommand : Files → Command → ℕ → List ℕ → Type 0
@@ -131,13 +135,17 @@ KeepsWord files words old new result = (command : Command) (name : List ℕ) →
 -- COMPLETENESS
 
 -- The status and the answer are those of the search by worker 0 alone, for the problem of this name that the files have and the
--- order that the words name for it, with the symbols in some table whose entries are all different.
+-- order that the words name for it, with the symbols in the table that loading and encoding it leave, whose entries are all
+-- different. So there is one such answer.
 pub record IsHeldAnswer (files : Files) (command : Command) (name : List ℕ) (status : ℕ) (answer : List ℕ) : Type 0 where
   pub table : Table
   pub distinct : IsDistinct table
+  pub loaded : Table
   pub problem : Problem
+  pub filled : IsFilled files command.root name [] loaded problem
   pub holds : Holds table files command.root name problem
   pub encoded : Encoded
+  pub adds : AddsMarks loaded table encoded.fresh
   pub encodes : Encodes table problem (Ok encoded)
   pub spec : OrderSpec
   pub chosen : IsChosen table problem.signature command.order encoded.fresh spec

@@ -1,6 +1,5 @@
--- What is said of refusals: where they hold, their statuses and places.
+-- What is said of refusals: their statuses and places.
 use Rattle.std.specs.Prelude.{ℕ, List, codes, slice_get, unwrap_or, Option, Some, None}
-use Rattle.uc_edge.specs.Files.{Files}
 use Rattle.uc_clause.specs.declared.token.Place.{Place}
 use Rattle.uc_clause.specs.declared.clause.Clause as read
 use Rattle.uc_clause.specs.declared.clause.Sourced.{Sourced}
@@ -9,11 +8,6 @@ use Rattle.uc_clause.specs.declared.fault.What.TheVariants.{Nodes}
 use Rattle.uc_problem.specs.declared.fault.LoadFault.{LoadFault}
 use Rattle.uc_problem.specs.declared.fault.LoadFault.TheVariants as load
 use Rattle.uc_top.specs.Lines.{located, spaced, what_word}
-
--- this holds of the library's files, where it tells them
-abbrev pub WhereTold : Option Files → (Files → Type 0) → Type 0
-WhereTold None P = Unit {0}
-WhereTold (Some files) P = P files
 
 -- the status of a refusal of loading: a fault of the library, want of memory, or what the files say
 abbrev pub load_status : LoadFault → ℕ

@@ -88,6 +88,7 @@ fn load_and_decide<R: Wait, L: Library>(
     requires budget { command.now.budget ≤ 10000000 }
     requires pairs { command.now.pairs ≤ 8000000 }
     requires short { AreShort words.now }
+    requires empty { symbols.old ≡ [] }
     ensures answers { IfOk result (λ answer. DecideAnswers symbols.new (L.holds library.old) (L.faults library.old) (L.faults library.new) command.now name.now words.now answer.status (joined answer.lines)) }
     ensures promise { IfOk result (λ answer. answer.status ≤ 2 → (files : Files) → L.holds library.old ≡ Some files → IsDecidedBy symbols.new files command.now name.now words.now answer.status (joined answer.lines)) }
     ensures same { L.holds library.new ≡ L.holds library.old }
@@ -122,7 +123,8 @@ fn asked_answer<R: Wait>(
     requires budget { command.now.budget ≤ 10000000 }
     requires pairs { command.now.pairs ≤ 8000000 }
     requires short { AreShort words.now }
-    ensures answers { IfOk result (λ answer. IsDecided symbols.new command.now name.now words.now problem.now answer.status (joined answer.lines)) }
+    ensures answers { IfOk result (λ answer. IsDecided symbols.new command.now name.now words.now symbols.old problem.now answer.status (joined answer.lines)) }
+    ensures kept { IfOk result (λ answer. answer.status ≤ 2 → symbols.new ≡ symbols.old) }
     ensures promise { IfOk result (λ answer. answer.status ≤ 2 → Decided symbols.new command.now name.now words.now problem.now answer.status (joined answer.lines)) }
     ensures grows { Grows symbols.old symbols.new }
 {

@@ -1,10 +1,13 @@
 //! The command `prove`.
 
-ghost use Rattle.std.specs.Prelude.{◌≡◌, ◌≤◌, ◌<◌, length, true, Some, Ok, IfOk};
+ghost use Rattle.std.specs.Prelude.{◌≡◌, ◌≤◌, ◌<◌, [], length, true, Option, Some, Ok, IfOk};
+ghost use Rattle.uc_term.specs.declared.fresh.Fresh.{Fresh};
 ghost use Rattle.uc_term.specs.Table.{Table, Grows, IsDistinct};
 ghost use Rattle.uc_edge.specs.Files.{Files};
 ghost use Rattle.uc_problem.specs.Holds.{Agrees};
 ghost use Rattle.uc_problem.specs.Encodes.{Encodes};
+ghost use Rattle.uc_problem.specs.Filling.{AddsMarks};
+ghost use Rattle.uc_problem.specs.Marks.{Marks};
 ghost use Rattle.uc_ordering.specs.Choice.{IsChosen};
 ghost use Rattle.uc_ordering.specs.Fits.{Fits};
 ghost use Rattle.uc_top.specs.Lines.{joined};
@@ -73,8 +76,9 @@ fn load_and_prove<R: Wait, L: Library>(
     requires name { are_seen name.now ≡ true }
     requires some { 0 < length name.now }
     requires root { IsRootSeen command.now.root }
+    requires empty { symbols.old ≡ [] }
     ensures answers { IfOk result (λ answer. ProveAnswers symbols.new command.now name.now (L.holds library.old) (L.faults library.old) (L.faults library.new) answer.status (joined answer.lines)) }
-    ensures promise { IfOk result (λ answer. answer.status ≤ 2 → (files : Files) → L.holds library.old ≡ Some files → IsKept symbols.new files command.now name.now answer.status (joined answer.lines)) }
+    ensures promise { IfOk result (λ answer. answer.status ≤ 2 → (files : Files) → L.holds library.old ≡ Some files → (kept : IsKept symbols.new files command.now name.now answer.status (joined answer.lines)) × (IsDistinct symbols.new → AddsMarks kept.loaded symbols.new kept.keeps.fresh)) }
     ensures same { L.holds library.new ≡ L.holds library.old }
     ensures later { L.faults library.old ≤ L.faults library.new }
 {
@@ -104,8 +108,9 @@ fn encoded_answer<R: Wait>(
     requires w0_most { command.now.order.w0 ≤ 1000000 }
     requires budget { command.now.budget ≤ 10000000 }
     requires pairs { command.now.pairs ≤ 8000000 }
-    ensures answers { IfOk result (λ answer. IsProveAnswer symbols.new command.now name.now problem.now answer.status (joined answer.lines)) }
+    ensures answers { IfOk result (λ answer. IsProveAnswer symbols.new command.now name.now symbols.old problem.now answer.status (joined answer.lines)) }
     ensures promise { IfOk result (λ answer. answer.status ≤ 2 → CanBePrinted symbols.new name.now problem.now → Keeps symbols.new command.now name.now problem.now answer.status (joined answer.lines)) }
+    ensures adds { IfOk result (λ answer. answer.status ≤ 2 → IsDistinct symbols.new → (fresh : Option Fresh) → Marks symbols.new problem.now (Ok fresh) → AddsMarks symbols.old symbols.new fresh) }
     ensures grows { Grows symbols.old symbols.new }
 {
     match encode(alloc, problem, symbols) {
@@ -134,7 +139,7 @@ fn ordered_answer<R: Wait>(
     requires w0_most { command.now.order.w0 ≤ 1000000 }
     requires budget { command.now.budget ≤ 10000000 }
     requires pairs { command.now.pairs ≤ 8000000 }
-    ensures answers { IfOk result (λ answer. IsProveAnswer symbols.now command.now name.now problem.now answer.status (joined answer.lines)) }
+    ensures answers { (loaded : Table) → AddsMarks loaded symbols.now encoded.now.fresh → IfOk result (λ answer. IsProveAnswer symbols.now command.now name.now loaded problem.now answer.status (joined answer.lines)) }
     ensures promise { IfOk result (λ answer. answer.status ≤ 2 → CanBePrinted symbols.now name.now problem.now → Keeps symbols.now command.now name.now problem.now answer.status (joined answer.lines)) }
 {
     match choose(
@@ -166,7 +171,7 @@ fn searched_answer<R: Wait>(
     requires fits { Fits symbols.now encoded.now.signature.symbols spec.now }
     requires budget { command.now.budget ≤ 10000000 }
     requires pairs { command.now.pairs ≤ 8000000 }
-    ensures answers { IfOk result (λ answer. IsProveAnswer symbols.now command.now name.now problem.now answer.status (joined answer.lines)) }
+    ensures answers { (loaded : Table) → AddsMarks loaded symbols.now encoded.now.fresh → IfOk result (λ answer. IsProveAnswer symbols.now command.now name.now loaded problem.now answer.status (joined answer.lines)) }
     ensures promise { IfOk result (λ answer. answer.status ≤ 2 → CanBePrinted symbols.now name.now problem.now → Keeps symbols.now command.now name.now problem.now answer.status (joined answer.lines)) }
 {
     let order = Chosen::new(alloc, spec, symbols, encoded.signature.symbols.as_slice())?;
