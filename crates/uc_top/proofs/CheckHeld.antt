@@ -83,7 +83,7 @@ module _ (t u : Table) (ρ : Sym → Sym) (moves : (f : Sym) (e : Entry) → sli
       let none : Entry = record { name = []; arity = 0 } in
       slice_get_within u (ρ f).0 _ (moves f (get_or t f.0 none) (slice_get-get_or t f.0 none h))
 
-  arity_there : (f : Sym) → Has t f → arity_of u (ρ f) ≡ arity_of t f
+  pub arity_there : (f : Sym) → Has t f → arity_of u (ρ f) ≡ arity_of t f
   arity_there f h = ap (λ (e : Entry). e.arity) (entry_moved t u ρ moves f h)
 
   mutual
@@ -106,7 +106,7 @@ module _ (t u : Table) (ρ : Sym → Sym) (moves : (f : Sym) (e : Entry) → sli
     sound_there ss h.1,
   )
 
-  named_there : (name : List ℕ) (fs : List Sym) → HasAll t fs → first_named u name (map ρ fs) ≡ option_map ρ (first_named t name fs)
+  pub named_there : (name : List ℕ) (fs : List Sym) → HasAll t fs → first_named u name (map ρ fs) ≡ option_map ρ (first_named t name fs)
   named_there name [] h = refl
   named_there name (f ∷ fs) h = ap (λ n. if bytes_eq n name then Some (ρ f) else first_named u name (map ρ fs)) (name_moved t u ρ moves f (h zero f refl)) ∙ go (bytes_eq (name_of t f) name) (named_there name fs (λ i g k. h (suc i) g k))
     where

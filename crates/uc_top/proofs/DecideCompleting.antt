@@ -1,5 +1,5 @@
 -- How `decide` ends.
-use Rattle.std.proofs.Common.{inl, inr, ℕ, ◌≡◌, List, ◌∷◌, map, slice_get, Option, Some, None, sym, ap, ◌∙◌, subst}
+use Rattle.std.proofs.Common.{inl, inr, ℕ, ◌≡◌, List, [], ◌∷◌, map, slice_get, Option, Some, None, sym, ap, ◌∙◌, subst}
 use Rattle.std.specs.Io.KnownBytes.{Appends}
 use Rattle.uc_term.specs.declared.node.Sym.{Sym}
 use Rattle.uc_term.specs.Tree.{Tree}
@@ -8,6 +8,7 @@ use Rattle.uc_edge.specs.Files.{Files}
 use Rattle.uc_edge.specs.Faults.{Rose}
 use Rattle.uc_problem.specs.declared.problem.Problem.{Problem}
 use Rattle.uc_problem.specs.Holds.{Holds}
+use Rattle.uc_problem.specs.Filling.{IsFilled}
 use Rattle.uc_order.specs.declared.spec.OrderSpec.{OrderSpec}
 use Rattle.uc_order.specs.Members.{Each}
 use Rattle.uc_machine.specs.declared.event.Verdict.TheVariants.{Saturated}
@@ -87,13 +88,14 @@ module _ (own table : Table) (distinct : IsDistinct own) (apart : IsDistinct tab
     isnt_refused_order : {why : ChoiceFault} → (why ≡ choice.NoMemory → ⊥) → IsChoiceFault own loaded.signature command.order why → ⊥
     isnt_refused_order {why} n x = isnt_unordered own table distinct apart files command.root name command.order loaded problem held given spec chosen why n x
 
-    asked_ends : {status result : ℕ} {text : List ℕ} {old new : Option (List ℕ)} (questions : List (Tree × Tree)) → AreQuestions table problem.signature.symbols words questions → IsDecided own command name words loaded status text → Appends old new text → result ≡ status → QuestionsEnd files command name words old new result
-    asked_ends questions q (is_unordered x n) written e = absurd (isnt_refused_order n x)
-    asked_ends questions q (is_no_question {number = number} {why = why} c f n) written e = absurd (not_both number why n (given_asked q) (own_fails number why f))
-    asked_ends questions q (is_answered {spec = own_spec} {questions = asked} {s = s} c p x r) written e = rw e (tells_answer (record {
+    asked_ends : {flat : Table} {status result : ℕ} {text : List ℕ} {old new : Option (List ℕ)} (questions : List (Tree × Tree)) → AreQuestions table problem.signature.symbols words questions → IsFilled files command.root name [] flat loaded → IsDecided own command name words flat loaded status text → Appends old new text → result ≡ status → QuestionsEnd files command name words old new result
+    asked_ends questions q filled (is_unordered x n) written e = absurd (isnt_refused_order n x)
+    asked_ends questions q filled (is_no_question {number = number} {why = why} c f n) written e = absurd (not_both number why n (given_asked q) (own_fails number why f))
+    asked_ends questions q filled (is_answered {spec = own_spec} {questions = asked} {s = s} c p i x r) written e = rw e (tells_answer (record {
       table = own;
       distinct = distinct;
       problem = loaded;
+      filled = subst (λ t. IsFilled files command.root name [] t loaded) (sym i) filled;
       holds = held;
       spec = own_spec;
       chosen = c;
@@ -104,10 +106,11 @@ module _ (own table : Table) (distinct : IsDistinct own) (apart : IsDistinct tab
       searched = x;
       answers = tells_replies r;
     }) written)
-    asked_ends questions q (is_out {spec = own_spec} {questions = asked} {v = v} {s = s} c p x l) written e = rw e (tells_answer (record {
+    asked_ends questions q filled (is_out {spec = own_spec} {questions = asked} {v = v} {s = s} c p i x l) written e = rw e (tells_answer (record {
       table = own;
       distinct = distinct;
       problem = loaded;
+      filled = subst (λ t. IsFilled files command.root name [] t loaded) (sym i) filled;
       holds = held;
       spec = own_spec;
       chosen = c;
@@ -119,21 +122,21 @@ module _ (own table : Table) (distinct : IsDistinct own) (apart : IsDistinct tab
       answers = tells_limit l;
     }) written)
 
-    fault_ends : {status result : ℕ} {text : List ℕ} {old new : Option (List ℕ)} (number : ℕ) (why : WordFault) → IsFirstFault table problem.signature.symbols words number why → (why ≡ NoMemory → ⊥) → IsDecided own command name words loaded status text → Appends old new text → result ≡ status → EndsWith 3 (word_line number why) old new result
+    fault_ends : {flat : Table} {status result : ℕ} {text : List ℕ} {old new : Option (List ℕ)} (number : ℕ) (why : WordFault) → IsFirstFault table problem.signature.symbols words number why → (why ≡ NoMemory → ⊥) → IsDecided own command name words flat loaded status text → Appends old new text → result ≡ status → EndsWith 3 (word_line number why) old new result
     fault_ends number why f some (is_unordered x n) written e = absurd (isnt_refused_order n x)
     fault_ends {old = old} {new = new} number why f some (is_no_question {number = place} {why = own_why} c g n) written e =
         let one = first_fault_once third.table third.distinct known words place number own_why why n some (own_fails place own_why g) (given_fails number why f) in
         rw e (subst (λ (w : WordFault). EndsWith 3 (word_line number w) old new 3) one.1 (subst (λ k. EndsWith 3 (word_line k own_why) old new 3) one.0 (tells_all written)))
-    fault_ends number why f some (is_answered c p x r) written e = absurd (not_both number why some (own_asked p) (given_fails number why f))
-    fault_ends number why f some (is_out c p x l) written e = absurd (not_both number why some (own_asked p) (given_fails number why f))
+    fault_ends number why f some (is_answered c p i x r) written e = absurd (not_both number why some (own_asked p) (given_fails number why f))
+    fault_ends number why f some (is_out c p i x l) written e = absurd (not_both number why some (own_asked p) (given_fails number why f))
 
 module _ (files : Files) (before now : ℕ) (well : Rose before now → ⊥) (command : Command) (name : List ℕ) (words : List (List ℕ)) (table : Table) (apart : IsDistinct table) (problem : Problem) (given : Holds table files command.root name problem) (spec : OrderSpec) (chosen : IsChosen table problem.signature command.order None spec) where
   decide_ends : {own : Table} {status result : ℕ} {text : List ℕ} {old new : Option (List ℕ)} → IsDistinct own → Appends old new text → result ≡ status → DecideAnswers own (Some files) before now command name words status text → DecideEnds table files command name problem words old new result
   decide_ends distinct written e (fetch_fails file rose fails) = absurd (well rose)
   decide_ends {own = own} distinct written e (is_refused why h r) = absurd (isnt_refused own table distinct files command.root name problem given h)
   decide_ends {own = own} distinct written e (is_loaded {problem = loaded} h a) = record {
-    asked = λ questions q. asked_ends own table distinct apart files command name words loaded problem h given spec chosen questions q a written e;
-    no_question = λ number why f some. fault_ends own table distinct apart files command name words loaded problem h given spec chosen number why f some a written e;
+    asked = λ questions q. asked_ends own table distinct apart files command name words loaded problem h given spec chosen questions q a.filled a.decided written e;
+    no_question = λ number why f some. fault_ends own table distinct apart files command name words loaded problem h given spec chosen number why f some a.decided written e;
   }
 
 module _ (files : Files) (before now : ℕ) (well : Rose before now → ⊥) (all : List (List ℕ)) (old new : Option (List ℕ)) where

@@ -205,28 +205,28 @@ module _ (one_search : OneSearch) (table : Table) (distinct : IsDistinct table) 
       answered_or_out : (v : Verdict) (s t : State) (line : List ℕ) → IsSearched (meaning_of table spec) (opening_of_axioms command problem) 0 Saturated s → IsSearched (meaning_of table other) (opening_of_axioms command problem) 0 v t → IsLimitLine command t v line → ⊥
       answered_or_out v s t line x y l = isnt_saturated command t (subst (λ (u : Verdict). IsLimitLine command t u line) (sym (searches Saturated v s t x y).0) l)
 
-    pub decided_once : {s t : ℕ} {a b : List ℕ} → IsDecided table command name words problem s a → IsDecided table command name words problem t b → (s ≡ t) × (a ≡ b)
+    pub decided_once : {loaded later : Table} {s t : ℕ} {a b : List ℕ} → IsDecided table command name words loaded problem s a → IsDecided table command name words later problem t b → (s ≡ t) × (a ≡ b)
     decided_once (is_unordered {why = why} x n) (is_unordered {why = other} y m) = (refl, ap choice_line (refusal_once table problem.signature command.order why other n m x y))
     decided_once (is_unordered {why = why} x n) (is_no_question {spec = spec} c f m) = absurd (chosen_or_refused table problem.signature command.order None spec why n c x)
-    decided_once (is_unordered {why = why} x n) (is_answered {spec = spec} c q y r) = absurd (chosen_or_refused table problem.signature command.order None spec why n c x)
-    decided_once (is_unordered {why = why} x n) (is_out {spec = spec} c q y l) = absurd (chosen_or_refused table problem.signature command.order None spec why n c x)
+    decided_once (is_unordered {why = why} x n) (is_answered {spec = spec} c q j y r) = absurd (chosen_or_refused table problem.signature command.order None spec why n c x)
+    decided_once (is_unordered {why = why} x n) (is_out {spec = spec} c q j y l) = absurd (chosen_or_refused table problem.signature command.order None spec why n c x)
     decided_once (is_no_question {spec = spec} c f m) (is_unordered {why = why} y n) = absurd (chosen_or_refused table problem.signature command.order None spec why n c y)
-    decided_once (is_answered {spec = spec} c q x r) (is_unordered {why = why} y n) = absurd (chosen_or_refused table problem.signature command.order None spec why n c y)
-    decided_once (is_out {spec = spec} c q x l) (is_unordered {why = why} y n) = absurd (chosen_or_refused table problem.signature command.order None spec why n c y)
+    decided_once (is_answered {spec = spec} c q i x r) (is_unordered {why = why} y n) = absurd (chosen_or_refused table problem.signature command.order None spec why n c y)
+    decided_once (is_out {spec = spec} c q i x l) (is_unordered {why = why} y n) = absurd (chosen_or_refused table problem.signature command.order None spec why n c y)
     decided_once (is_no_question {number = number} {why = why} c f m) (is_no_question {number = place} {why = other} k g n) = let one = first_fault_once table distinct problem.signature.symbols words number place why other m n f g in (refl, ap₂ word_line one.0 one.1)
-    decided_once (is_no_question {number = number} {why = why} c f m) (is_answered {questions = questions} k q y r) = absurd (questions_or_fault table distinct problem.signature.symbols words number why questions m q f)
-    decided_once (is_no_question {number = number} {why = why} c f m) (is_out {questions = questions} k q y l) = absurd (questions_or_fault table distinct problem.signature.symbols words number why questions m q f)
-    decided_once (is_answered {questions = questions} c q x r) (is_no_question {number = number} {why = why} k f m) = absurd (questions_or_fault table distinct problem.signature.symbols words number why questions m q f)
-    decided_once (is_out {questions = questions} c q x l) (is_no_question {number = number} {why = why} k f m) = absurd (questions_or_fault table distinct problem.signature.symbols words number why questions m q f)
-    decided_once (is_answered {spec = spec} {questions = questions} {s = s} {replies = replies} c q x r) (is_answered {spec = other} {questions = asked} {s = t} {replies = told} k p y d) =
+    decided_once (is_no_question {number = number} {why = why} c f m) (is_answered {questions = questions} k q j y r) = absurd (questions_or_fault table distinct problem.signature.symbols words number why questions m q f)
+    decided_once (is_no_question {number = number} {why = why} c f m) (is_out {questions = questions} k q j y l) = absurd (questions_or_fault table distinct problem.signature.symbols words number why questions m q f)
+    decided_once (is_answered {questions = questions} c q i x r) (is_no_question {number = number} {why = why} k f m) = absurd (questions_or_fault table distinct problem.signature.symbols words number why questions m q f)
+    decided_once (is_out {questions = questions} c q i x l) (is_no_question {number = number} {why = why} k f m) = absurd (questions_or_fault table distinct problem.signature.symbols words number why questions m q f)
+    decided_once (is_answered {spec = spec} {questions = questions} {s = s} {replies = replies} c q i x r) (is_answered {spec = other} {questions = asked} {s = t} {replies = told} k p j y d) =
         let by_order = subst (λ (o : OrderSpec). AreReplies (meaning_of table o) (facts_of t) command.steps asked told) (orders spec other c k) d in
         let by_state = subst (λ (u : State). AreReplies (meaning_of table spec) (facts_of u) command.steps asked told) (sym (searches spec other c k Saturated Saturated s t x y).1) by_order in
         let by_questions = subst (λ (qs : List (Tree × Tree)). AreReplies (meaning_of table spec) (facts_of s) command.steps qs told) (questions_once table distinct problem.signature.symbols q p) by_state in
         let same : replies ≡ told = replies_once (meaning_of table spec) (facts_of s) command.steps r by_questions in
         (ap replies_status same, ap (reply_lines table) same)
-    decided_once (is_answered {spec = spec} {s = s} c q x r) (is_out {spec = other} {v = v} {s = t} {line = line} k p y l) = absurd (answered_or_out spec other c k v s t line x y l)
-    decided_once (is_out {spec = spec} {v = v} {s = s} {line = line} c q x l) (is_answered {spec = other} {s = t} k p y r) = absurd (answered_or_out other spec k c v t s line y x l)
-    decided_once (is_out {spec = spec} {v = v} {s = s} {line = line} c q x l) (is_out {spec = other} {v = w} {s = t} {line = told} k p y d) =
+    decided_once (is_answered {spec = spec} {s = s} c q i x r) (is_out {spec = other} {v = v} {s = t} {line = line} k p j y l) = absurd (answered_or_out spec other c k v s t line x y l)
+    decided_once (is_out {spec = spec} {v = v} {s = s} {line = line} c q i x l) (is_answered {spec = other} {s = t} k p j y r) = absurd (answered_or_out other spec k c v t s line y x l)
+    decided_once (is_out {spec = spec} {v = v} {s = s} {line = line} c q i x l) (is_out {spec = other} {v = w} {s = t} {line = told} k p j y d) =
         let once = searches spec other c k v w s t x y in
         let by_verdict = subst (λ (u : Verdict). IsLimitLine command t u told) (sym once.0) d in
         let by_state = subst (λ (u : State). IsLimitLine command u v told) (sym once.1) by_verdict in
@@ -242,4 +242,4 @@ module _ (one_search : OneSearch) (table : Table) (distinct : IsDistinct table) 
   decide_answers_once files before now well (is_loaded x p) (is_refused why y e) = absurd (held_or_refused table distinct files command.root name x y)
   decide_answers_once files before now well {t = t} {b = b} (is_loaded {problem = problem} x p) (is_loaded {problem = other} y q) =
       let same : other ≡ problem = problem_is_once table distinct files command.root name other problem y x in
-      decided_once problem x.agrees p (subst (λ (held : Problem). IsDecided table command name words held t b) same q)
+      decided_once problem x.agrees p.decided (subst (λ (held : Problem). IsDecided table command name words q.loaded held t b) same q.decided)

@@ -125,7 +125,7 @@ module _ (t u : Table) (ρ : Sym → Sym) (moves : (f : Sym) (e : Entry) → sli
   node_renamed (Var x) = Var x
   node_renamed (App f n) = App (ρ f) n
 
-  abbrev occurrence_renamed : Occurrence → Occurrence
+  abbrev pub occurrence_renamed : Occurrence → Occurrence
   occurrence_renamed o = record { term = o.term; place = o.place; symbol = ρ o.symbol }
 
   mutual
@@ -150,7 +150,7 @@ module _ (t u : Table) (ρ : Sym → Sym) (moves : (f : Sym) (e : Entry) → sli
   terms_renamed [] = refl
   terms_renamed (c ∷ cs) = ap (λ ts. renamed ρ c.clause.left ∷ renamed ρ c.clause.right ∷ ts) (terms_renamed cs)
 
-  same_renamed : (f : Sym) (fs : List Sym) → list_any (same_symbol f) fs ≡ true → list_any (same_symbol (ρ f)) (map ρ fs) ≡ true
+  pub same_renamed : (f : Sym) (fs : List Sym) → list_any (same_symbol f) fs ≡ true → list_any (same_symbol (ρ f)) (map ρ fs) ≡ true
   same_renamed f [] e = absurd cc
   same_renamed f (g ∷ gs) e = go (same_symbol f g) refl e (same_renamed f gs)
     where
@@ -161,7 +161,7 @@ module _ (t u : Table) (ρ : Sym → Sym) (moves : (f : Sym) (e : Entry) → sli
           ap (λ b. b || list_any (same_symbol (ρ f)) (map ρ gs)) (eq-eqb (ρ f).0 (ρ g).0 moved)
       go false h e later = rw (later e) (or-true (same_symbol (ρ f) (ρ g)))
 
-  first_renamed : (name : List ℕ) (fs : List Sym) → HasAll t fs → first_named t name fs ≡ None → first_named u name (map ρ fs) ≡ None
+  pub first_renamed : (name : List ℕ) (fs : List Sym) → HasAll t fs → first_named t name fs ≡ None → first_named u name (map ρ fs) ≡ None
   first_renamed name [] h e = refl
   first_renamed name (g ∷ gs) h e = go (bytes_eq (name_of t g) name) refl e (first_renamed name gs (λ i f k. h (suc i) f k))
     where
@@ -169,7 +169,7 @@ module _ (t u : Table) (ρ : Sym → Sym) (moves : (f : Sym) (e : Entry) → sli
       go true k e later = absurd cc
       go false k e later = ap (λ b. if b then Some (ρ g) else first_named u name (map ρ gs)) (ap (λ n. bytes_eq n name) (name_moved g (h zero g refl)) ∙ k) ∙ later e
 
-  pushed : (fs : List Sym) (f : Sym) → HasAll t fs → Has t f → HasAll t (fs ++ f ∷ [])
+  pub pushed : (fs : List Sym) (f : Sym) → HasAll t fs → Has t f → HasAll t (fs ++ f ∷ [])
   pushed fs f h k i g e = go (get_pushed fs f i g e)
     where
       go : (slice_get fs i ≡ Some g) ⊎ ((i ≡ length fs) × (g ≡ f)) → Has t g

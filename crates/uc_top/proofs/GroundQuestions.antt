@@ -6,7 +6,11 @@ use Rattle.uc_term.specs.declared.node.Node.{Node}
 use Rattle.uc_term.specs.Tree.{Tree, var, app, Trees, none, more}
 use Rattle.uc_term.specs.Flat.{flat, flat_all}
 use Rattle.uc_term.specs.Over.{AreOver, IsGround, AreGround as AreGroundOver}
-use Rattle.uc_term.specs.Table.{Table, Has, IsOf, arity_of}
+use Rattle.uc_term.specs.Table.{Table, Grows, Has, IsOf, arity_of}
+use Rattle.uc_term.specs.Gathering.{HasAll}
+use Rattle.uc_clause.specs.Interning.{InternsEquation}
+use Rattle.uc_clause.proofs.Kept.{equation_kept}
+use Rattle.uc_kbo.proofs.Tables.{each_in}
 use Rattle.uc_term.specs.Signatures.{same_symbol}
 use Rattle.uc_term.proofs.Finds.{position_none}
 use Rattle.uc_order.specs.Members.{In, Each}
@@ -15,6 +19,7 @@ use Rattle.uc_ordering.specs.Fits.{Fits}
 use Rattle.uc_ordering.specs.Meaning.{meaning_of}
 use Rattle.uc_top.specs.QuestionWords.{is_unfit, IsQuestionWord, AreQuestions, no_question, one_question}
 use Rattle.uc_top.specs.DecideRuns.{AreGround}
+use Rattle.uc_top.proofs.HadSymbols.{each_has}
 use Rattle.uc_top.proofs.OverSignature.{any_in, split_left, split_right}
 use Rattle.uc_top.proofs.SpecSymbols.{order_ground}
 use Rattle.uc_top.proofs.TermWords.{means_of}
@@ -44,7 +49,7 @@ module _ (table : Table) (known : List Sym) where
     fit_all_ground none h n = tt
     fit_all_ground (more t ts) h n = (fit_ground t h.0 (split_left IsFit (flat t) (flat_all ts) n), fit_all_ground ts h.1 (split_right IsFit (flat t) (flat_all ts) n))
 
-  question_ground : (word : List ℕ) (sides : Tree × Tree) → IsQuestionWord table known word sides → IsGround (In known) (arity_of table) sides.0 × IsGround (In known) (arity_of table) sides.1
+  pub question_ground : (word : List ℕ) (sides : Tree × Tree) → IsQuestionWord table known word sides → IsGround (In known) (arity_of table) sides.0 × IsGround (In known) (arity_of table) sides.1
   question_ground word sides q =
       let fit = none_unfit (flat sides.0 ++ flat sides.1) (position_none (is_unfit known) (flat sides.0 ++ flat sides.1) q.is_fit) in (
         fit_ground sides.0 (means_of word q.reads.tokens table q.reads.means.means_left) (split_left IsFit (flat sides.0) (flat sides.1) fit),
@@ -57,3 +62,13 @@ module _ (table : Table) (known : List Sym) where
   questions_ground spec fits (one_question {word = word} {sides = sides} q rest) =
       let p = question_ground word sides q in
       ((order_ground table known spec fits sides.0 p.0, order_ground table known spec fits sides.1 p.1), questions_ground spec fits rest)
+
+-- the symbols of a question are the table's before it is read, where that has those that are known; so reading leaves it
+module _ (old new : Table) (known : List Sym) (grows : Grows old new) (has : HasAll old known) where
+  known_has : (f : Sym) → In known f → Has old f
+  known_has f i = each_in (Has old) known f (each_has old known has) i
+
+  pub question_keeps : (word : List ℕ) (sides : Tree × Tree) → InternsEquation word old new → IsQuestionWord new known word sides → new ≡ old
+  question_keeps word sides i q =
+      let p = question_ground new known word sides q in
+      equation_kept old new grows (In known) known_has (arity_of new) (λ _. ⊥) word sides i q.reads p.0 p.1

@@ -22,6 +22,7 @@ use Rattle.uc_ordering.proofs.Once.{order_once, chosen_or_refused}
 use Rattle.uc_top.specs.Axioms.{AreEquationsOf}
 use Rattle.uc_top.specs.Directions.{Compares, way_word, directed_line, AreDirected, none_left, one_line}
 use Rattle.uc_top.specs.OrderAnswers.{IsOrdered, is_unordered, is_ordered}
+use Rattle.uc_top.proofs.HadSymbols.{each_has}
 use Rattle.uc_top.proofs.Renamed.{renamed, sourced_renamed}
 use Rattle.uc_top.proofs.Merged.{Merged, merged, moved, is_moved, grown_at}
 use Rattle.uc_top.proofs.Everywhere.{unchanged, term_moved}
@@ -30,10 +31,6 @@ use Rattle.uc_top.proofs.OrderedAnswers.{axioms_over}
 use Rattle.uc_top.proofs.MovedOrders.{spec_moved, own_precedence_has, chosen_moved, fault_moved}
 use Rattle.uc_top.proofs.MovedSteps.{equation_moved}
 use Rattle.uc_top.proofs.MovedMeanings.{PrecedenceHas, greater_moved, terms_apart}
-
-each_has : (t : Table) (fs : List Sym) → HasAll t fs → Each (Has t) fs
-each_has t [] h = tt
-each_has t (f ∷ fs) h = (h zero f refl, each_has t fs (λ i g e. h (suc i) g e))
 
 pub axioms_moved : (ρ : Sym → Sym) (ss : List Sourced) → axioms_of (map (sourced_renamed ρ) ss) ≡ map (equation_moved ρ) (axioms_of ss)
 axioms_moved ρ [] = refl

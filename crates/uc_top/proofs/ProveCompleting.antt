@@ -41,18 +41,21 @@ module _ (files : Files) (before now : ℕ) (well : Rose before now → ⊥) (ta
   prove_ends : {own : Table} {status : ℕ} {text : List ℕ} → IsDistinct own → ProveAnswers own command name (Some files) before now status text → IsHeldAnswer files command name status text
   prove_ends distinct (fetch_fails file rose fails) = absurd (well rose)
   prove_ends {own = own} distinct (is_refused why h e) = absurd (isnt_refused own table distinct files command.root name problem held h)
-  prove_ends {own = own} distinct (is_loaded {problem = loaded} h (has_large_goal {number = number} m g)) =
+  prove_ends {own = own} distinct (is_loaded {problem = loaded} f h (has_large_goal {number = number} m g)) =
       let move = into own table distinct apart files command.root name command.order loaded problem h held in
       let lists = ap (λ (p : Problem). position is_too_large p.clauses) (same own table distinct apart files command.root name command.order loaded problem h held) in
       let there : position is_too_large problem.clauses ≡ Some number = sym (large_number_moved move problem.clauses) ∙ sym lists ∙ large_number_moved unchanged loaded.clauses ∙ m in
       absurd (marked_or_large table problem encoded.fresh number encodes.0 there)
-  prove_ends {own = own} distinct (is_loaded {problem = loaded} h (is_unordered {why = why} e x n)) = absurd (isnt_unordered own table distinct apart files command.root name command.order loaded problem h held (chosen table problem.signature command.order None) plain why n x)
-  prove_ends {own = own} distinct (is_loaded {problem = loaded} h (is_searched {encoded = own_encoded} {spec = own_spec} {v = v} {s = s} {text = told_text} e c x a)) = record {
+  prove_ends {own = own} distinct (is_loaded {problem = loaded} f h (is_unordered {why = why} i e x n)) = absurd (isnt_unordered own table distinct apart files command.root name command.order loaded problem h held (chosen table problem.signature command.order None) plain why n x)
+  prove_ends {own = own} distinct (is_loaded {loaded = before_marks} {problem = loaded} f h (is_searched {encoded = own_encoded} {spec = own_spec} {v = v} {s = s} {text = told_text} i e c x a)) = record {
     table = own;
     distinct = distinct;
+    loaded = before_marks;
     problem = loaded;
+    filled = f;
     holds = h;
     encoded = own_encoded;
+    adds = i;
     encodes = e;
     spec = own_spec;
     chosen = c;

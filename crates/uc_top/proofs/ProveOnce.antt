@@ -88,18 +88,18 @@ module _ (one_search : OneSearch) (table : Table) (distinct : IsDistinct table) 
     laws : (encoded : Encoded) (spec : OrderSpec) → Encodes table problem (Ok encoded) → IsChosen table problem.signature command.order encoded.fresh spec → Laws (meaning_of table spec)
     laws encoded spec e c = spec_laws table (all_symbols problem.signature encoded.fresh) spec (chosen_fits table command problem encoded spec some most agrees e c)
 
-    pub prove_once : {s t : ℕ} {a b : List ℕ} → IsProveAnswer table command name problem s a → IsProveAnswer table command name problem t b → (s ≡ t) × (a ≡ b)
+    pub prove_once : {loaded other : Table} {s t : ℕ} {a b : List ℕ} → IsProveAnswer table command name loaded problem s a → IsProveAnswer table command name other problem t b → (s ≡ t) × (a ≡ b)
     prove_once (has_large_goal {number = number} m g) (has_large_goal {number = other} n h) =
         let numbers : other ≡ number = large_once table problem other number n m in
         (refl, ap (λ goal. status_line (codes "InputError") name ++ large_line goal) (some_once g (ap (slice_get problem.clauses) (sym numbers) ∙ h)))
-    prove_once (has_large_goal {number = number} m g) (is_unordered {encoded = encoded} e x n) = absurd (marked_or_large table problem encoded.fresh number e.0 m)
-    prove_once (has_large_goal {number = number} m g) (is_searched {encoded = encoded} e c x v) = absurd (marked_or_large table problem encoded.fresh number e.0 m)
-    prove_once (is_unordered {encoded = encoded} e x n) (has_large_goal {number = number} m g) = absurd (marked_or_large table problem encoded.fresh number e.0 m)
-    prove_once (is_unordered {why = why} e x n) (is_unordered {why = other} d y m) = (refl, ap choice_line (refusal_once table problem.signature command.order why other n m x y))
-    prove_once (is_unordered {why = why} e x n) (is_searched {encoded = encoded} {spec = spec} d c y v) = absurd (chosen_or_refused table problem.signature command.order encoded.fresh spec why n c x)
-    prove_once (is_searched {encoded = encoded} e c x v) (has_large_goal {number = number} m g) = absurd (marked_or_large table problem encoded.fresh number e.0 m)
-    prove_once (is_searched {encoded = encoded} {spec = spec} e c x v) (is_unordered {why = why} d y n) = absurd (chosen_or_refused table problem.signature command.order encoded.fresh spec why n c y)
-    prove_once (is_searched {encoded = encoded} {spec = spec} {v = v} {s = s} {text = text} e c x a) (is_searched {encoded = other} {spec = named} {v = w} {s = t} {text = told} d k y b) =
+    prove_once (has_large_goal {number = number} m g) (is_unordered {encoded = encoded} i e x n) = absurd (marked_or_large table problem encoded.fresh number e.0 m)
+    prove_once (has_large_goal {number = number} m g) (is_searched {encoded = encoded} i e c x v) = absurd (marked_or_large table problem encoded.fresh number e.0 m)
+    prove_once (is_unordered {encoded = encoded} i e x n) (has_large_goal {number = number} m g) = absurd (marked_or_large table problem encoded.fresh number e.0 m)
+    prove_once (is_unordered {why = why} i e x n) (is_unordered {why = other} j d y m) = (refl, ap choice_line (refusal_once table problem.signature command.order why other n m x y))
+    prove_once (is_unordered {why = why} i e x n) (is_searched {encoded = encoded} {spec = spec} j d c y v) = absurd (chosen_or_refused table problem.signature command.order encoded.fresh spec why n c x)
+    prove_once (is_searched {encoded = encoded} i e c x v) (has_large_goal {number = number} m g) = absurd (marked_or_large table problem encoded.fresh number e.0 m)
+    prove_once (is_searched {encoded = encoded} {spec = spec} i e c x v) (is_unordered {why = why} j d y n) = absurd (chosen_or_refused table problem.signature command.order encoded.fresh spec why n c y)
+    prove_once (is_searched {encoded = encoded} {spec = spec} {v = v} {s = s} {text = text} i e c x a) (is_searched {encoded = other} {spec = named} {v = w} {s = t} {text = told} j d k y b) =
         let same : other ≡ encoded = encoding_once table problem distinct other encoded d e in
         let orders : named ≡ spec = order_once table problem.signature command.order encoded.fresh named spec (subst (λ (f : Encoded). IsChosen table problem.signature command.order f.fresh named) same k) c in
         let there = subst (λ (o : OrderSpec). IsSearched (meaning_of table o) (opening_for command encoded) 0 w t) orders (subst (λ (f : Encoded). IsSearched (meaning_of table named) (opening_for command f) 0 w t) same y) in
@@ -115,9 +115,9 @@ module _ (one_search : OneSearch) (table : Table) (distinct : IsDistinct table) 
   prove_answers_once files before now well (fetch_fails file r f) y = absurd (well r)
   prove_answers_once files before now well (is_refused why x e) (fetch_fails file r f) = absurd (well r)
   prove_answers_once files before now well (is_refused why x e) (is_refused other y f) = (refl, ap (λ w. status_line (unloaded_word w) name ++ load_line w) (refusal_is_once table distinct files command.root name x y))
-  prove_answers_once files before now well (is_refused why x e) (is_loaded y p) = absurd (held_or_refused table distinct files command.root name y x)
-  prove_answers_once files before now well (is_loaded x p) (fetch_fails file r f) = absurd (well r)
-  prove_answers_once files before now well (is_loaded x p) (is_refused why y e) = absurd (held_or_refused table distinct files command.root name x y)
-  prove_answers_once files before now well {t = t} {b = b} (is_loaded {problem = problem} x p) (is_loaded {problem = other} y q) =
+  prove_answers_once files before now well (is_refused why x e) (is_loaded m y p) = absurd (held_or_refused table distinct files command.root name y x)
+  prove_answers_once files before now well (is_loaded l x p) (fetch_fails file r f) = absurd (well r)
+  prove_answers_once files before now well (is_loaded l x p) (is_refused why y e) = absurd (held_or_refused table distinct files command.root name x y)
+  prove_answers_once files before now well {t = t} {b = b} (is_loaded {problem = problem} l x p) (is_loaded {loaded = loaded} {problem = other} m y q) =
       let same : other ≡ problem = problem_is_once table distinct files command.root name other problem y x in
-      prove_once problem x.agrees p (subst (λ (held : Problem). IsProveAnswer table command name held t b) same q)
+      prove_once problem x.agrees p (subst (λ (held : Problem). IsProveAnswer table command name loaded held t b) same q)

@@ -6,7 +6,7 @@ use Rattle.std.specs.declared.alloc.AllocError.{AllocError}
 use Rattle.std.specs.Prelude.{not}
 use Rattle.std.proofs.lemmas.Bool.{and_parts, leb-true, ne_eqb}
 use Rattle.std.proofs.lemmas.Option.{slice_get_read}
-use Rattle.uc_term.specs.Table.{Table, Grows}
+use Rattle.uc_term.specs.Table.{Table, Grows, IsDistinct}
 use Rattle.uc_edge.specs.Files.{Files}
 use Rattle.uc_clause.specs.Bytes.{in_line}
 use Rattle.uc_clause.specs.declared.clause.Sourced.{Sourced}
@@ -19,6 +19,10 @@ use Rattle.uc_problem.specs.declared.problem.Problem.{Problem}
 use Rattle.uc_problem.specs.declared.problem.Encoded.{Encoded}
 use Rattle.uc_problem.specs.Holds.{Agrees, Holds, IsProblem, IsLoadFault}
 use Rattle.uc_problem.specs.Encodes.{Encodes, IsEncoded}
+use Rattle.uc_problem.specs.Filling.{WhereTold, IsFilled, AddsMarks}
+use Rattle.uc_problem.specs.Marks.{Marks}
+use Rattle.uc_problem.proofs.MarksOnce.{marks_once}
+use Rattle.uc_term.specs.declared.fresh.Fresh.{Fresh}
 use Rattle.uc_problem.proofs.Later.{Grows-refl}
 use Rattle.uc_order.specs.declared.spec.OrderSpec.{OrderSpec}
 use Rattle.uc_order.specs.Laws.{Meaning}
@@ -101,9 +105,9 @@ module _ (table : Table) (command : Command) (name : List ℕ) (holds : Option F
 
 -- A PROBLEM THAT IS LOADED
 
-pub loaded : (table later : Table) (command : Command) (name : List ℕ) (holds : Option Files) (before now : ℕ) (problem : Problem) (r : Result Answer AllocError) → Grows table later → IsProblem table holds command.root name problem → IfOk r (λ answer. IsProveAnswer later command name problem answer.status (joined answer.lines)) → IfOk r (λ answer. ProveAnswers later command name holds before now answer.status (joined answer.lines))
-loaded table later command name holds before now problem (Ok answer) g h a = is_loaded (held_problem table later holds command.root name problem g h) a
-loaded table later command name holds before now problem (Err fault) g h a = tt
+pub loaded : (empty table later : Table) (command : Command) (name : List ℕ) (holds : Option Files) (before now : ℕ) (problem : Problem) (r : Result Answer AllocError) → empty ≡ [] → Grows table later → WhereTold holds (λ files. IsFilled files command.root name empty table problem) → IsProblem table holds command.root name problem → IfOk r (λ answer. IsProveAnswer later command name table problem answer.status (joined answer.lines)) → IfOk r (λ answer. ProveAnswers later command name holds before now answer.status (joined answer.lines))
+loaded empty table later command name holds before now problem (Ok answer) none g f h a = is_loaded (subst (λ (t : Table). WhereTold holds (λ files. IsFilled files command.root name t table problem)) none f) (held_problem table later holds command.root name problem g h) a
+loaded empty table later command name holds before now problem (Err fault) none g f h a = tt
 
 -- visible bytes and spaces end no line
 byte_in_line : (b : ℕ) → 32 ≤ b → in_line b ≡ true
@@ -116,36 +120,52 @@ seen_in_line (b ∷ bs) e =
     let low = leb-true 32 b (and_parts (nat_le 32 b) (nat_le b 126) p.0).0 in
     rw (byte_in_line b low) (seen_in_line bs p.1)
 
-pub loaded_kept : (table later : Table) (command : Command) (name : List ℕ) (holds : Option Files) (problem : Problem) (r : Result Answer AllocError) → Grows table later → IsProblem table holds command.root name problem → are_seen name ≡ true → 0 < length name → IsRootSeen command.root → IfOk r (λ answer. answer.status ≤ 2 → CanBePrinted later name problem → Keeps later command name problem answer.status (joined answer.lines)) → IfOk r (λ answer. answer.status ≤ 2 → (files : Files) → holds ≡ Some files → IsKept later files command name answer.status (joined answer.lines))
-loaded_kept table later command name holds problem (Ok answer) g h seen some root k = λ few files told.
+pub loaded_kept : (empty table later : Table) (command : Command) (name : List ℕ) (holds : Option Files) (problem : Problem) (r : Result Answer AllocError) → empty ≡ [] → Grows table later → WhereTold holds (λ files. IsFilled files command.root name empty table problem) → IsProblem table holds command.root name problem → are_seen name ≡ true → 0 < length name → IsRootSeen command.root → IfOk r (λ answer. answer.status ≤ 2 → CanBePrinted later name problem → Keeps later command name problem answer.status (joined answer.lines)) → IfOk r (λ answer. answer.status ≤ 2 → IsDistinct later → (fresh : Option Fresh) → Marks later problem (Ok fresh) → AddsMarks table later fresh) → IfOk r (λ answer. answer.status ≤ 2 → (files : Files) → holds ≡ Some files → (kept : IsKept later files command name answer.status (joined answer.lines)) × (IsDistinct later → AddsMarks kept.loaded later kept.keeps.fresh))
+loaded_kept empty table later command name holds problem (Ok answer) none g f h seen some root k marks = λ few files told.
     let held : Holds later files command.root name problem = subst (λ (o : Option Files). IsProblem table o command.root name problem) told h later g in
     let can : CanBePrinted later name problem = record { name = (some, seen_in_line name seen); clauses = held_printable later files command.root name problem (some, seen) root held } in
-    record { problem = problem; holds = held; keeps = k few can }
-loaded_kept table later command name holds problem (Err fault) g h seen some root k = tt
+    let filled = subst (λ (o : Option Files). WhereTold o (λ files. IsFilled files command.root name [] table problem)) told (subst (λ (t : Table). WhereTold holds (λ files. IsFilled files command.root name t table problem)) none f) in
+    let keeps = k few can in
+    (record { problem = problem; holds = held; keeps = keeps; loaded = table; filled = filled }, λ distinct. marks few distinct keeps.fresh keeps.marked)
+loaded_kept empty table later command name holds problem (Err fault) none g f h seen some root k marks = tt
+
+-- what holds of every answer
+pub for_any : {P : Answer → Type 0} (r : Result Answer AllocError) → ((answer : Answer) → P answer) → IfOk r P
+for_any (Ok answer) h = h answer
+for_any (Err fault) h = tt
 
 -- A PROBLEM THAT IS ENCODED
 
 module _ (table : Table) (command : Command) (name : List ℕ) (problem : Problem) where
-  abbrev pub Answers : Result Answer AllocError → Type 0
-  Answers r = IfOk r (λ answer. IsProveAnswer table command name problem answer.status (joined answer.lines))
+  -- encoding makes the table of this one
+  abbrev pub Answers : Table → Result Answer AllocError → Type 0
+  Answers before r = IfOk r (λ answer. IsProveAnswer table command name before problem answer.status (joined answer.lines))
 
   abbrev pub Promises : Result Answer AllocError → Type 0
   Promises r = IfOk r (λ answer. answer.status ≤ 2 → CanBePrinted table name problem → Keeps table command name problem answer.status (joined answer.lines))
 
   -- by a later table
-  pub large : (number : ℕ) (goal : Sourced) (told : Answer) (r : Result Answer AllocError) → IsEncoded table problem (Err (GoalTooLarge number)) → goal ≡ get_or problem.clauses number goal → (told.status ≡ 3) × (joined told.lines ≡ large_line goal) → IfOk r (λ made. (made.status ≡ told.status) × (joined made.lines ≡ status_line (codes "InputError") name ++ joined told.lines)) → Answers r
-  large number goal told (Ok made) h at line m = rw (m.0 ∙ line.0, m.1, line.1) (has_large_goal {number = number} (h table (Grows-refl table)) (slice_get_read problem.clauses (length problem.clauses) number goal refl (large_within table problem number h) at))
-  large number goal told (Err fault) h at line m = tt
+  pub large : (before : Table) (number : ℕ) (goal : Sourced) (told : Answer) (r : Result Answer AllocError) → IsEncoded table problem (Err (GoalTooLarge number)) → goal ≡ get_or problem.clauses number goal → (told.status ≡ 3) × (joined told.lines ≡ large_line goal) → IfOk r (λ made. (made.status ≡ told.status) × (joined made.lines ≡ status_line (codes "InputError") name ++ joined told.lines)) → Answers before r
+  large before number goal told (Ok made) h at line m = rw (m.0 ∙ line.0, m.1, line.1) (has_large_goal {number = number} (h table (Grows-refl table)) (slice_get_read problem.clauses (length problem.clauses) number goal refl (large_within table problem number h) at))
+  large before number goal told (Err fault) h at line m = tt
 
   pub large_promises : (told : Answer) (line : List ℕ) (r : Result Answer AllocError) → told.status ≡ 3 → IfOk r (λ made. (made.status ≡ told.status) × (joined made.lines ≡ line)) → Promises r
   large_promises told line (Ok made) three m = λ few. absurd (omega (arith, few, three, m.0))
   large_promises told line (Err fault) three m = tt
 
+  -- by the marks that were added, whichever the problem's marks are
+  pub marks_added : (before : Table) (encoded : Encoded) → AddsMarks before table encoded.fresh → Encodes table problem (Ok encoded) → IsDistinct table → (fresh : Option Fresh) → Marks table problem (Ok fresh) → AddsMarks before table fresh
+  marks_added before encoded i e distinct fresh m = subst (AddsMarks before table) (marks_once table problem distinct encoded.fresh fresh e.0 m) i
+
+  pub large_adds : (before : Table) (told : Answer) (line : List ℕ) (r : Result Answer AllocError) → told.status ≡ 3 → IfOk r (λ made. (made.status ≡ told.status) × (joined made.lines ≡ line)) → IfOk r (λ answer. answer.status ≤ 2 → IsDistinct table → (fresh : Option Fresh) → Marks table problem (Ok fresh) → AddsMarks before table fresh)
+  large_adds before told line (Ok made) three m = λ few. absurd (omega (arith, few, three, m.0))
+  large_adds before told line (Err fault) three m = tt
+
   -- AN ORDER
 
-  pub unordered : (encoded : Encoded) (why : ChoiceFault) (r : Result Answer AllocError) → Encodes table problem (Ok encoded) → IsChoiceFault table problem.signature command.order why → IfOk r (λ answer. (answer.status ≡ 4) × (joined answer.lines ≡ choice_line why)) → IfOk r (λ _. why ≡ NoMemory → ⊥) → Answers r
-  unordered encoded why (Ok answer) e h line n = one_line (Ok answer) (IsProveAnswer table command name problem) 4 (choice_line why) line (is_unordered e h n)
-  unordered encoded why (Err fault) e h line n = tt
+  pub unordered : (before : Table) (encoded : Encoded) (why : ChoiceFault) (r : Result Answer AllocError) → AddsMarks before table encoded.fresh → Encodes table problem (Ok encoded) → IsChoiceFault table problem.signature command.order why → IfOk r (λ answer. (answer.status ≡ 4) × (joined answer.lines ≡ choice_line why)) → IfOk r (λ _. why ≡ NoMemory → ⊥) → Answers before r
+  unordered before encoded why (Ok answer) i e h line n = one_line (Ok answer) (IsProveAnswer table command name before problem) 4 (choice_line why) line (is_unordered i e h n)
+  unordered before encoded why (Err fault) i e h line n = tt
 
   pub unordered_promises : (line : List ℕ) (r : Result Answer AllocError) → IfOk r (λ answer. (answer.status ≡ 4) × (joined answer.lines ≡ line)) → Promises r
   unordered_promises line r h = no_promise (λ (answer : Answer). CanBePrinted table name problem → Keeps table command name problem answer.status (joined answer.lines)) 4 line r (omega arith) h
@@ -153,9 +173,9 @@ module _ (table : Table) (command : Command) (name : List ℕ) (problem : Proble
   -- A SEARCH
 
   module _ (encoded : Encoded) (spec : OrderSpec) (v : Verdict) (s : State) where
-    pub searched : (r : Result Answer AllocError) → HasEnded table command problem encoded spec v s → IfOk r (λ answer. answer.status ≡ verdict_status v) → IfOk r (λ answer. (text : List ℕ) × VerdictAnswers table command name problem encoded spec s v text × (joined answer.lines ≡ text ++ trace_if command s)) → Answers r
-    searched (Ok answer) h e a = rw (e, a.2) (is_searched h.encodes h.chosen h.searched a.1)
-    searched (Err fault) h e a = tt
+    pub searched : (before : Table) (r : Result Answer AllocError) → AddsMarks before table encoded.fresh → HasEnded table command problem encoded spec v s → IfOk r (λ answer. answer.status ≡ verdict_status v) → IfOk r (λ answer. (text : List ℕ) × VerdictAnswers table command name problem encoded spec s v text × (joined answer.lines ≡ text ++ trace_if command s)) → Answers before r
+    searched before (Ok answer) i h e a = rw (e, a.2) (is_searched i h.encodes h.chosen h.searched a.1)
+    searched before (Err fault) i h e a = tt
 
     pub searched_promises : (r : Result Answer AllocError) → IfOk r (λ answer. answer.status ≡ verdict_status v) → IfOk r (λ answer. CanBePrinted table name problem → Keeps table command name problem (verdict_status v) (joined answer.lines)) → Promises r
     searched_promises (Ok answer) e k = λ few can. rw e (k can)

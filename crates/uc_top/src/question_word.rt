@@ -5,6 +5,8 @@ ghost use Rattle.uc_term.specs.declared.node.Sym.{Sym as AnySym};
 ghost use Rattle.uc_term.specs.Tree.{Tree};
 ghost use Rattle.uc_term.specs.Flat.{flat};
 ghost use Rattle.uc_term.specs.Table.{Table, Grows, Has};
+ghost use Rattle.uc_term.specs.Gathering.{HasAll};
+ghost use Rattle.uc_clause.specs.Interning.{InternsEquation};
 ghost use Rattle.uc_clause.specs.Reading.{ReadsEquation};
 ghost use Rattle.uc_top.specs.QuestionWords.{is_unfit, nodes_of, first_unfit, IsQuestionWord, IsQuestionFault, AreShort, AreQuestions, IsFirstFault};
 
@@ -23,8 +25,8 @@ pub(crate) struct Misread {
     pub fault: WordFault,
 }
 
-/// The questions that words are, in order, or the first of them that is none. The table may have grown by symbols that
-/// aren't known.
+/// The questions that words are, in order, or the first of them that is none. The table stays as it was where all are questions;
+/// else it may have grown by symbols that aren't known.
 pub(crate) fn read_questions(
     alloc: Global,
     words: &[Text],
@@ -35,6 +37,7 @@ pub(crate) fn read_questions(
     ensures reads { IfOk result (AreQuestions symbols.new known.now words.now) }
     ensures refused { IfErr result (λ misread. IsFirstFault symbols.new known.now words.now misread.number misread.fault) }
     ensures grows { Grows symbols.old symbols.new }
+    ensures kept { HasAll symbols.old known.now → IfOk result (λ _. symbols.new ≡ symbols.old) }
 {
     let mut questions = Seq::new(alloc);
     for (number, word) in words.iter().enumerate() {
@@ -57,6 +60,7 @@ fn read_next(
     ensures reads { IfOk result (λ _. (question : Tree × Tree) × IsQuestionWord symbols.new known.now word.now question × (questions.new ≡ questions.old ++ question ∷ [])) }
     ensures refused { IfErr result (IsQuestionFault symbols.new known.now word.now) }
     ensures grows { Grows symbols.old symbols.new }
+    ensures kept { HasAll symbols.old known.now → IfOk result (λ _. symbols.new ≡ symbols.old) }
 {
     let question = read_question(alloc, word, known, symbols)?;
     questions.push(question)?;
@@ -75,6 +79,7 @@ pub(crate) fn read_question(
     ensures reads { IfOk result (IsQuestionWord symbols.new known.now word.now) }
     ensures refused { IfErr result (IsQuestionFault symbols.new known.now word.now) }
     ensures grows { Grows symbols.old symbols.new }
+    ensures kept { HasAll symbols.old known.now → IfOk result (λ _. symbols.new ≡ symbols.old) }
 {
     let sides = whole_equation(alloc, word, symbols)?;
     match first_unfit(known, &sides) {
@@ -89,6 +94,7 @@ fn whole_equation(alloc: Global, word: &[u8], symbols: &mut Symbols) -> Result<Q
     ensures reads { IfOk result (ReadsEquation word.now symbols.new) }
     ensures refused { (known : List AnySym) → IfErr result (IsQuestionFault symbols.new known word.now) }
     ensures grows { Grows symbols.old symbols.new }
+    ensures interns { IfOk result (λ _. InternsEquation word.now symbols.old symbols.new) }
 {
     match read_equation(alloc, word, symbols) {
         Ok(sides) => Ok(sides),

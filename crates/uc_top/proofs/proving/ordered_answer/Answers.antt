@@ -17,7 +17,7 @@ pub searched_answer-requires-clause-fits : goal.searched_answer-requires-clause-
 searched_answer-requires-clause-fits g c = subst (λ (fs : List Sym). Fits c.args.symbols.now fs c.in-Ok.spec) (sym (encoded_symbols c.args.symbols.now c.args.problem.now c.args.encoded.now c.requires.encodes)) c.in-Ok.ensures.fits
 
 pub returns-in-Err-clause-answers : goal.returns-in-Err-clause-answers
-returns-in-Err-clause-answers g c = unordered c.args.symbols.now c.args.command.now c.args.name.now c.args.problem.now c.args.encoded.now c.in-Err.fault c.choice_answer.result c.requires.encodes c.in-Err.ensures.err c.choice_answer.ensures.answer c.choice_answer.ensures.not_memory
+returns-in-Err-clause-answers g c = λ loaded i. unordered c.args.symbols.now c.args.command.now c.args.name.now c.args.problem.now loaded c.args.encoded.now c.in-Err.fault c.choice_answer.result i c.requires.encodes c.in-Err.ensures.err c.choice_answer.ensures.answer c.choice_answer.ensures.not_memory
 
 pub returns-in-Err-clause-promise : goal.returns-in-Err-clause-promise
 returns-in-Err-clause-promise g c = unordered_promises c.args.symbols.now c.args.command.now c.args.name.now c.args.problem.now _ c.choice_answer.result c.choice_answer.ensures.answer

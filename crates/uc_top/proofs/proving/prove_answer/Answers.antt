@@ -5,4 +5,4 @@ pub returns-clause-answers : goal.returns-clause-answers
 returns-clause-answers g c = IfOk-weaker c.load_and_prove-answer.result _ _ (λ answer a. (c.load_and_prove-answer.new.symbols, c.len.ensures.distinct, a)) (rw c.as_bytes.ensures at c.load_and_prove-answer.ensures.answers)
 
 pub returns-clause-promise : goal.returns-clause-promise
-returns-clause-promise g c = IfOk-weaker c.load_and_prove-answer.result _ _ (λ answer k few files told. record { table = c.load_and_prove-answer.new.symbols; distinct = c.len.ensures.distinct; is_kept = k few files told }) (rw c.as_bytes.ensures at c.load_and_prove-answer.ensures.promise)
+returns-clause-promise g c = IfOk-weaker c.load_and_prove-answer.result _ _ (λ answer k few files told. record { table = c.load_and_prove-answer.new.symbols; distinct = c.len.ensures.distinct; is_kept = (k few files told).0; adds = (k few files told).1 c.len.ensures.distinct }) (rw c.as_bytes.ensures at c.load_and_prove-answer.ensures.promise)

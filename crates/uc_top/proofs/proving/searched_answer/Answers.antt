@@ -17,7 +17,7 @@ pub verdict_answer-requires-clause-ended : goal.verdict_answer-requires-clause-e
 verdict_answer-requires-clause-ended g c = ended c.args.symbols.now c.args.command.now c.args.name.now c.args.problem.now c.args.encoded.now c.args.spec.now c.in_ok-verdict.verdict c.search_alone.new.book.state c.in_ok-book.book.state (chosen_meaning c.in_ok-book.book.order) (opening_of c.in_ok-book.book.opening) c.in_ok-pass.pass.worker c.requires.agrees c.requires.encodes c.requires.chosen c.requires.fits (rw c.in_ok-book.ensures.order (meaning_is c.args.symbols.now c.args.spec.now c.in_ok-order.order c.in_ok-order.ensures.order)) (rw c.in_ok-book.ensures.opening refl) c.in_ok-pass.ensures.worker c.in_ok-book.ensures.starts (rw c.in_ok-pass.ensures.book at c.in_ok-verdict.ensures.searched)
 
 pub returns-clause-answers : goal.returns-clause-answers
-returns-clause-answers g c = searched c.args.symbols.now c.args.command.now c.args.name.now c.args.problem.now c.args.encoded.now c.args.spec.now c.in_ok-verdict.verdict c.search_alone.new.book.state c.verdict_answer.result (ended c.args.symbols.now c.args.command.now c.args.name.now c.args.problem.now c.args.encoded.now c.args.spec.now c.in_ok-verdict.verdict c.search_alone.new.book.state c.in_ok-book.book.state (chosen_meaning c.in_ok-book.book.order) (opening_of c.in_ok-book.book.opening) c.in_ok-pass.pass.worker c.requires.agrees c.requires.encodes c.requires.chosen c.requires.fits (rw c.in_ok-book.ensures.order (meaning_is c.args.symbols.now c.args.spec.now c.in_ok-order.order c.in_ok-order.ensures.order)) (rw c.in_ok-book.ensures.opening refl) c.in_ok-pass.ensures.worker c.in_ok-book.ensures.starts (rw c.in_ok-pass.ensures.book at c.in_ok-verdict.ensures.searched)) c.verdict_answer.ensures.status c.verdict_answer.ensures.answers
+returns-clause-answers g c = λ loaded i. searched c.args.symbols.now c.args.command.now c.args.name.now c.args.problem.now c.args.encoded.now c.args.spec.now c.in_ok-verdict.verdict c.search_alone.new.book.state loaded c.verdict_answer.result i (ended c.args.symbols.now c.args.command.now c.args.name.now c.args.problem.now c.args.encoded.now c.args.spec.now c.in_ok-verdict.verdict c.search_alone.new.book.state c.in_ok-book.book.state (chosen_meaning c.in_ok-book.book.order) (opening_of c.in_ok-book.book.opening) c.in_ok-pass.pass.worker c.requires.agrees c.requires.encodes c.requires.chosen c.requires.fits (rw c.in_ok-book.ensures.order (meaning_is c.args.symbols.now c.args.spec.now c.in_ok-order.order c.in_ok-order.ensures.order)) (rw c.in_ok-book.ensures.opening refl) c.in_ok-pass.ensures.worker c.in_ok-book.ensures.starts (rw c.in_ok-pass.ensures.book at c.in_ok-verdict.ensures.searched)) c.verdict_answer.ensures.status c.verdict_answer.ensures.answers
 
 pub returns-clause-promise : goal.returns-clause-promise
 returns-clause-promise g c = searched_promises c.args.symbols.now c.args.command.now c.args.name.now c.args.problem.now c.args.encoded.now c.args.spec.now c.in_ok-verdict.verdict c.search_alone.new.book.state c.verdict_answer.result c.verdict_answer.ensures.status c.verdict_answer.ensures.promise

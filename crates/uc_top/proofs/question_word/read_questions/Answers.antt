@@ -1,4 +1,6 @@
-use Rattle.std.proofs.Common.{arith}
+use Rattle.std.proofs.Common.{refl, sym, subst, ◌∙◌, arith}
+use Rattle.uc_term.specs.Table.{Table}
+use Rattle.uc_term.specs.Gathering.{HasAll}
 use Rattle.uc_clause.proofs.Tables.{grows_not, grows_twice}
 use Rattle.uc_top.proofs.Questions.{short_at, one_question_more, none_yet, first_fault, all_read}
 use Rattle.uc_top.proofs.question_word.read_questions.Goals as goal
@@ -7,6 +9,7 @@ pub loop-number-init : goal.loop-number-init
 loop-number-init c = record {
   so_far = rw c.new-questions.ensures (none_yet c.args.symbols.now c.args.known.now);
   grows = grows_not c.args.symbols.now;
+  kept = λ has. refl;
 }
 
 pub read_next-requires : goal.read_next-requires
@@ -21,6 +24,9 @@ loop-number-preserved c =
     record {
       so_far = rw read.2 (one_question_more c.args.known.now c.args.words.now c.loop-number.number c.index-words-number.result c.loop-number.questions c.loop-number.symbols c.read_next.new.symbols read.0 c.loop-number-test.true c.index-words-number.is c.read_next.ensures.grows c.loop-number.invariant.so_far (rw c.as_bytes.ensures at read.1));
       grows = grows_twice c.args.symbols.now c.loop-number.symbols c.read_next.new.symbols c.loop-number.invariant.grows c.read_next.ensures.grows;
+      kept = λ has. (
+        let same = c.loop-number.invariant.kept has in
+        c.in_default.ensures.kept (subst (λ (t : Table). HasAll t c.args.known.now) (sym same) has) ∙ same);
     }
 
 pub returns-clause-reads : goal.returns-clause-reads

@@ -1,5 +1,6 @@
-use Rattle.std.proofs.Common.{take}
+use Rattle.std.proofs.Common.{◌≡◌, take}
 use Rattle.uc_term.specs.Table.{Grows}
+use Rattle.uc_term.specs.Gathering.{HasAll}
 use Rattle.uc_top.specs.QuestionWords.{AreQuestions}
 use Rattle.uc_top.proofs.question_word.read_questions.Given as goal
 
@@ -7,4 +8,5 @@ abbrev pub invariant-loop-number : goal.invariant-loop-number
 invariant-loop-number l = record {
   so_far : AreQuestions l.symbols l.known (take l.number l.words) l.questions;
   grows : Grows l.fn.symbols l.symbols;
+  kept : HasAll l.fn.symbols l.known → l.symbols ≡ l.fn.symbols;
 }
