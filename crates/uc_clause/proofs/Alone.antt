@@ -1,5 +1,5 @@
 -- Terms and equations that are whole texts.
-use Rattle.std.proofs.Common.{◌≡◌, ℕ, List, [], refl, subst}
+use Rattle.std.proofs.Common.{◌≡◌, ℕ, ◌+◌, List, [], refl, subst}
 use Rattle.std.specs.Prelude.{◌≢◌}
 use Rattle.uc_term.specs.Tree.{Tree}
 use Rattle.uc_term.specs.Table.{Table, IsDistinct}
@@ -16,6 +16,7 @@ use Rattle.uc_clause.specs.Terms.{Term}
 use Rattle.uc_clause.specs.Items.{term, equals, term_alone, equals_alone}
 use Rattle.uc_clause.specs.Meaning.{Variables, with_names, variables_in, Means}
 use Rattle.uc_clause.specs.Drafts.{IsPart}
+use Rattle.uc_clause.specs.Interning.{InternsAt, with_sides}
 use Rattle.uc_clause.specs.Sides.{IsTermAlone, IsEquationAlone, ReadsPair}
 use Rattle.uc_clause.specs.Reading.{SaysTerm, SaysSides}
 use Rattle.uc_clause.proofs.Sequences.{passes}
@@ -78,3 +79,11 @@ module _ (bytes : List ℕ) (tokens : List Token) where
         means_right = subst (λ s. Means bytes tokens table s l.sides.right pair.right) l.are_sides.seen_is l.are_sides.means_right;
       };
     }
+
+  -- what is read makes the new table
+  pub alone_interns : (old new : Table) (k : ℕ) → InternsAt (equals bytes tokens 0) (with_sides bytes tokens) old new k → terminal_at bytes tokens k ≡ End → InternsAt (equals_alone bytes tokens 0) (with_sides bytes tokens) old new (k + 1)
+  alone_interns old new k r e = record {
+    parse = r.parse;
+    reads = goes_on r.reads (goes_on {v = tt} (e, refl) refl);
+    new_is = r.new_is;
+  }

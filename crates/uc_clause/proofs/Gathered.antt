@@ -1,5 +1,5 @@
 -- How items are gathered.
-use Rattle.std.proofs.Common.{◌≡◌, ℕ, List, [], ◌∷◌, ◌++◌, sym, ◌∙◌, subst, append-nil}
+use Rattle.std.proofs.Common.{◌≡◌, ℕ, List, [], ◌∷◌, ◌++◌, refl, sym, ap, ◌∙◌, subst, append-nil}
 use Rattle.std.specs.Prelude.{◌≢◌}
 use Rattle.uc_term.specs.Table.{Table, Grows}
 use Rattle.uc_clause.specs.declared.token.Token.{Token}
@@ -16,9 +16,11 @@ use Rattle.uc_clause.specs.Rules.{Outcome, read, stop, mapped, Stops}
 use Rattle.uc_clause.specs.Parse.{Entry, formula, inclusion}
 use Rattle.uc_clause.specs.Items as items
 use Rattle.uc_clause.specs.Meaning.{IsName, AreNames, no_names, one_name, MeansItem, MeanItems, no_items, one_item}
+use Rattle.uc_clause.specs.Interning.{InternsAt, with_item, with_items}
 use Rattle.uc_clause.specs.Given.{AreItems}
 use Rattle.uc_clause.proofs.Sequences.{passes}
 use Rattle.uc_clause.proofs.Lists.{after, after_none, after_one}
+use Rattle.uc_clause.proofs.Interned.{with_items_snoc}
 use Rattle.uc_clause.proofs.Means.{means_grows, extends_not}
 
 module _ (bytes : List ℕ) (tokens : List Token) where
@@ -82,3 +84,27 @@ module _ (bytes : List ℕ) (tokens : List Token) where
         means = items_snoc entry i (items_grow table new grows g.means) m;
         comes_to = λ o rest. rw (after_one g.entries entry o) (g.comes_to (mapped (λ es. entry ∷ es) o) (items.has_item more reads rest));
       }
+
+  -- some items are read and make the new table, and with what the rest comes to the text comes to
+  pub record Interned (old new : Table) (at : ℕ) : Type 0 where
+    pub entries : List Entry
+    pub new_is : new ≡ with_items bytes tokens old entries
+    pub comes_to : (o : Outcome (List Entry)) → items.Items bytes tokens at o → items.Items bytes tokens 0 (after entries o)
+
+  pub interned_none : (table : Table) → Interned table table 0
+  interned_none table = record { entries = []; new_is = refl; comes_to = λ o rest. rw (after_none o) rest }
+
+  module _ (old table : Table) (at : ℕ) (g : Interned old table at) where
+    pub interned_all : terminal_at bytes tokens at ≡ End → InternsAt (items.Items bytes tokens 0) (with_items bytes tokens) old table at
+    interned_all e = record {
+      parse = g.entries;
+      reads = subst (λ es. items.Items bytes tokens 0 (read es at)) (append-nil g.entries) (g.comes_to (read [] at) (items.is_end e));
+      new_is = g.new_is;
+    }
+
+    pub interned_more : terminal_at bytes tokens at ≢ End → (new : Table) (end : ℕ) → InternsAt (items.Item bytes tokens at) (with_item bytes tokens) table new end → Interned old new end
+    interned_more more new end r = record {
+      entries = g.entries ++ r.parse ∷ [];
+      new_is = r.new_is ∙ ap (λ t. with_item bytes tokens t r.parse) g.new_is ∙ sym (with_items_snoc bytes tokens old g.entries r.parse);
+      comes_to = λ o rest. rw (after_one g.entries r.parse o) (g.comes_to (mapped (λ es. r.parse ∷ es) o) (items.has_item more r.reads rest));
+    }

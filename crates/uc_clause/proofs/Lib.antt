@@ -15,6 +15,7 @@ pub mod Ends
 pub mod Tables
 pub mod Means
 pub mod Stack
+pub mod Interned
 pub mod Loop
 pub mod Sizes
 pub mod Parts
@@ -37,3 +38,4 @@ pub mod Gathered
 pub mod ItemsOnce
 pub mod InText
 pub mod Files
+pub mod InternedOnce

@@ -17,6 +17,7 @@ use Rattle.uc_clause.specs.Terms.{Term}
 use Rattle.uc_clause.specs.Items.{equals, equals_in_brackets, denied, equation, literal, sign_of, Clause, is_bare, is_bracketed, is_not_closed, stops_in_brackets}
 use Rattle.uc_clause.specs.Meaning.{Variables, with_names, variables_in, Means}
 use Rattle.uc_clause.specs.Drafts.{IsPart}
+use Rattle.uc_clause.specs.Interning.{InternsAt, with_term, with_sides, with_literal}
 use Rattle.uc_clause.specs.Sides.{AddsSide, AreSides, ReadsPair, ReadsLiteral}
 use Rattle.uc_clause.proofs.Sequences.{passes}
 use Rattle.uc_clause.proofs.Means.{means_grows, with_names_extends}
@@ -125,3 +126,48 @@ module _ (bytes : List ℕ) (tokens : List Token) (from : ℕ) where
 
   pub literal_stops_clause : (brackets : ℕ) (err : Stop) → terminal_at bytes tokens from ≢ Open → Stops (literal bytes tokens from) err → Stops (Clause bytes tokens brackets from) err
   literal_stops_clause brackets err n h = passes (literal bytes tokens from) (Clause bytes tokens brackets from) err (λ why k s. is_bare n s) h
+
+-- what is read of the parts makes the new table
+module _ (bytes : List ℕ) (tokens : List Token) (from : ℕ) (old : Table) where
+  module _ (middle : Table) (k : ℕ) (l : InternsAt (Term bytes tokens 0 from) (with_term bytes tokens) old middle k) (new : Table) (end : ℕ) (r : InternsAt (Term bytes tokens 0 (k + 1)) (with_term bytes tokens) middle new end) where
+    pub equals_interns : terminal_at bytes tokens k ≡ Equal → InternsAt (equals bytes tokens from) (with_sides bytes tokens) old new end
+    equals_interns sign = record {
+      parse = record { left = l.parse; right = r.parse };
+      reads = goes_on {v = from} {middle = from} refl (goes_on l.reads (goes_on {v = tt} {middle = k + 1} (sign, refl) (goes_on r.reads refl)));
+      new_is = r.new_is ∙ ap (λ t. with_term bytes tokens t r.parse) l.new_is;
+    }
+
+    pub equation_interns : (positive : Bool) → sign_of (terminal_at bytes tokens k) ≡ Some positive → InternsAt (equation bytes tokens from) (with_literal bytes tokens) old new end
+    equation_interns positive sign = record {
+      parse = record { positive = positive; sides = record { left = l.parse; right = r.parse } };
+      reads = goes_on {v = from} {middle = from} refl (goes_on l.reads (goes_on {v = positive} {middle = k + 1} (ap (λ v. read_or_stop (NoSign from) v k) (sym sign)) (goes_on r.reads refl)));
+      new_is = r.new_is ∙ ap (λ t. with_term bytes tokens t r.parse) l.new_is;
+    }
+
+  module _ (new : Table) (end : ℕ) where
+    pub denial_interns : terminal_at bytes tokens from ≡ Tilde → InternsAt (denied bytes tokens (from + 1)) (with_sides bytes tokens) old new end → InternsAt (literal bytes tokens from) (with_literal bytes tokens) old new end
+    denial_interns tilde r = record {
+      parse = record { positive = false; sides = r.parse };
+      reads = is_first tilde (goes_on {v = tt} {middle = from + 1} (tilde, refl) (goes_on r.reads refl));
+      new_is = r.new_is;
+    }
+
+    pub literal_interns : terminal_at bytes tokens from ≢ Tilde → InternsAt (equation bytes tokens from) (with_literal bytes tokens) old new end → InternsAt (literal bytes tokens from) (with_literal bytes tokens) old new end
+    literal_interns n r = record { parse = r.parse; reads = is_second n r.reads; new_is = r.new_is }
+
+    pub bracketed_interns : terminal_at bytes tokens from ≡ Open → InternsAt (equals bytes tokens (from + 1)) (with_sides bytes tokens) old new end → terminal_at bytes tokens end ≡ Close → (p : ℕ) → p ≡ end + 1 → InternsAt (equals_in_brackets bytes tokens from) (with_sides bytes tokens) old new p
+    bracketed_interns bracket r e p same = subst (λ k. InternsAt (equals_in_brackets bytes tokens from) (with_sides bytes tokens) old new k) (sym same) (record {
+      parse = r.parse;
+      reads = goes_on {v = tt} {middle = from + 1} (bracket, refl) (goes_on r.reads (goes_on {v = tt} (e, refl) refl));
+      new_is = r.new_is;
+    })
+
+    pub clause_interns : (brackets : ℕ) → terminal_at bytes tokens from ≢ Open → InternsAt (literal bytes tokens from) (with_literal bytes tokens) old new end → InternsAt (Clause bytes tokens brackets from) (with_literal bytes tokens) old new end
+    clause_interns brackets n r = record { parse = r.parse; reads = is_bare n r.reads; new_is = r.new_is }
+
+    pub closed_interns : (brackets : ℕ) → terminal_at bytes tokens from ≡ Open → brackets < 16 → InternsAt (Clause bytes tokens (brackets + 1) (from + 1)) (with_literal bytes tokens) old new end → terminal_at bytes tokens end ≡ Close → (p : ℕ) → p ≡ end + 1 → InternsAt (Clause bytes tokens brackets from) (with_literal bytes tokens) old new p
+    closed_interns brackets bracket few r e p same = subst (λ k. InternsAt (Clause bytes tokens brackets from) (with_literal bytes tokens) old new k) (sym same) (record {
+      parse = r.parse;
+      reads = is_bracketed bracket few r.reads e;
+      new_is = r.new_is;
+    })

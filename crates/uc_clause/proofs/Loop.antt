@@ -19,13 +19,15 @@ use Rattle.uc_clause.specs.declared.grammar.stop.Stop.TheVariants.{At, NoMemory}
 use Rattle.uc_clause.specs.declared.grammar.stop.Why.TheVariants.{NoTerm, NoToken, Nodes, Arity}
 use Rattle.uc_clause.specs.Terminals.{terminal_at, bytes_at, word_at, place_at}
 use Rattle.uc_clause.specs.Rules.{read, stop, Stops}
-use Rattle.uc_clause.specs.Parse.{Parse, variable, applied, no_more, also, leaves, leaves_all, variables, variables_all}
+use Rattle.uc_clause.specs.Parse.{Parse, variable, applied, no_more, also, leaves, leaves_all, variables, variables_all, count_all}
 use Rattle.uc_clause.specs.Terms.{head_at, Term, is_variable, is_constant, is_node_too_many, is_no_term, is_one_too_many, is_followed_by_neither}
 use Rattle.uc_clause.specs.Meaning.{Variables, with_name, with_names, Means, MeanAll, variable_means, functor_means, none_mean, more_mean}
 use Rattle.uc_clause.specs.Drafts.{State, blank, Moves, reads_variable, reads_constant, opens_functor, goes_to_next, closes_functor, Sticks, at_no_term, at_node_too_many, at_argument_too_many, behind_argument, IsStuck, IsRead}
 use Rattle.uc_clause.proofs.Ends.{some_head, some_other}
 use Rattle.uc_clause.proofs.Tables.{grows_not, grows_twice}
-use Rattle.uc_clause.proofs.Means.{extends_not, with_name_extends, with_names_both, mean_all_grows, size_means, count_all, count_mean_all, append, append_trees, count_append, count_trees_append, leaves_append, variables_append, flat_append, mean_append}
+use Rattle.uc_clause.proofs.Means.{extends_not, with_name_extends, with_names_both, mean_all_grows, size_means, count_mean_all, append, append_trees, count_append, count_trees_append, leaves_append, variables_append, flat_append, mean_append}
+use Rattle.uc_clause.specs.Interning.{with_symbol, with_term, with_terms}
+use Rattle.uc_clause.proofs.Interned.{with_terms_append, with_frames}
 use Rattle.uc_clause.proofs.Stack.{Frame, content, leaves_of, variables_of, pending_of, applied_after, MeanFrames, mean_frames_grow, Stacked, stops_whole, stops_args, new_frame, opened, next_frame, followed, closed}
 
 snoc_once : {A : Type 0} (xs ys : List A) (x y : A) → xs ++ x ∷ [] ≡ ys ++ y ∷ [] → (xs ≡ ys) × (x ≡ y)
@@ -66,6 +68,7 @@ module _ (bytes : List ℕ) (tokens : List Token) (from : ℕ) (seen : Variables
     pub seen_is : s.seen ≡ with_names seen (names_at (variables_of frames))
     pub mean : MeanFrames bytes tokens s.table s.seen frames
     pub grows : Grows table s.table
+    pub table_is : s.table ≡ with_frames bytes tokens table frames
 
   -- a term is read, as an argument of the frames
   pub record Has (s : State) : Type 0 where
@@ -82,6 +85,7 @@ module _ (bytes : List ℕ) (tokens : List Token) (from : ℕ) (seen : Variables
     pub mean : MeanFrames bytes tokens s.table s.seen frames
     pub means : Means bytes tokens s.table s.seen parse tree
     pub grows : Grows table s.table
+    pub table_is : s.table ≡ with_term bytes tokens (with_frames bytes tokens table frames) parse
 
   abbrev pub KeepsAt : Bool → State → Type 0
   KeepsAt true s = Has s
@@ -97,7 +101,7 @@ module _ (bytes : List ℕ) (tokens : List Token) (from : ℕ) (seen : Variables
   has {s} k e = subst (λ b. KeepsAt b s) e k
 
   pub begins : Keeps (record { at = from; behind_term = false; nodes = []; places = []; pending = []; seen = seen; table = table })
-  begins = record { frames = []; stacked = refl; nodes = refl; places = refl; pending = refl; seen_is = refl; mean = tt; grows = grows_not table }
+  begins = record { frames = []; stacked = refl; nodes = refl; places = refl; pending = refl; seen_is = refl; mean = tt; grows = grows_not table; table_is = refl }
 
   names_more : (ks : List ℕ) (k : ℕ) (old : Variables) → old ≡ with_names seen (names_at ks) → with_name old (bytes_at bytes tokens k) ≡ with_names seen (names_at (ks ++ k ∷ []))
   names_more ks k old e = rw (map-append (bytes_at bytes tokens) ks (k ∷ []), with_names_both seen (names_at ks) (bytes_at bytes tokens k ∷ []), e) refl
@@ -117,10 +121,11 @@ module _ (bytes : List ℕ) (tokens : List Token) (from : ℕ) (seen : Variables
     mean = mean_frames_grow bytes tokens old.table old.table old.seen (with_name old.seen (bytes_at bytes tokens old.at)) (grows_not old.table) (with_name_extends old.seen (bytes_at bytes tokens old.at)) a.frames a.mean;
     means = variable_means at;
     grows = a.grows;
+    table_is = a.table_is;
   }
 
-  after_constant : (old : State) (f : Sym) (new : Table) → Awaits old → head_at bytes tokens old.at ≡ Functor → terminal_at bytes tokens (old.at + 1) ≢ Open → length old.nodes < 4096 → IsSymbol new f (word_at bytes tokens old.at) 0 → Grows old.table new → Has (record old { at = old.at + 1; behind_term = true; nodes = old.nodes ++ App f 0 ∷ []; places = old.places ++ place_at bytes tokens old.at ∷ []; table = new })
-  after_constant old f new a head alone room s g = record {
+  after_constant : (old : State) (f : Sym) (new : Table) → Awaits old → head_at bytes tokens old.at ≡ Functor → terminal_at bytes tokens (old.at + 1) ≢ Open → length old.nodes < 4096 → IsSymbol new f (word_at bytes tokens old.at) 0 → Grows old.table new → new ≡ with_symbol old.table (word_at bytes tokens old.at) 0 → Has (record old { at = old.at + 1; behind_term = true; nodes = old.nodes ++ App f 0 ∷ []; places = old.places ++ place_at bytes tokens old.at ∷ []; table = new })
+  after_constant old f new a head alone room s g w = record {
     frames = a.frames;
     start = old.at;
     parse = applied old.at no_more;
@@ -134,6 +139,7 @@ module _ (bytes : List ℕ) (tokens : List Token) (from : ℕ) (seen : Variables
     mean = mean_frames_grow bytes tokens old.table new old.seen old.seen g (extends_not old.seen) a.frames a.mean;
     means = functor_means s none_mean;
     grows = grows_twice table old.table new a.grows g;
+    table_is = w ∙ ap (λ t. with_symbol t (word_at bytes tokens old.at) 0) a.table_is;
   }
 
   after_open : (old : State) → Awaits old → head_at bytes tokens old.at ≡ Functor → terminal_at bytes tokens (old.at + 1) ≡ Open → length old.nodes < 4096 → Awaits (record old { at = old.at + 2; nodes = old.nodes ++ blank ∷ []; places = old.places ++ place_at bytes tokens old.at ∷ []; pending = old.pending ++ record { functor = old.at; node = length old.nodes; number = 1 } ∷ [] })
@@ -146,7 +152,12 @@ module _ (bytes : List ℕ) (tokens : List Token) (from : ℕ) (seen : Variables
     seen_is = a.seen_is ∙ ap (λ ks. with_names seen (names_at ks)) (sym (append-nil (variables_of a.frames)));
     mean = (none_mean, a.mean);
     grows = a.grows;
+    table_is = a.table_is;
   }
+
+  -- with one more argument of the innermost frame
+  with_next : (old : State) (F : Frame) (fs : List Frame) (h : Has old) → h.frames ≡ F ∷ fs → old.table ≡ with_terms bytes tokens (with_frames bytes tokens table fs) (append F.done (also h.parse no_more))
+  with_next old F fs h e = h.table_is ∙ ap (λ gs. with_term bytes tokens (with_frames bytes tokens table gs) h.parse) e ∙ sym (with_terms_append bytes tokens (with_frames bytes tokens table fs) F.done (also h.parse no_more))
 
   module _ (old : State) (rest : List Pending) (top : Pending) (pends : old.pending ≡ rest ++ top ∷ []) where
     -- by the frames of what the reader has
@@ -169,11 +180,12 @@ module _ (bytes : List ℕ) (tokens : List Token) (from : ℕ) (seen : Variables
           seen_is = h.seen_is ∙ ap (λ gs. with_names seen (names_at (variables_of gs ++ variables h.parse))) e ∙ ap (λ ks. with_names seen (names_at ks)) (variables_next fs F h.parse);
           mean = (mean_append mean.0 (more_mean h.means none_mean), mean.1);
           grows = h.grows;
+          table_is = with_next old F fs h e;
         }
 
-    close_at : (frames : List Frame) (h : Has old) (f : Sym) (new : Table) → h.frames ≡ frames → terminal_at bytes tokens old.at ≡ Close → IsSymbol new f (word_at bytes tokens top.functor) top.number → Grows old.table new → Has (record old { at = old.at + 1; nodes = slice_set old.nodes top.node (App f top.number); pending = rest; table = new })
-    close_at [] h f new e close s g = absurd (not_snoc rest top (ap pending_of (sym e) ∙ sym h.pending ∙ pends))
-    close_at (F ∷ fs) h f new e close s g =
+    close_at : (frames : List Frame) (h : Has old) (f : Sym) (new : Table) → h.frames ≡ frames → terminal_at bytes tokens old.at ≡ Close → IsSymbol new f (word_at bytes tokens top.functor) top.number → Grows old.table new → new ≡ with_symbol old.table (word_at bytes tokens top.functor) top.number → Has (record old { at = old.at + 1; nodes = slice_set old.nodes top.node (App f top.number); pending = rest; table = new })
+    close_at [] h f new e close s g w = absurd (not_snoc rest top (ap pending_of (sym e) ∙ sym h.pending ∙ pends))
+    close_at (F ∷ fs) h f new e close s g w =
         let same : pending_of fs ++ record { functor = F.functor; node = length (content fs); number = count_all F.done + 1 } ∷ [] ≡ rest ++ top ∷ [] = ap pending_of (sym e) ∙ sym h.pending ∙ pends in
         let both = snoc_once (pending_of fs) rest (record { functor = F.functor; node = length (content fs); number = count_all F.done + 1 }) top same in
         let number : top.number ≡ count_all F.done + 1 = ap (λ (p : Pending). p.number) (sym both.1) in
@@ -199,16 +211,19 @@ module _ (bytes : List ℕ) (tokens : List Token) (from : ℕ) (seen : Variables
           mean = mean_frames_grow bytes tokens old.table new old.seen old.seen g (extends_not old.seen) fs mean.1;
           means = functor_means (rw (functor, counted) at s) (mean_all_grows bytes tokens old.table new old.seen old.seen g (extends_not old.seen) all);
           grows = grows_twice table old.table new h.grows g;
+          table_is =
+              let arguments : count_all (append F.done (also h.parse no_more)) ≡ top.number = omega (arith, number, count_append F.done (also h.parse no_more)) in
+              w ∙ rw (functor, arguments) (ap (λ t. with_symbol t (word_at bytes tokens F.functor) top.number) (with_next old F fs h e));
         }
 
   pub keeps : (old new : State) → Keeps old → Moves bytes tokens old new → Keeps new
   keeps old new k (reads_variable n behind head room at e) =
       let at_seen : slice_get (with_name old.seen (bytes_at bytes tokens old.at)) n ≡ Some (bytes_at bytes tokens old.at) = subst (λ (s : State). slice_get s.seen n ≡ Some (bytes_at bytes tokens old.at)) e at in
       subst Keeps (sym e) (after_variable old n (awaits k behind) head room at_seen)
-  keeps old new k (reads_constant f t behind head alone room s g e) = subst Keeps (sym e) (after_constant old f t (awaits k behind) head alone room s g)
+  keeps old new k (reads_constant f t behind head alone room s g w e) = subst Keeps (sym e) (after_constant old f t (awaits k behind) head alone room s g w)
   keeps old new k (opens_functor behind head bracket room e) = subst Keeps (sym e) (subst (λ b. KeepsAt b (record old { at = old.at + 2; nodes = old.nodes ++ blank ∷ []; places = old.places ++ place_at bytes tokens old.at ∷ []; pending = old.pending ++ record { functor = old.at; node = length old.nodes; number = 1 } ∷ [] })) (sym behind) (after_open old (awaits k behind) head bracket room))
   keeps old new k (goes_to_next rest top behind pends comma few e) = let h = has k behind in subst Keeps (sym e) (next_at old rest top pends h.frames h refl comma few)
-  keeps old new k (closes_functor rest top f t behind pends close s g e) = let h = has k behind in subst Keeps (sym e) (subst (λ b. KeepsAt b (record old { at = old.at + 1; nodes = slice_set old.nodes top.node (App f top.number); pending = rest; table = t })) (sym behind) (close_at old rest top pends h.frames h f t refl close s g))
+  keeps old new k (closes_functor rest top f t behind pends close s g w e) = let h = has k behind in subst Keeps (sym e) (subst (λ b. KeepsAt b (record old { at = old.at + 1; nodes = slice_set old.nodes top.node (App f top.number); pending = rest; table = t })) (sym behind) (close_at old rest top pends h.frames h f t refl close s g w))
 
   argument_stops : (old : State) (rest : List Pending) (top : Pending) → old.pending ≡ rest ++ top ∷ [] → (frames : List Frame) (h : Has old) → h.frames ≡ frames → terminal_at bytes tokens old.at ≡ Comma → 255 ≤ top.number → Term bytes tokens 0 from (stop Arity top.functor)
   argument_stops old rest top pends [] h e comma many = absurd (not_snoc rest top (ap pending_of (sym e) ∙ sym h.pending ∙ pends))
@@ -235,7 +250,7 @@ module _ (bytes : List ℕ) (tokens : List Token) (from : ℕ) (seen : Variables
   sticks old _ _ k (at_argument_too_many rest top behind pends comma many) = let h = has k behind in argument_stops old rest top pends h.frames h refl comma many
   sticks old _ _ k (behind_argument rest top behind pends close comma) = let h = has k behind in behind_stops old rest top pends h.frames h refl close comma
 
-  whole_at : (s : State) (frames : List Frame) (h : Has s) → h.frames ≡ frames → s.pending ≡ [] → IsRead bytes tokens from seen s
+  whole_at : (s : State) (frames : List Frame) (h : Has s) → h.frames ≡ frames → s.pending ≡ [] → IsRead bytes tokens from seen table s
   whole_at s (F ∷ fs) h e empty = absurd (not_snoc (pending_of fs) _ (sym empty ∙ h.pending ∙ ap pending_of e))
   whole_at s [] h e empty = record {
     parse = h.parse;
@@ -247,10 +262,11 @@ module _ (bytes : List ℕ) (tokens : List Token) (from : ℕ) (seen : Variables
     places = h.places ∙ ap (λ gs. places_at (leaves_of gs ++ leaves h.parse)) e;
     seen_is = h.seen_is ∙ ap (λ gs. with_names seen (names_at (variables_of gs ++ variables h.parse))) e;
     means = h.means;
+    table_is = h.table_is ∙ ap (λ gs. with_term bytes tokens (with_frames bytes tokens table gs) h.parse) e;
   }
 
   -- where no functor is pending behind a term, that is the whole term
-  pub whole : (s : State) → Keeps s → s.behind_term ≡ true → s.pending ≡ [] → IsRead bytes tokens from seen s
+  pub whole : (s : State) → Keeps s → s.behind_term ≡ true → s.pending ≡ [] → IsRead bytes tokens from seen table s
   whole s k behind empty = let h = has k behind in whole_at s h.frames h refl empty
 
 -- where the innermost pending functor stands
@@ -270,10 +286,10 @@ module _ (bytes : List ℕ) (tokens : List Token) (from : ℕ) (seen : Variables
 -- each step goes ahead among the tokens
 pub goes_ahead : (bytes : List ℕ) (tokens : List Token) (old new : State) → Moves bytes tokens old new → (old.at < new.at) × (old.at < length tokens)
 goes_ahead bytes tokens old new (reads_variable n behind head room at e) = (omega (arith, ap (λ (s : State). s.at) e), some_head bytes tokens old.at (λ none. cc))
-goes_ahead bytes tokens old new (reads_constant f t behind head alone room s g e) = (omega (arith, ap (λ (s : State). s.at) e), some_head bytes tokens old.at (λ none. cc))
+goes_ahead bytes tokens old new (reads_constant f t behind head alone room s g w e) = (omega (arith, ap (λ (s : State). s.at) e), some_head bytes tokens old.at (λ none. cc))
 goes_ahead bytes tokens old new (opens_functor behind head bracket room e) = (omega (arith, ap (λ (s : State). s.at) e), some_head bytes tokens old.at (λ none. cc))
 goes_ahead bytes tokens old new (goes_to_next rest top behind pends comma few e) = (omega (arith, ap (λ (s : State). s.at) e), some_other bytes tokens old.at Comma comma (λ none. cc))
-goes_ahead bytes tokens old new (closes_functor rest top f t behind pends close s g e) = (omega (arith, ap (λ (s : State). s.at) e), some_other bytes tokens old.at Close close (λ none. cc))
+goes_ahead bytes tokens old new (closes_functor rest top f t behind pends close s g w e) = (omega (arith, ap (λ (s : State). s.at) e), some_other bytes tokens old.at Close close (λ none. cc))
 
 pub stuck_stops : (bytes : List ℕ) (tokens : List Token) (from : ℕ) (seen : Variables) (table : Table) (old : State) (err : Stop) → Keeps bytes tokens from seen table old → IsStuck bytes tokens old err → Stops (Term bytes tokens 0 from) err
 stuck_stops bytes tokens from seen table old (At why k) keeps stuck = sticks bytes tokens from seen table old why k keeps stuck

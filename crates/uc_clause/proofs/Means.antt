@@ -7,7 +7,7 @@ use Rattle.uc_term.specs.Flat.{flat, flat_all}
 use Rattle.uc_term.specs.Table.{Table, Grows}
 use Rattle.uc_clause.specs.declared.token.Token.{Token}
 use Rattle.uc_clause.specs.Terminals.{word_at}
-use Rattle.uc_clause.specs.Parse.{Parse, Parses, no_more, also, leaves, leaves_all, variables, variables_all, size, size_all}
+use Rattle.uc_clause.specs.Parse.{Parse, Parses, no_more, also, leaves, leaves_all, variables, variables_all, count_all, size, size_all}
 use Rattle.uc_clause.specs.Meaning.{Variables, with_name, with_names, Means, MeanAll, variable_means, functor_means, none_mean, more_mean}
 use Rattle.uc_clause.proofs.Tables.{get_within, symbol_grows}
 
@@ -55,10 +55,6 @@ mutual
   pub size_mean_all : {bytes : List ℕ} {tokens : List Token} {table : Table} {seen : Variables} {ps : Parses} {ts : Trees} → MeanAll bytes tokens table seen ps ts → length (flat_all ts) ≡ size_all ps
   size_mean_all none_mean = refl
   size_mean_all (more_mean {t = t} {ts = ts} m all) = omega (arith, size_means m, size_mean_all all, length-append (flat t) (flat_all ts))
-
-abbrev pub count_all : Parses → ℕ
-count_all no_more = 0
-count_all (also p ps) = count_all ps + 1
 
 pub count_mean_all : {bytes : List ℕ} {tokens : List Token} {table : Table} {seen : Variables} {ps : Parses} {ts : Trees} → MeanAll bytes tokens table seen ps ts → count ts ≡ count_all ps
 count_mean_all none_mean = refl

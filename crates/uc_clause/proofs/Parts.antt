@@ -7,11 +7,14 @@ use Rattle.uc_clause.specs.declared.token.Token.{Token}
 use Rattle.uc_clause.specs.declared.grammar.draft.Draft.{Draft}
 use Rattle.uc_clause.specs.declared.grammar.term.Part.{Part}
 use Rattle.uc_clause.specs.Meaning.{Variables, Means}
+use Rattle.uc_clause.specs.Rules.{read}
+use Rattle.uc_clause.specs.Terms.{Term}
+use Rattle.uc_clause.specs.Interning.{InternsAt, with_term}
 use Rattle.uc_clause.specs.Drafts.{state_of, IsRead, IsPart}
 use Rattle.uc_clause.proofs.Means.{size_means}
 use Rattle.uc_clause.proofs.Sizes.{term_small}
 
-module _ (bytes : List ℕ) (tokens : List Token) (from : ℕ) (seen : Variables) (draft : Draft) (more_seen : Variables) (table : Table) (r : IsRead bytes tokens from seen (state_of draft more_seen table)) where
+module _ (bytes : List ℕ) (tokens : List Token) (from : ℕ) (seen : Variables) (old : Table) (draft : Draft) (more_seen : Variables) (table : Table) (r : IsRead bytes tokens from seen old (state_of draft more_seen table)) where
   pub read_whole : IsWhole draft.nodes.items
   read_whole = rw (r.nodes, tree_of-flat r.tree) refl
 
@@ -29,3 +32,11 @@ module _ (bytes : List ℕ) (tokens : List Token) (from : ℕ) (seen : Variables
         seen_is = r.seen_is;
         means = subst (λ t. Means bytes tokens table more_seen r.parse t) (sym (ap tree_of r.nodes ∙ tree_of-flat r.tree)) r.means;
       })
+
+  -- what is read makes the new table
+  pub read_interns : (part : Part) → part ≡ record { term = tree_of draft.nodes.items; places = draft.places; end = draft.at } → InternsAt (Term bytes tokens 0 from) (with_term bytes tokens) old table part.end
+  read_interns part e = record {
+    parse = r.parse;
+    reads = subst (λ k. Term bytes tokens 0 from (read r.parse k)) (sym (ap (λ (p : Part). p.end) e)) r.reads;
+    new_is = r.table_is;
+  }

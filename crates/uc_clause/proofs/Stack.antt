@@ -11,11 +11,11 @@ use Rattle.uc_clause.specs.declared.grammar.draft.Pending.{Pending}
 use Rattle.uc_clause.specs.declared.grammar.stop.Why.{Why}
 use Rattle.uc_clause.specs.Terminals.{terminal_at}
 use Rattle.uc_clause.specs.Rules.{Outcome, read, stop, mapped}
-use Rattle.uc_clause.specs.Parse.{Parse, applied, Parses, no_more, also, leaves_all, variables_all, size}
+use Rattle.uc_clause.specs.Parse.{Parse, applied, Parses, no_more, also, leaves_all, variables_all, count_all, size}
 use Rattle.uc_clause.specs.Terms.{head_at, Term, Args, is_applied, stops_in_it, is_last, is_followed}
 use Rattle.uc_clause.specs.Meaning.{Variables, MeanAll}
 use Rattle.uc_clause.specs.Drafts.{blank}
-use Rattle.uc_clause.proofs.Means.{Extends, mean_all_grows, count_all, append, append_trees, append_also, count_append, flat_append}
+use Rattle.uc_clause.proofs.Means.{Extends, mean_all_grows, append, append_trees, append_also, count_append, flat_append}
 
 -- a functor, by its token, and its arguments before the present one
 pub record Frame : Type 0 where

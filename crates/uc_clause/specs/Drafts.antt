@@ -21,6 +21,7 @@ use Rattle.uc_clause.specs.Terminals.{terminal_at, bytes_at, word_at, place_at}
 use Rattle.uc_clause.specs.Rules.{read}
 use Rattle.uc_clause.specs.Parse.{Parse, leaves}
 use Rattle.uc_clause.specs.Terms.{head_at, Term}
+use Rattle.uc_clause.specs.Interning.{with_symbol, with_term}
 use Rattle.uc_clause.specs.Meaning.{Variables, with_name, with_names, variables_in, Means}
 
 -- all that a term's reader has at a token
@@ -51,10 +52,10 @@ blank = App (record { 0 = 0 }) 0
 -- one step of the reader
 pub data Moves (bytes : List ℕ) (tokens : List Token) (old new : State) : Type 0 where
   reads_variable : (n : ℕ) → old.behind_term ≡ false → head_at bytes tokens old.at ≡ Variable → length old.nodes < 4096 → slice_get new.seen n ≡ Some (bytes_at bytes tokens old.at) → new ≡ record old { at = old.at + 1; behind_term = true; nodes = old.nodes ++ Var n ∷ []; places = old.places ++ place_at bytes tokens old.at ∷ []; seen = with_name old.seen (bytes_at bytes tokens old.at) } → Moves bytes tokens old new
-  reads_constant : (f : Sym) (table : Table) → old.behind_term ≡ false → head_at bytes tokens old.at ≡ Functor → terminal_at bytes tokens (old.at + 1) ≢ Open → length old.nodes < 4096 → IsSymbol table f (word_at bytes tokens old.at) 0 → Grows old.table table → new ≡ record old { at = old.at + 1; behind_term = true; nodes = old.nodes ++ App f 0 ∷ []; places = old.places ++ place_at bytes tokens old.at ∷ []; table = table } → Moves bytes tokens old new
+  reads_constant : (f : Sym) (table : Table) → old.behind_term ≡ false → head_at bytes tokens old.at ≡ Functor → terminal_at bytes tokens (old.at + 1) ≢ Open → length old.nodes < 4096 → IsSymbol table f (word_at bytes tokens old.at) 0 → Grows old.table table → table ≡ with_symbol old.table (word_at bytes tokens old.at) 0 → new ≡ record old { at = old.at + 1; behind_term = true; nodes = old.nodes ++ App f 0 ∷ []; places = old.places ++ place_at bytes tokens old.at ∷ []; table = table } → Moves bytes tokens old new
   opens_functor : old.behind_term ≡ false → head_at bytes tokens old.at ≡ Functor → terminal_at bytes tokens (old.at + 1) ≡ Open → length old.nodes < 4096 → new ≡ record old { at = old.at + 2; nodes = old.nodes ++ blank ∷ []; places = old.places ++ place_at bytes tokens old.at ∷ []; pending = old.pending ++ record { functor = old.at; node = length old.nodes; number = 1 } ∷ [] } → Moves bytes tokens old new
   goes_to_next : (rest : List Pending) (top : Pending) → old.behind_term ≡ true → old.pending ≡ rest ++ top ∷ [] → terminal_at bytes tokens old.at ≡ Comma → top.number < 255 → new ≡ record old { at = old.at + 1; behind_term = false; pending = rest ++ record top { number = top.number + 1 } ∷ [] } → Moves bytes tokens old new
-  closes_functor : (rest : List Pending) (top : Pending) (f : Sym) (table : Table) → old.behind_term ≡ true → old.pending ≡ rest ++ top ∷ [] → terminal_at bytes tokens old.at ≡ Close → IsSymbol table f (word_at bytes tokens top.functor) top.number → Grows old.table table → new ≡ record old { at = old.at + 1; nodes = slice_set old.nodes top.node (App f top.number); pending = rest; table = table } → Moves bytes tokens old new
+  closes_functor : (rest : List Pending) (top : Pending) (f : Sym) (table : Table) → old.behind_term ≡ true → old.pending ≡ rest ++ top ∷ [] → terminal_at bytes tokens old.at ≡ Close → IsSymbol table f (word_at bytes tokens top.functor) top.number → Grows old.table table → table ≡ with_symbol old.table (word_at bytes tokens top.functor) top.number → new ≡ record old { at = old.at + 1; nodes = slice_set old.nodes top.node (App f top.number); pending = rest; table = table } → Moves bytes tokens old new
 
 -- the reader can't go on
 pub data Sticks (bytes : List ℕ) (tokens : List Token) (old : State) : Why → ℕ → Type 0 where
@@ -67,8 +68,8 @@ abbrev pub IsStuck : List ℕ → List Token → State → Stop → Type 0
 IsStuck bytes tokens old (At why k) = Sticks bytes tokens old why k
 IsStuck bytes tokens old NoMemory = Unit {0}
 
--- from the token `from` on the reader has read a whole term
-pub record IsRead (bytes : List ℕ) (tokens : List Token) (from : ℕ) (seen : Variables) (s : State) : Type 0 where
+-- from the token `from` on, with these variables and this table before it, the reader has read a whole term
+pub record IsRead (bytes : List ℕ) (tokens : List Token) (from : ℕ) (seen : Variables) (table : Table) (s : State) : Type 0 where
   pub parse : Parse
   pub tree : Tree
   pub reads : Term bytes tokens 0 from (read parse s.at)
@@ -76,6 +77,7 @@ pub record IsRead (bytes : List ℕ) (tokens : List Token) (from : ℕ) (seen : 
   pub places : s.places ≡ map (place_at bytes tokens) (leaves parse)
   pub seen_is : s.seen ≡ with_names seen (variables_in bytes tokens parse)
   pub means : Means bytes tokens s.table s.seen parse tree
+  pub table_is : s.table ≡ with_term bytes tokens table parse
 
 -- from the token `from` on this part is read
 pub record IsPart (bytes : List ℕ) (tokens : List Token) (from : ℕ) (seen more_seen : Variables) (table : Table) (part : Part) : Type 0 where

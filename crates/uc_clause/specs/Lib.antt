@@ -13,6 +13,7 @@ pub mod Items
 pub mod Meaning
 pub mod Refusals
 pub mod Reading
+pub mod Interning
 pub mod Printable
 pub mod First
 pub mod Pieces

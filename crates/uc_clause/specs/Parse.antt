@@ -43,6 +43,11 @@ abbrev mutual
   size_all no_more = 0
   size_all (also p ps) = size p + size_all ps
 
+-- how many terms
+abbrev pub count_all : Parses → ℕ
+count_all no_more = 0
+count_all (also p ps) = count_all ps + 1
+
 pub record Sides : Type 0 where
   pub left : Parse
   pub right : Parse

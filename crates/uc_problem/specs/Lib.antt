@@ -8,4 +8,5 @@ pub mod Assembly
 pub mod Marks
 pub mod NameSets
 pub mod Encodes
+pub mod Filling
 pub mod Kinds

@@ -4,6 +4,7 @@ ghost use Rattle.std.specs.Prelude.{◌≡◌, ◌≤◌, ◌∷◌, ◌++◌, [
 ghost use Rattle.uc_term.specs.Table.{Grows};
 ghost use Rattle.uc_term.specs.Signatures.{IsSignatureOf};
 ghost use Rattle.uc_problem.specs.Holds.{Agrees, terms_of, numbers_of};
+ghost use Rattle.uc_problem.specs.Filling.{AddsOne};
 ghost use Rattle.uc_problem.specs.Assembly.{AreSoundFew, HasNoSignature};
 
 use crate::locating::refusal;
@@ -23,6 +24,7 @@ pub(crate) fn assemble(
     ensures agrees { IfOk result (Agrees symbols.new) }
     ensures refused { IfErr result (HasNoSignature symbols.new clauses) }
     ensures grows { Grows symbols.old symbols.new }
+    ensures least { IfOk result (λ problem. AddsOne symbols.old symbols.new problem.signature.least) }
 {
     let signature = signature_of(alloc, clauses.as_slice(), symbols)?;
     let axioms = numbers_of(alloc, clauses.as_slice(), true)?;
@@ -60,6 +62,7 @@ fn signature_of(
     ensures signature { IfOk result (IsSignatureOf symbols.new (terms_of clauses.now)) }
     ensures refused { IfErr result (HasNoSignature symbols.new clauses.now) }
     ensures grows { Grows symbols.old symbols.new }
+    ensures least { IfOk result (λ signature. AddsOne symbols.old symbols.new signature.least) }
 {
     let terms = terms_of(alloc, clauses)?;
     match Signature::of(alloc, symbols, terms.as_slice()) {

@@ -8,6 +8,7 @@ ghost use Rattle.uc_term.specs.Encoding.{encoded, reflexive, refuted};
 ghost use Rattle.uc_check.specs.Clauses.{AreFresh, equation_of, axioms_of};
 ghost use Rattle.uc_problem.specs.Holds.{Agrees, numbers_of};
 ghost use Rattle.uc_problem.specs.Marks.{is_open_goal, is_too_large};
+ghost use Rattle.uc_problem.specs.Filling.{AddsMarks};
 ghost use Rattle.uc_problem.specs.Encodes.{IsEncoded, encoding_of, equations_where, numbers_where, is_ground_goal, last_goal, signature_with};
 ghost use Rattle.uc_problem.specs.Kinds.{is_of, AreGoals};
 ghost use Rattle.uc_problem.specs.declared.problem.Source.TheVariants as source;
@@ -42,6 +43,7 @@ pub fn encode(
     ensures encoded { IsEncoded symbols.new problem.now result }
     ensures fresh { IfOk result (λ encoded. AreFresh encoded.fresh problem.now.clauses) }
     ensures grows { Grows symbols.old symbols.new }
+    ensures adds { IfOk result (λ encoded. AddsMarks symbols.old symbols.new encoded.fresh) }
 {
     match marks(alloc, problem, symbols)? {
         Some(fresh) => Ok(with_marks(alloc, problem, fresh)?),

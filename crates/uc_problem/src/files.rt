@@ -5,6 +5,7 @@ ghost use Rattle.std.specs.Option.{option_copied};
 ghost use Rattle.uc_term.specs.Table.{Grows};
 ghost use Rattle.uc_problem.specs.Fetching.{cut};
 ghost use Rattle.uc_problem.specs.Holds.{ReadsAs};
+ghost use Rattle.uc_problem.specs.Filling.{WhereTold, FillsFile, FillsItem, FillsInclude};
 ghost use Rattle.uc_problem.specs.Loading.{LoadsFile};
 ghost use Rattle.uc_problem.specs.Parts.{IsPart, ItemComesTo, IsNotRead, IsTaken, IsSelection};
 ghost use Rattle.uc_problem.specs.Sound.{IsSoundItem, IsSoundPart};
@@ -46,6 +47,7 @@ pub(crate) fn load_file<L: Library>(
     ensures part { IsPart (L.holds library.old) (L.faults library.old) (L.faults library.new) symbols.new counts.new (λ files T failing loaded. (whole : List ℕ) → bytes.now ≡ cut whole → LoadsFile (ReadsAs T) files failing search.entry.folder.now (option_copied search.entry.root) depth name.now whole counts.old loaded) result }
     ensures sound { IfOk result (IsSoundPart symbols.new counts.old counts.new) }
     ensures grows { Grows symbols.old symbols.new }
+    ensures fills { IfOk result (λ _. WhereTold (L.holds library.old) (λ files. (whole : List ℕ) → bytes.now ≡ cut whole → FillsFile files search.entry.folder.now (option_copied search.entry.root) whole symbols.old symbols.new)) }
     ensures same { L.holds library.new ≡ L.holds library.old }
     ensures later { L.faults library.old ≤ L.faults library.new }
 {
@@ -89,6 +91,7 @@ fn load_item<L: Library>(
     ensures part { IsPart (L.holds library.old) (L.faults library.old) (L.faults library.new) symbols.new counts.new (ItemComesTo search.entry.folder.now (option_copied search.entry.root) depth name.now counts.old item) result }
     ensures sound { IsSoundItem symbols.old item → IfOk result (IsSoundPart symbols.new counts.old counts.new) }
     ensures grows { Grows symbols.old symbols.new }
+    ensures fills { IfOk result (λ _. WhereTold (L.holds library.old) (λ files. FillsItem files search.entry.folder.now (option_copied search.entry.root) item symbols.old symbols.new)) }
     ensures same { L.holds library.new ≡ L.holds library.old }
     ensures later { L.faults library.old ≤ L.faults library.new }
 {
@@ -142,6 +145,7 @@ fn load_include<L: Library>(
     ensures part { IsPart (L.holds library.old) (L.faults library.old) (L.faults library.new) symbols.new counts.new (ItemComesTo search.entry.folder.now (option_copied search.entry.root) depth name.now counts.old (Item.Include include.now)) result }
     ensures sound { IfOk result (IsSoundPart symbols.new counts.old counts.new) }
     ensures grows { Grows symbols.old symbols.new }
+    ensures fills { IfOk result (λ _. WhereTold (L.holds library.old) (λ files. FillsInclude files search.entry.folder.now (option_copied search.entry.root) include.now symbols.old symbols.new)) }
     ensures same { L.holds library.new ≡ L.holds library.old }
     ensures later { L.faults library.old ≤ L.faults library.new }
 {

@@ -4,6 +4,7 @@ ghost use Rattle.std.specs.Prelude.{◌≡◌, ◌≤◌, IfOk, IfErr};
 ghost use Rattle.std.specs.Option.{option_copied};
 ghost use Rattle.uc_term.specs.Table.{Grows};
 ghost use Rattle.uc_problem.specs.Holds.{IsProblem, IsLoadFault, Agrees};
+ghost use Rattle.uc_problem.specs.Filling.{WhereTold, FillsProblem, IsFilled};
 ghost use Rattle.uc_problem.specs.Assembly.{IsFlat, AreSoundFew};
 
 use crate::assembly::assemble;
@@ -40,6 +41,7 @@ pub fn load<L: Library>(
     ensures agrees { IfOk result (Agrees symbols.new) }
     ensures refused { IfErr result (IsLoadFault symbols.new (L.holds library.old) (L.faults library.old) (L.faults library.new) (option_copied root.entry) name.now) }
     ensures grows { Grows symbols.old symbols.new }
+    ensures filled { IfOk result (λ problem. WhereTold (L.holds library.old) (λ files. IsFilled files (option_copied root.entry) name.now symbols.old symbols.new problem)) }
     ensures same { L.holds library.new ≡ L.holds library.old }
     ensures later { L.faults library.old ≤ L.faults library.new }
 {
@@ -58,6 +60,7 @@ fn flat_clauses<L: Library>(
     ensures flat { IsFlat symbols.new (L.holds library.old) (L.faults library.old) (L.faults library.new) (option_copied root.entry) name.now result }
     ensures sound { IfOk result (AreSoundFew symbols.new) }
     ensures grows { Grows symbols.old symbols.new }
+    ensures fills { IfOk result (λ _. WhereTold (L.holds library.old) (λ files. FillsProblem files (option_copied root.entry) name.now symbols.old symbols.new)) }
     ensures same { L.holds library.new ≡ L.holds library.old }
     ensures later { L.faults library.old ≤ L.faults library.new }
 {

@@ -1,12 +1,13 @@
 //! The symbols by which a problem is encoded.
 
-ghost use Rattle.std.specs.Prelude.{◌≡◌, false, IfOk};
+ghost use Rattle.std.specs.Prelude.{◌≡◌, false, Some, IfOk};
 ghost use Rattle.std.specs.List.{list_any};
 ghost use Rattle.uc_term.specs.Table.{Grows};
 ghost use Rattle.uc_term.specs.Gathering.{HasAll};
 ghost use Rattle.uc_term.specs.Variables.{has_variable};
 ghost use Rattle.uc_check.specs.Clauses.{AreFresh, HasGoalIfEncoded};
 ghost use Rattle.uc_problem.specs.Holds.{Agrees, numbers_of};
+ghost use Rattle.uc_problem.specs.Filling.{AddsMarks};
 ghost use Rattle.uc_problem.specs.Marks.{AreMarks, IsMarked, is_open_goal, is_too_large, first_large};
 
 use crate::{EncodeFault, Problem};
@@ -31,6 +32,7 @@ pub fn marks(
     ensures fresh { IfOk result (λ marks. AreFresh marks problem.now.clauses) }
     ensures has_goal { IfOk result (λ marks. HasGoalIfEncoded marks problem.now.clauses) }
     ensures grows { Grows symbols.old symbols.new }
+    ensures adds { IfOk result (AddsMarks symbols.old symbols.new) }
 {
     let clauses = problem.clauses.as_slice();
     if let Some(number) = first_too_large(clauses, problem.goals.as_slice()) {
@@ -47,6 +49,7 @@ fn new_marks(alloc: Global, problem: &Problem, symbols: &mut Symbols) -> Result<
     requires { HasAll symbols.old problem.now.signature.symbols }
     ensures marks { IfOk result (AreMarks symbols.new problem.now) }
     ensures grows { Grows symbols.old symbols.new }
+    ensures adds { IfOk result (λ marks. AddsMarks symbols.old symbols.new (Some marks)) }
 {
     let taken = problem.signature.symbols.as_slice();
     let eq = add_fresh(alloc, symbols, taken, b"eq", 2)?;

@@ -1,12 +1,13 @@
 //! A term, or an equation of two, that is a whole text.
 
-ghost use Rattle.std.specs.Prelude.{◌≡◌, ◌<◌, ◌^◌, Ok, Err, length, IfOk, IfErr};
+ghost use Rattle.std.specs.Prelude.{◌≡◌, ◌<◌, ◌^◌, ℕ, Ok, Err, length, IfOk, IfErr};
 ghost use Rattle.uc_term.specs.Tree.{Tree};
 ghost use Rattle.uc_term.specs.Table.{Grows};
 ghost use Rattle.uc_clause.specs.Tokens.{AreTokens};
 ghost use Rattle.uc_clause.specs.Rules.{Stops};
 ghost use Rattle.uc_clause.specs.Items.{term_alone, equals_alone};
 ghost use Rattle.uc_clause.specs.Reading.{ReadsTerm, ReadsEquation, Refuses, IsFault, IsUnlessMemory, IsAnswer};
+ghost use Rattle.uc_clause.specs.Interning.{InternsAt, InternsEquation, with_sides};
 ghost use Rattle.uc_clause.specs.Sides.{IsTermAlone, IsEquationAlone};
 ghost use Rattle.uc_clause.specs.declared.fault.ClauseFault.{ClauseFault};
 
@@ -86,6 +87,7 @@ pub fn read_equation(
     ensures complete { (pair : Tree × Tree) → ReadsEquation bytes.now symbols.new pair → IsUnlessMemory (Ok pair) result }
     ensures refuses { (fault : ClauseFault) → Refuses equals_alone bytes.now fault → IsUnlessMemory (Err fault) result }
     ensures grows { Grows symbols.old symbols.new }
+    ensures interns { IfOk result (λ _. InternsEquation bytes.now symbols.old symbols.new) }
 {
     let result = equation_of(alloc, bytes, symbols);
     // The entries of the table are all different, so what was read is the only reading.
@@ -102,6 +104,7 @@ fn equation_of(
     requires { length bytes.now < 2 ^ 31 }
     ensures answer { IsAnswer (ReadsEquation bytes.now symbols.new) (Refuses equals_alone bytes.now) result }
     ensures grows { Grows symbols.old symbols.new }
+    ensures interns { IfOk result (λ _. InternsEquation bytes.now symbols.old symbols.new) }
 {
     let list = tokens(alloc, bytes)?;
     match equation_in(alloc, bytes, list.as_slice(), symbols) {
@@ -121,6 +124,7 @@ fn equation_in(
     ensures reads { IfOk result (IsEquationAlone bytes.now tokens.now symbols.new) }
     ensures stops { IfErr result (Stops (equals_alone bytes.now tokens.now 0)) }
     ensures grows { Grows symbols.old symbols.new }
+    ensures interns { IfOk result (λ _. (end : ℕ) × InternsAt (equals_alone bytes.now tokens.now 0) (with_sides bytes.now tokens.now) symbols.old symbols.new end) }
 {
     let mut variables = Variables::new(alloc);
     let pair = equals_at(alloc, bytes, tokens, 0, &mut variables, symbols)?;

@@ -58,7 +58,7 @@ impl Draft {
         symbols: &mut Symbols,
     ) -> Result<Draft, Stop>
         requires tokens { AreTokens bytes.now tokens.now }
-        ensures reads { IfOk result (λ draft. IsRead bytes.now tokens.now from variables.old (state_of draft variables.new symbols.new)) }
+        ensures reads { IfOk result (λ draft. IsRead bytes.now tokens.now from variables.old symbols.old (state_of draft variables.new symbols.new)) }
         ensures stops { IfErr result (λ e. Stops (Reads bytes.now tokens.now 0 from) e) }
         ensures grows { Grows symbols.old symbols.new }
     {

@@ -11,6 +11,7 @@ ghost use Rattle.uc_clause.specs.Tokens.{AreTokens};
 ghost use Rattle.uc_clause.specs.Rules.{Stops};
 ghost use Rattle.uc_clause.specs.Items as items;
 ghost use Rattle.uc_clause.specs.Meaning.{IsName, AreNames, MeansInclude, AreSelected};
+ghost use Rattle.uc_clause.specs.Interning.{InternsAt, InternsFile, with_clause, with_item, with_items};
 ghost use Rattle.uc_clause.specs.Given.{ReadsFormula, ReadsClauseAt, ReadsItemAt, ReadsLiteralAt, AreItems, StopsWith};
 
 use super::item::{heading_at, inclusion_at, opening_of};
@@ -37,6 +38,7 @@ fn formula_at(
     ensures reads { IfOk result (λ r. ReadsFormula bytes.now tokens.now from symbols.new r.0 r.1 r.2) }
     ensures stops { IfErr result (Stops (items.cnf bytes.now tokens.now from)) }
     ensures grows { Grows symbols.old symbols.new }
+    ensures interns { IfOk result (λ r. InternsAt (items.cnf bytes.now tokens.now from) (with_clause bytes.now tokens.now) symbols.old symbols.new r.2) }
 {
     let (heading, at) = heading_at(bytes, tokens, from)?;
     let mut variables = Variables::new(alloc);
@@ -71,6 +73,7 @@ fn cnf_at(
     ensures reads { IfOk result (λ r. ReadsClauseAt bytes.now tokens.now from symbols.new r.0 r.1) }
     ensures stops { IfErr result (Stops (items.cnf bytes.now tokens.now from)) }
     ensures grows { Grows symbols.old symbols.new }
+    ensures interns { IfOk result (λ r. InternsAt (items.cnf bytes.now tokens.now from) (with_clause bytes.now tokens.now) symbols.old symbols.new r.1) }
 {
     let (heading, equation, end) = formula_at(alloc, bytes, tokens, from, symbols)?;
     let name = name_of(alloc, bytes, tokens, heading.name)?;
@@ -163,6 +166,7 @@ pub(crate) fn item_in(
     ensures reads { IfOk result (λ r. ReadsItemAt bytes.now tokens.now from symbols.new r.0 r.1) }
     ensures stops { IfErr result (Stops (items.Item bytes.now tokens.now from)) }
     ensures grows { Grows symbols.old symbols.new }
+    ensures interns { IfOk result (λ r. InternsAt (items.Item bytes.now tokens.now from) (with_item bytes.now tokens.now) symbols.old symbols.new r.1) }
 {
     match opening_of(
         terminal_at(bytes, tokens, from),
@@ -193,6 +197,7 @@ fn items_in(
     ensures reads { IfOk result (AreItems bytes.now tokens.now symbols.new) }
     ensures stops { IfErr result (Stops (items.Items bytes.now tokens.now 0)) }
     ensures grows { Grows symbols.old symbols.new }
+    ensures interns { IfOk result (λ _. (end : ℕ) × InternsAt (items.Items bytes.now tokens.now 0) (with_items bytes.now tokens.now) symbols.old symbols.new end) }
 {
     let mut found = Vec::new(alloc);
     let mut at = 0;
@@ -230,6 +235,7 @@ pub fn read_items(
     ensures complete { (found : List Item) → ReadsFile bytes.now symbols.new found → IsUnlessMemory (Ok found) result }
     ensures refuses { (fault : ClauseFault) → RefusesFile bytes.now fault → IsUnlessMemory (Err fault) result }
     ensures grows { Grows symbols.old symbols.new }
+    ensures interns { IfOk result (λ _. InternsFile bytes.now symbols.old symbols.new) }
 {
     if bytes.len() > MAX_BYTES {
         return Err(ClauseFault::Limit(Place { line: 1, column: 1 }, What::Bytes));
@@ -245,6 +251,7 @@ fn items_of(alloc: Global, bytes: &[u8], symbols: &mut Symbols) -> Result<Seq<It
     requires { length bytes.now < 2 ^ 31 }
     ensures answer { IsAnswer (ReadsBy items.Items (SaysItems symbols.new) bytes.now) (Refuses items.Items bytes.now) result }
     ensures grows { Grows symbols.old symbols.new }
+    ensures interns { IfOk result (λ _. InternsFile bytes.now symbols.old symbols.new) }
 {
     let list = tokens(alloc, bytes)?;
     match items_in(alloc, bytes, list.as_slice(), symbols) {

@@ -7,6 +7,7 @@ ghost use Rattle.uc_clause.specs.Terminals.{terminal_at};
 ghost use Rattle.uc_clause.specs.Rules.{Stops};
 ghost use Rattle.uc_clause.specs.Terms.{Term as ReadsTerm};
 ghost use Rattle.uc_clause.specs.Items as items;
+ghost use Rattle.uc_clause.specs.Interning.{InternsAt, with_term, with_sides, with_literal};
 ghost use Rattle.uc_clause.specs.Sides.{AddsSide, ReadsPair, ReadsLiteral};
 
 use super::term::{Part, part_at};
@@ -44,6 +45,7 @@ fn right_at(
     ensures adds { IfOk result (AddsSide bytes.now tokens.now left at variables.old variables.new symbols.new) }
     ensures stops { IfErr result (Stops (ReadsTerm bytes.now tokens.now 0 at)) }
     ensures grows { Grows symbols.old symbols.new }
+    ensures interns { IfOk result (λ pair. InternsAt (ReadsTerm bytes.now tokens.now 0 at) (with_term bytes.now tokens.now) symbols.old symbols.new pair.end) }
 {
     let right = part_at(alloc, bytes, tokens, at, variables, symbols)?;
     let Part {
@@ -73,6 +75,7 @@ pub(crate) fn equals_at(
     ensures reads { IfOk result (ReadsPair (items.equals bytes.now tokens.now) bytes.now tokens.now from variables.old variables.new symbols.new) }
     ensures stops { IfErr result (Stops (items.equals bytes.now tokens.now from)) }
     ensures grows { Grows symbols.old symbols.new }
+    ensures interns { IfOk result (λ pair. InternsAt (items.equals bytes.now tokens.now from) (with_sides bytes.now tokens.now) symbols.old symbols.new pair.end) }
 {
     let left = part_at(alloc, bytes, tokens, from, variables, symbols)?;
     if !stands_at(bytes, tokens, left.end, Terminal::Equal) {
@@ -120,6 +123,7 @@ fn equation_at(
     ensures reads { IfOk result (ReadsLiteral (items.equation bytes.now tokens.now) bytes.now tokens.now from variables.old variables.new symbols.new) }
     ensures stops { IfErr result (Stops (items.equation bytes.now tokens.now from)) }
     ensures grows { Grows symbols.old symbols.new }
+    ensures interns { IfOk result (λ equation. InternsAt (items.equation bytes.now tokens.now from) (with_literal bytes.now tokens.now) symbols.old symbols.new equation.pair.end) }
 {
     let left = part_at(alloc, bytes, tokens, from, variables, symbols)?;
     let Some(positive) = sign_of(terminal_at(bytes, tokens, left.end)) else {
@@ -144,6 +148,7 @@ fn bracketed_at(
     ensures reads { IfOk result (ReadsPair (items.equals_in_brackets bytes.now tokens.now) bytes.now tokens.now from variables.old variables.new symbols.new) }
     ensures stops { IfErr result (Stops (items.equals_in_brackets bytes.now tokens.now from)) }
     ensures grows { Grows symbols.old symbols.new }
+    ensures interns { IfOk result (λ pair. InternsAt (items.equals_in_brackets bytes.now tokens.now from) (with_sides bytes.now tokens.now) symbols.old symbols.new pair.end) }
 {
     let pair = equals_at(alloc, bytes, tokens, from + 1, variables, symbols)?;
     if !stands_at(bytes, tokens, pair.end, Terminal::Close) {
@@ -166,6 +171,7 @@ fn denied_at(
     ensures reads { IfOk result (ReadsPair (items.denied bytes.now tokens.now) bytes.now tokens.now from variables.old variables.new symbols.new) }
     ensures stops { IfErr result (Stops (items.denied bytes.now tokens.now from)) }
     ensures grows { Grows symbols.old symbols.new }
+    ensures interns { IfOk result (λ pair. InternsAt (items.denied bytes.now tokens.now from) (with_sides bytes.now tokens.now) symbols.old symbols.new pair.end) }
 {
     if stands_at(bytes, tokens, from, Terminal::Open) {
         bracketed_at(alloc, bytes, tokens, from, variables, symbols)
@@ -187,6 +193,7 @@ pub(crate) fn equation_or_denial_at(
     ensures reads { IfOk result (ReadsLiteral (items.literal bytes.now tokens.now) bytes.now tokens.now from variables.old variables.new symbols.new) }
     ensures stops { IfErr result (Stops (items.literal bytes.now tokens.now from)) }
     ensures grows { Grows symbols.old symbols.new }
+    ensures interns { IfOk result (λ equation. InternsAt (items.literal bytes.now tokens.now from) (with_literal bytes.now tokens.now) symbols.old symbols.new equation.pair.end) }
 {
     if stands_at(bytes, tokens, from, Terminal::Tilde) {
         let pair = denied_at(alloc, bytes, tokens, from + 1, variables, symbols)?;
@@ -217,6 +224,7 @@ pub(crate) fn clause_at(
     ensures reads { IfOk result (ReadsLiteral (items.Clause bytes.now tokens.now brackets) bytes.now tokens.now from variables.old variables.new symbols.new) }
     ensures stops { IfErr result (Stops (items.Clause bytes.now tokens.now brackets from)) }
     ensures grows { Grows symbols.old symbols.new }
+    ensures interns { IfOk result (λ equation. InternsAt (items.Clause bytes.now tokens.now brackets from) (with_literal bytes.now tokens.now) symbols.old symbols.new equation.pair.end) }
 {
     if !stands_at(bytes, tokens, from, Terminal::Open) {
         return equation_or_denial_at(alloc, bytes, tokens, from, variables, symbols);

@@ -9,6 +9,7 @@ ghost use Rattle.uc_clause.specs.declared.grammar.stop.Why.{Why};
 ghost use Rattle.uc_clause.specs.Terms.{Term as Reads};
 ghost use Rattle.uc_clause.specs.Reading.{ReadsTermAt};
 ghost use Rattle.uc_clause.specs.Drafts.{IsPart};
+ghost use Rattle.uc_clause.specs.Interning.{InternsAt, with_term};
 
 use super::draft::Draft;
 use crate::{Place, Stop, Token, Variables};
@@ -36,6 +37,7 @@ pub(crate) fn part_at(
     ensures reads { IfOk result (IsPart bytes.now tokens.now from variables.old variables.new symbols.new) }
     ensures stops { IfErr result (Stops (Reads bytes.now tokens.now 0 from)) }
     ensures grows { Grows symbols.old symbols.new }
+    ensures interns { IfOk result (λ part. InternsAt (Reads bytes.now tokens.now 0 from) (with_term bytes.now tokens.now) symbols.old symbols.new part.end) }
 {
     let draft = Draft::read(alloc, bytes, tokens, from, variables, symbols)?;
     Ok(draft.into_part())

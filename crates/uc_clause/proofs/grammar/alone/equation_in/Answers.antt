@@ -1,5 +1,5 @@
 use Rattle.std.proofs.lemmas.Result.{err_from_is_err_and}
-use Rattle.uc_clause.proofs.Alone.{alone_equals_stops, alone_equals_more, alone_equals}
+use Rattle.uc_clause.proofs.Alone.{alone_equals_stops, alone_equals_more, alone_equals, alone_interns}
 use Rattle.uc_clause.proofs.grammar.alone.equation_in.Goals as goal
 
 pub returns-in_err-pair-clause-stops : goal.returns-in_err-pair-clause-stops
@@ -14,3 +14,6 @@ returns-then-not-stands_at-clause-stops c =
 pub returns-clause-reads : goal.returns-clause-reads
 returns-clause-reads c =
     alone_equals c.args.bytes.now c.args.tokens.now c.equals_at.new.variables c.equals_at.new.symbols c.in_ok-pair.pair (rw c.new-variables.ensures at c.in_ok-pair.ensures.reads) c.if-not-stands_at.ensures
+
+pub returns-clause-interns : goal.returns-clause-interns
+returns-clause-interns c = (_, alone_interns c.args.bytes.now c.args.tokens.now c.args.symbols.now c.equals_at.new.symbols c.in_ok-pair.pair.end c.in_ok-pair.ensures.interns c.if-not-stands_at.ensures)

@@ -35,3 +35,12 @@ returns-clause-reads c = record {
   seen = c.clause_at.new.variables;
   are_sides = rw c.new-variables.ensures at c.in_ok-equation.ensures.reads.are_sides;
 }
+
+pub returns-clause-interns : goal.returns-clause-interns
+returns-clause-interns c =
+    let r = c.in_ok-equation.ensures.interns in
+    record {
+      parse = record { heading = c.in_ok-heading.heading; literal = r.parse };
+      reads = goes_on c.in_ok-heading.ensures (goes_on r.reads (goes_on {v = tt} c.in_ok-at.ensures (goes_on {v = tt} c.in_ok-end.ensures refl)));
+      new_is = r.new_is;
+    }

@@ -1,3 +1,4 @@
+use Rattle.std.proofs.Common.{refl}
 use Rattle.std.proofs.lemmas.Result.{err_from_is_err_and}
 use Rattle.uc_clause.specs.declared.grammar.item.Opening.TheVariants.{OpensClause, OpensInclude, OpensNothing}
 use Rattle.uc_clause.specs.Rules.{read, stop}
@@ -35,3 +36,19 @@ returns-in_ok-include-in-OpensInclude-clause-reads c = record {
 
 pub returns-in-OpensNothing-clause-stops : goal.returns-in-OpensNothing-clause-stops
 returns-in-OpensNothing-clause-stops c = items.is_no_item (opening_is c.args.bytes.now c.args.tokens.now c.args.from c.terminal_at.result c.spelling_at.result.now c.opening_of.result OpensNothing c.terminal_at.ensures c.spelling_at.ensures c.opening_of.ensures c.in-OpensNothing.is)
+
+pub returns-in_ok-clause-in-OpensClause-clause-interns : goal.returns-in_ok-clause-in-OpensClause-clause-interns
+returns-in_ok-clause-in-OpensClause-clause-interns c =
+    let r = c.in_ok-clause-in-OpensClause.ensures.interns in
+    record {
+      parse = formula r.parse;
+      reads = items.is_clause {outcome = read r.parse c.in_ok-clause-in-OpensClause.end} (opening_is c.args.bytes.now c.args.tokens.now c.args.from c.terminal_at.result c.spelling_at.result.now c.opening_of.result OpensClause c.terminal_at.ensures c.spelling_at.ensures c.opening_of.ensures c.in-OpensClause.is) r.reads;
+      new_is = r.new_is;
+    }
+
+pub returns-in_ok-include-in-OpensInclude-clause-interns : goal.returns-in_ok-include-in-OpensInclude-clause-interns
+returns-in_ok-include-in-OpensInclude-clause-interns c = record {
+  parse = inclusion c.in_ok-inclusion-in-OpensInclude.inclusion;
+  reads = items.is_include {outcome = read c.in_ok-inclusion-in-OpensInclude.inclusion c.in_ok-inclusion-in-OpensInclude.end} (opening_is c.args.bytes.now c.args.tokens.now c.args.from c.terminal_at.result c.spelling_at.result.now c.opening_of.result OpensInclude c.terminal_at.ensures c.spelling_at.ensures c.opening_of.ensures c.in-OpensInclude.is) c.in_ok-inclusion-in-OpensInclude.ensures;
+  new_is = refl;
+}

@@ -4,13 +4,14 @@ use Rattle.uc_clause.specs.Given.{AreItems}
 use Rattle.uc_clause.proofs.Ends.{some_token}
 use Rattle.uc_clause.proofs.Progress.{item_ahead}
 use Rattle.uc_clause.proofs.Tables.{grows_not, grows_twice}
-use Rattle.uc_clause.proofs.Gathered.{Gathered, gathered_none, gathered_all, item_stops, gathered_more}
+use Rattle.uc_clause.proofs.Gathered.{Gathered, gathered_none, gathered_all, item_stops, gathered_more, interned_none, interned_all, interned_more}
 use Rattle.uc_clause.proofs.grammar.file.items_in.Goals as goal
 
 pub items-init : goal.items-init
 items-init c = record {
   gathered = subst (λ found. Gathered c.args.bytes.now c.args.tokens.now c.args.symbols.now found 0) (sym c.new-found.ensures.items) (gathered_none c.args.bytes.now c.args.tokens.now c.args.symbols.now);
   grows = grows_not c.args.symbols.now;
+  interned = interned_none c.args.bytes.now c.args.tokens.now c.args.symbols.now;
 }
 
 pub returns-in_err-item-clause-stops : goal.returns-in_err-item-clause-stops
@@ -27,7 +28,11 @@ pub items-preserved : goal.items-preserved
 items-preserved c = record {
   gathered = subst (λ found. Gathered c.args.bytes.now c.args.tokens.now c.item_in.new.symbols found c.in_ok-item.end) (sym c.in_ok-push.ensures.items) (gathered_more c.args.bytes.now c.args.tokens.now c.items.symbols c.items.found.items c.items.at c.items.invariant.gathered c.items-test.ensures c.item_in.new.symbols c.in_ok-item.ensures.reads.entry c.in_ok-item.item c.in_ok-item.end c.in_ok-item.ensures.grows c.in_ok-item.ensures.reads.reads c.in_ok-item.ensures.reads.means);
   grows = grows_twice c.args.symbols.now c.items.symbols c.item_in.new.symbols c.items.invariant.grows c.in_ok-item.ensures.grows;
+  interned = interned_more c.args.bytes.now c.args.tokens.now c.args.symbols.now c.items.symbols c.items.at c.items.invariant.interned c.items-test.ensures c.item_in.new.symbols c.in_ok-item.end c.in_ok-item.ensures.interns;
 }
 
 pub returns-clause-reads : goal.returns-clause-reads
 returns-clause-reads c = subst (AreItems c.args.bytes.now c.args.tokens.now c.items.symbols) (sym c.from_vec.ensures) (gathered_all c.args.bytes.now c.args.tokens.now c.items.symbols c.items.found.items c.items.at c.items.invariant.gathered c.items-test.ensures)
+
+pub returns-clause-interns : goal.returns-clause-interns
+returns-clause-interns c = (c.items.at, interned_all c.args.bytes.now c.args.tokens.now c.args.symbols.now c.items.symbols c.items.at c.items.invariant.interned c.items-test.ensures)

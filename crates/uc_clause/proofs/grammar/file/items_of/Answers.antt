@@ -21,3 +21,13 @@ returns-in-Ok-clause-answer c = record {
 pub returns-clause-answer : goal.returns-clause-answer
 returns-clause-answer c =
     refused_stop Items c.args.bytes.now c.in_ok-list.list c.in-Err.stop c.refusal.result c.in_ok-list.ensures.tokens (rw c.as_slice.ensures at c.in-Err.ensures.stops) (rw c.as_slice-in-Err.ensures at c.refusal.ensures)
+
+pub returns-in-Ok-clause-interns : goal.returns-in-Ok-clause-interns
+returns-in-Ok-clause-interns c = record {
+  tokens = c.as_slice.result.now;
+  are_tokens = rw c.as_slice.ensures c.in_ok-list.ensures.tokens;
+  parse = c.in-Ok.ensures.interns.1.parse;
+  end = c.in-Ok.ensures.interns.0;
+  reads = c.in-Ok.ensures.interns.1.reads;
+  new_is = c.in-Ok.ensures.interns.1.new_is;
+}

@@ -3,6 +3,7 @@ use Rattle.uc_clause.specs.declared.terminal.Terminal.TheVariants.{Comma}
 use Rattle.uc_clause.specs.Drafts.{closes_functor, goes_to_next, at_argument_too_many, behind_argument}
 use Rattle.uc_clause.proofs.Ends.{some_other}
 use Rattle.uc_clause.proofs.Tables.{grows_not, interned_grows}
+use Rattle.uc_clause.proofs.Interned.{interned_is}
 use Rattle.uc_clause.proofs.grammar.draft.Draft.behind.Goals as goal
 
 pub returns-then-top-ge-MAX_ARITY-clause-stops : goal.returns-then-top-ge-MAX_ARITY-clause-stops
@@ -17,6 +18,7 @@ returns-in_ok-sym-in-Close-clause-moves c = λ seen.
     closes_functor c.pop.new.self.items c.in-Some.top c.in_ok-sym-in-Close.sym c.intern.new.self c.requires.behind c.in-Some.ensures.items (sym c.in-Close.ensures)
     (rw (← c.in_ok-name-in-Close.ensures, ← c.as_bytes.ensures) c.in_ok-sym-in-Close.ensures.interned.0)
     (interned_grows _ _ _ _ _ c.in_ok-sym-in-Close.ensures.interned)
+    (rw (← c.in_ok-name-in-Close.ensures, ← c.as_bytes.ensures) (interned_is _ _ _ _ _ c.in_ok-sym-in-Close.ensures.interned))
     refl
 
 pub returns-in_ok-push-in-Comma-clause-moves : goal.returns-in_ok-push-in-Comma-clause-moves
