@@ -61,6 +61,10 @@ interned_is old new name arity f i = elim i.1 [
     go true e none = let r = any_found (is_entry_of name arity) old e in absurd (none (record { 0 = r.0 }) (r.2 ∙ ap Some (own_is name arity r.1 r.3)))
     go false e none = refl
 
+-- a symbol that the table has changes nothing
+pub symbol_kept : (table : Table) (f : Sym) (name : List ℕ) (arity : ℕ) → IsSymbol table f name arity → with_symbol table name arity ≡ table
+symbol_kept table f name arity s = ap (λ b. if b then table else table ++ record { name = name; arity = arity } ∷ []) (found_any (is_entry_of name arity) table f.0 (record { name = name; arity = arity }) s (is_own name arity))
+
 module _ (bytes : List ℕ) (tokens : List Token) where
   pub with_terms_append : (table : Table) (ps qs : Parses) → with_terms bytes tokens table (append ps qs) ≡ with_terms bytes tokens (with_terms bytes tokens table ps) qs
   with_terms_append table no_more qs = refl

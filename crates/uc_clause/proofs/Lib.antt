@@ -39,3 +39,4 @@ pub mod ItemsOnce
 pub mod InText
 pub mod Files
 pub mod InternedOnce
+pub mod Kept
