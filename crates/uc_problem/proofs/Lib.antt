@@ -7,6 +7,7 @@ pub mod Sound
 pub mod Growth
 pub mod Occurring
 pub mod Problems
+pub mod Fillings
 pub mod Sides
 pub mod OpenGoals
 pub mod FreshMarks
