@@ -56,7 +56,7 @@ module _ (old new : Table) (grows : Grows old new) where
       go true e later = let same : g ≡ f = cc in subst (Has old) same (has zero g refl)
       go false e later = later e
 
-  pushed : (fs : List Sym) (f : Sym) → HasAll old fs → Has old f → HasAll old (fs ++ f ∷ [])
+  pub pushed : (fs : List Sym) (f : Sym) → HasAll old fs → Has old f → HasAll old (fs ++ f ∷ [])
   pushed fs f h k i g e = go (get_pushed fs f i g e)
     where
       go : (slice_get fs i ≡ Some g) ⊎ ((i ≡ length fs) × (g ≡ f)) → Has old g

@@ -16,6 +16,8 @@ pub mod ReadsOnce
 pub mod LoadsOnce
 pub mod SignatureOnce
 pub mod HoldsOnce
+pub mod AddedOnce
+pub mod FilledOnce
 pub mod MarksOnce
 pub mod NameKeys
 pub mod Encodings
