@@ -36,7 +36,7 @@ module _ (old new : Table) (grows : Grows old new) where
       let g = gathers-grows old new grows s.gathers refl (none_named old) (have_from old new grows ts 0 of) in
       record { symbols = s.symbols; gathers = g.0; completes = completes_later s.symbols signature g.1 s.completes }
 
-  terms_later : (ts : List Tree) → AreOf old ts → AreOf new ts
+  pub terms_later : (ts : List Tree) → AreOf old ts → AreOf new ts
   terms_later ts of i t e = term_later old new grows t (of i t e)
 
   pub agrees_later : (problem : Problem) → Agrees old problem → Agrees new problem
@@ -56,7 +56,7 @@ module _ (old new : Table) (grows : Grows old new) where
       go true e later = let same : g ≡ f = cc in subst (Has old) same (has zero g refl)
       go false e later = later e
 
-  pushed : (fs : List Sym) (f : Sym) → HasAll old fs → Has old f → HasAll old (fs ++ f ∷ [])
+  pub pushed : (fs : List Sym) (f : Sym) → HasAll old fs → Has old f → HasAll old (fs ++ f ∷ [])
   pushed fs f h k i g e = go (get_pushed fs f i g e)
     where
       go : (slice_get fs i ≡ Some g) ⊎ ((i ≡ length fs) × (g ≡ f)) → Has old g

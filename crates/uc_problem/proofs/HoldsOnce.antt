@@ -17,7 +17,7 @@ use Rattle.uc_problem.specs.declared.problem.Problem.{Problem}
 use Rattle.uc_problem.specs.declared.fault.LoadFault.{LoadFault}
 use Rattle.uc_problem.specs.Candidates.{folder_of}
 use Rattle.uc_problem.specs.Loading.{Loaded}
-use Rattle.uc_problem.specs.Holds.{ReadsAs, Flattens, terms_of, numbers_of, located, Holds, Refuses, is_not_flat, has_clash, has_too_many}
+use Rattle.uc_problem.specs.Holds.{ReadsAs, Flattens, terms_of, numbers_of, located, Agrees, Holds, Refuses, is_not_flat, has_clash, has_too_many}
 use Rattle.uc_problem.proofs.Outcomes.{some_once, err_once, ok_or_err, first_once, second_once}
 use Rattle.uc_problem.proofs.ReadsOnce.{reads_once}
 use Rattle.uc_problem.proofs.LoadsOnce.{given_once, problem_once}
@@ -39,22 +39,25 @@ same_spot : {o : Option (List ℕ × Place)} {a b : List ℕ} {p q : Place} → 
 same_spot e f = let both = some_once e f in (first_once both, second_once both)
 
 module _ (table : Table) (distinct : IsDistinct table) where
+  -- problems of the same clauses whose parts agree are one
+  pub agrees_once : (a b : Problem) → a.clauses ≡ b.clauses → Agrees table a → Agrees table b → a ≡ b
+  agrees_once a b clauses x y =
+      let axioms : a.axioms ≡ b.axioms = x.axioms ∙ ap (numbers_of true 0) clauses ∙ sym y.axioms in
+      let goals : a.goals ≡ b.goals = x.goals ∙ ap (numbers_of false 0) clauses ∙ sym y.goals in
+      let signatures : a.signature ≡ b.signature = signature_once table distinct x.signature (subst (λ ss. IsSignatureOf table (terms_of ss) b.signature) (sym clauses) y.signature) in
+      let conjectures : a.conjecture ≡ b.conjecture = x.conjecture ∙ sym y.conjecture in
+      let all : record { clauses = a.clauses; axioms = a.axioms; goals = a.goals; signature = a.signature; conjecture = a.conjecture } ≡ (let p : Problem = record { clauses = b.clauses; axioms = b.axioms; goals = b.goals; signature = b.signature; conjecture = b.conjecture } in p) = rw (clauses, axioms, goals, signatures, conjectures) refl in
+      all
+
   module _ (files : Files) (root : Option (List ℕ)) (name : List ℕ) where
     flat_once : {a b : Loaded} → Flattens table files root name a → Flattens table files root name b → a ≡ b
     flat_once x y = problem_once (ReadsAs table) (reads_once table distinct) files (folder_of name) root x y
 
-    clauses_once : {a b : List Sourced} {m n : Counts} → Flattens table files root name (Ok (a, m)) → Flattens table files root name (Ok (b, n)) → a ≡ b
+    pub clauses_once : {a b : List Sourced} {m n : Counts} → Flattens table files root name (Ok (a, m)) → Flattens table files root name (Ok (b, n)) → a ≡ b
     clauses_once x y = (given_once (flat_once x y)).0
 
     pub problem_is_once : (a b : Problem) → Holds table files root name a → Holds table files root name b → a ≡ b
-    problem_is_once a b x y =
-        let clauses : a.clauses ≡ b.clauses = clauses_once x.flat y.flat in
-        let axioms : a.axioms ≡ b.axioms = x.agrees.axioms ∙ ap (numbers_of true 0) clauses ∙ sym y.agrees.axioms in
-        let goals : a.goals ≡ b.goals = x.agrees.goals ∙ ap (numbers_of false 0) clauses ∙ sym y.agrees.goals in
-        let signatures : a.signature ≡ b.signature = signature_once table distinct x.agrees.signature (subst (λ ss. IsSignatureOf table (terms_of ss) b.signature) (sym clauses) y.agrees.signature) in
-        let conjectures : a.conjecture ≡ b.conjecture = x.agrees.conjecture ∙ sym y.agrees.conjecture in
-        let all : record { clauses = a.clauses; axioms = a.axioms; goals = a.goals; signature = a.signature; conjecture = a.conjecture } ≡ (let p : Problem = record { clauses = b.clauses; axioms = b.axioms; goals = b.goals; signature = b.signature; conjecture = b.conjecture } in p) = rw (clauses, axioms, goals, signatures, conjectures) refl in
-        all
+    problem_is_once a b x y = agrees_once a b (clauses_once x.flat y.flat) x.agrees y.agrees
 
     -- what the clauses gather to is one
     gathered_once : {a b : List Sourced} {m n : Counts} {r q : Result (List Sym) TermFault} → Flattens table files root name (Ok (a, m)) → Flattens table files root name (Ok (b, n)) → Gathers table [] (occurrences_of (terms_of a)) r → Gathers table [] (occurrences_of (terms_of b)) q → r ≡ q

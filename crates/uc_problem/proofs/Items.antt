@@ -68,6 +68,10 @@ all_before-append : (xs ys : List Sourced) (loaded : Loaded) → all_before xs (
 all_before-append xs ys (Ok r) = ap (λ l. Ok (l, r.1)) (sym (append_assoc xs ys r.0))
 all_before-append xs ys (Err e) = refl
 
+-- bytes that aren't too many are the whole file's
+pub whole_is : (bytes whole : List ℕ) → bytes ≡ cut whole → length bytes ≤ 16777216 → bytes ≡ whole
+whole_is bytes whole e h = e ∙ take_all 16777217 whole (omega (arith, ap length e, length-take 16777217 whole))
+
 module _ (holds : Option Files) (folder : List ℕ) (root : Option (List ℕ)) (depth : ℕ) (name : List ℕ) (first_counts : Counts) (all : List Item) where
   -- whatever the items that are left come to, all of them come to that behind these clauses
   abbrev pub LeftFor : Counts → List Sourced → List Item → Files → Table → Type 0
@@ -94,11 +98,8 @@ module _ (holds : Option Files) (folder : List ℕ) (root : Option (List ℕ)) (
     abbrev pub FileComesTo : Files → Table → Option (List ℕ) → Loaded → Type 0
     FileComesTo files T failing loaded = (whole : List ℕ) → bytes ≡ cut whole → LoadsFile (ReadsAs T) files failing folder root depth name whole first_counts loaded
 
-    whole_is : (whole : List ℕ) → bytes ≡ cut whole → length bytes ≤ 16777216 → bytes ≡ whole
-    whole_is whole e h = e ∙ take_all 16777217 whole (omega (arith, ap length e, length-take 16777217 whole))
-
     file_reads : (t T : Table) (files : Files) (failing : Option (List ℕ)) (loaded : Loaded) → Grows t T → ReadsFile bytes t all → LoadsItems (ReadsAs T) files failing folder root depth name first_counts all loaded → FileComesTo files T failing loaded
-    file_reads t T files failing loaded g r l whole e = reads (subst (λ (b : List ℕ). ReadsFile b T all) (whole_is whole e r.small) (file_later bytes t T all g r)) l
+    file_reads t T files failing loaded g r l whole e = reads (subst (λ (b : List ℕ). ReadsFile b T all) (whole_is bytes whole e r.small) (file_later bytes t T all g r)) l
 
     pub end : (r t : Table) (before now : ℕ) (counts : Counts) (clauses : List Sourced) → Grows r t → ReadsFile bytes r all → Left t counts clauses [] → IsPart holds before now t counts FileComesTo (Ok clauses)
     end r t before now counts clauses g read l =
@@ -114,7 +115,7 @@ module _ (holds : Option Files) (folder : List ℕ) (root : Option (List ℕ)) (
 
     whole_refused : (whole : List ℕ) (fault : ClauseFault) → bytes ≡ cut whole → RefusesFile bytes fault → RefusesFile whole fault
     whole_refused whole _ e (is_too_long h) = is_too_long (omega (arith, ap length e, length-take 16777217 whole))
-    whole_refused whole fault e (isnt_items h r) = subst (λ (b : List ℕ). RefusesFile b fault) (whole_is whole e h) (isnt_items h r)
+    whole_refused whole fault e (isnt_items h r) = subst (λ (b : List ℕ). RefusesFile b fault) (whole_is bytes whole e h) (isnt_items h r)
 
     -- a file that isn't read
     unread_at : (t : Table) (why : ClauseFault) (file : List ℕ) (fault : ClauseFault) → RefusesFile bytes why → file ≡ name → fault ≡ why → ForFiles holds t (λ files T. FileComesTo files T None (Err (Clause file fault)))

@@ -7,6 +7,7 @@ pub mod Sound
 pub mod Growth
 pub mod Occurring
 pub mod Problems
+pub mod Fillings
 pub mod Sides
 pub mod OpenGoals
 pub mod FreshMarks
@@ -15,6 +16,8 @@ pub mod ReadsOnce
 pub mod LoadsOnce
 pub mod SignatureOnce
 pub mod HoldsOnce
+pub mod AddedOnce
+pub mod FilledOnce
 pub mod MarksOnce
 pub mod NameKeys
 pub mod Encodings

@@ -5,6 +5,8 @@ use Rattle.uc_problem.specs.Assembly.{wants_memory}
 use Rattle.uc_problem.proofs.Sound.{are_sound_later, terms_sound}
 use Rattle.uc_problem.proofs.Sides.{length_terms}
 use Rattle.uc_problem.proofs.Problems.{fault_later}
+use Rattle.uc_problem.proofs.Growth.{terms_later}
+use Rattle.uc_problem.proofs.Fillings.{adds_least}
 use Rattle.uc_problem.proofs.assembly.signature_of.Goals as goal
 
 pub returns-in_err-terms-clause-refused : goal.returns-in_err-terms-clause-refused
@@ -31,3 +33,8 @@ pub returns-in_err-refusal-in-Err-clause-refused :
 returns-in_err-refusal-in-Err-clause-refused c =
     let p = err_from_is_err_and c.from_residual-in_err-refusal-in-Err.result c.from_residual-in_err-refusal-in-Err.ensures.1 in
     rw (p.1, p.2) wants_memory
+
+pub returns-in-Ok-clause-least : goal.returns-in-Ok-clause-least
+returns-in-Ok-clause-least c =
+    let terms = terms_later c.args.symbols.now c.of.new.symbols c.in-Ok.ensures.grows (terms_of c.args.clauses.now) (terms_sound c.args.symbols.now c.args.clauses.now c.requires.sound) in
+    adds_least c.of.new.symbols c.args.symbols.now (terms_of c.args.clauses.now) c.in-Ok.signature terms (rw (c.as_slice.ensures.value, c.in_ok-terms.ensures) at c.in-Ok.ensures.ok) c.in-Ok.ensures.only

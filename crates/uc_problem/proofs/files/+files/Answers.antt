@@ -9,6 +9,7 @@ use Rattle.uc_problem.specs.Parts.{ItemComesTo}
 use Rattle.uc_problem.proofs.Later.{Grows-refl, Grows-trans}
 use Rattle.uc_problem.proofs.Items.{begin, go_on, end, stop, unread, none_left, same_part}
 use Rattle.uc_problem.proofs.Includes.{taken, deep, many, failed, missing_of, held_of_names, inside_stops, chosen}
+use Rattle.uc_problem.proofs.Fillings.{leaves_all, leaves_one, leaves_none, taken_filled, found_filled}
 use Rattle.uc_problem.proofs.Sound.{none_sound, file_sound, go_on_sound, items_later, taken_sound, selected_sound}
 use Rattle.uc_problem.proofs.files.+files.Goals as goal
 
@@ -31,6 +32,7 @@ load_file-loop-item-init g t c = record {
   later = omega arith;
   grows = Grows-refl c.read_items.new.symbols;
   left = rw c.new-clauses.ensures (begin (g.L.Library.holds c.args.library.now) c.args.search.folder.now (option_copied c.args.search.root) c.args.depth c.args.name.now c.args.counts.now c.into_iter-item-iterator.result.rest.items c.read_items.new.symbols);
+  fills = leaves_all c.args.search.folder.now (option_copied c.args.search.root) (g.L.Library.holds c.args.library.now) c.into_iter-item-iterator.result.rest.items c.read_items.new.symbols;
   sound = rw c.new-clauses.ensures (none_sound c.read_items.new.symbols c.args.counts.now c.args.counts.now refl);
   rest = file_sound c.args.bytes.now c.read_items.new.symbols c.into_iter-item-iterator.result.rest.items (rw (c.into_iter-item-iterator.ensures.into_iter_gives.0, c.into_vec-item-items.ensures) c.in-Ok.ensures.reads);
 }
@@ -43,6 +45,9 @@ load_file-loop-item-preserved g t c = record {
   left = rw c.in_ok-append.ensures.ok (go_on (g.L.Library.holds c.args.library.now) c.args.search.folder.now (option_copied c.args.search.root) c.args.depth c.args.name.now c.args.counts.now c.into_iter-item-iterator.result.rest.items c.loop-item.symbols c.load_item.new.symbols (g.L.Library.faults c.loop-item.library) (g.L.Library.faults c.load_item.new.library) c.loop-item.counts c.load_item.new.counts c.loop-item.clauses c.in_ok-more.more c.in-Some.item c.next.new.self.rest.items c.in_ok-more.ensures.grows
       (rw c.in-Some.ensures.steps.0 at c.loop-item.invariant.left)
       (rw c.loop-item.invariant.same at c.in_ok-more.ensures.part));
+  fills = leaves_one c.args.search.folder.now (option_copied c.args.search.root) (g.L.Library.holds c.args.library.now) c.into_iter-item-iterator.result.rest.items c.read_items.new.symbols c.in-Some.item c.next.new.self.rest.items c.loop-item.symbols c.load_item.new.symbols
+      (rw c.in-Some.ensures.steps.0 at c.loop-item.invariant.fills)
+      (rw c.loop-item.invariant.same at c.in_ok-more.ensures.fills);
   sound = rw c.in_ok-append.ensures.ok (go_on_sound c.loop-item.symbols c.load_item.new.symbols c.args.counts.now c.loop-item.counts c.load_item.new.counts c.loop-item.clauses c.in_ok-more.more c.in_ok-more.ensures.grows c.loop-item.invariant.sound
       (c.in_ok-more.ensures.sound (rw c.in-Some.ensures.steps.0 at c.loop-item.invariant.rest).0));
   rest = items_later c.loop-item.symbols c.load_item.new.symbols c.in_ok-more.ensures.grows c.next.new.self.rest.items (rw c.in-Some.ensures.steps.0 at c.loop-item.invariant.rest).1;
@@ -54,6 +59,13 @@ load_file-returns-clause-part g t c =
     end (g.L.Library.holds c.args.library.now) c.args.search.folder.now (option_copied c.args.search.root) c.args.depth c.args.name.now c.args.counts.now c.into_iter-item-iterator.result.rest.items c.args.bytes.now c.args.counts.now c.read_items.new.symbols c.loop-item.symbols (g.L.Library.faults c.args.library.now) (g.L.Library.faults c.loop-item.library) c.loop-item.counts c.loop-item.clauses c.loop-item.invariant.grows
     (rw (c.into_iter-item-iterator.ensures.into_iter_gives.0, c.into_vec-item-items.ensures) c.in-Ok.ensures.reads)
     (rw none at c.loop-item.invariant.left)
+
+pub load_file-returns-clause-fills : goal.load_file-returns-clause-fills
+load_file-returns-clause-fills g t c =
+    let none = none_left c.loop-item.item-iterator.rest.items (sym c.loop-item.item-iterator.rest.ok.0 ∙ c.in-None.ensures.steps.0) in
+    leaves_none c.args.search.folder.now (option_copied c.args.search.root) (g.L.Library.holds c.args.library.now) c.args.bytes.now c.into_iter-item-iterator.result.rest.items c.args.symbols.now c.read_items.new.symbols c.loop-item.symbols c.in-Ok.ensures.interns
+    (rw (c.into_iter-item-iterator.ensures.into_iter_gives.0, c.into_vec-item-items.ensures) c.in-Ok.ensures.reads)
+    (rw none at c.loop-item.invariant.fills)
 
 pub load_include-returns-then-depth-ge-MAX_DEPTH-clause-part : goal.load_include-returns-then-depth-ge-MAX_DEPTH-clause-part
 load_include-returns-then-depth-ge-MAX_DEPTH-clause-part g t c = rw c.in_ok-copy.ensures (deep (g.L.Library.holds c.args.library.now) c.args.search.folder.now (option_copied c.args.search.root) c.args.depth c.args.name.now c.args.counts.now c.args.include.now c.args.symbols.now 0 0 c.args.counts.now c.if-depth-ge-MAX_DEPTH.true)
@@ -96,3 +108,12 @@ load_include-returns-clause-sound g t c = selected_sound c.load_file.new.symbols
 
 pub load_item-returns-in-Clause-clause-sound : goal.load_item-returns-in-Clause-clause-sound
 load_item-returns-in-Clause-clause-sound g t c = λ h. taken_sound c.args.symbols.now c.args.counts.now c.take_clause.new.counts c.args.name.now c.in-Clause.clause c.take_clause.result (rw c.in-Clause.is at h) c.take_clause.ensures
+
+pub load_include-returns-clause-fills : goal.load_include-returns-clause-fills
+load_include-returns-clause-fills g t c =
+    found_filled c.args.search.folder.now (option_copied c.args.search.root) c.args.include.now (g.L.Library.faults c.args.library.now) (g.L.Library.faults c.fetch_first.new.library) c.args.symbols.now c.load_file.new.symbols (g.L.Library.holds c.args.library.now) c.as_slice.result.now c.in_ok-found.field-0 c.in-Some.found c.select.result
+    (c.as_slice.ensures ∙ c.in_ok-names.ensures ∙ ap (candidates c.args.search.folder.now (option_copied c.args.search.root)) c.as_bytes.ensures) c.in-Some.is c.in_ok-found.ensures.first
+    (rw (c.in_ok-found.ensures.same, c.as_bytes-bytes.ensures) at c.in_ok-given.ensures.fills)
+
+pub load_item-returns-in-Clause-clause-fills : goal.load_item-returns-in-Clause-clause-fills
+load_item-returns-in-Clause-clause-fills g t c = rw c.in-Clause.is (taken_filled c.args.search.folder.now (option_copied c.args.search.root) (g.L.Library.holds c.args.library.now) c.in-Clause.clause c.args.symbols.now c.take_clause.result)

@@ -3,6 +3,7 @@ use Rattle.std.specs.Option.{option_copied}
 use Rattle.uc_term.specs.Table.{Grows}
 use Rattle.uc_problem.specs.Sound.{AreSoundItems, IsSoundPart}
 use Rattle.uc_problem.proofs.Items.{Left}
+use Rattle.uc_problem.proofs.Fillings.{Leaves}
 use Rattle.uc_problem.proofs.files.+files.Given as goal
 
 abbrev pub decreases-load_file : goal.decreases-load_file
@@ -20,6 +21,7 @@ invariant-load_file-loop-item g l = record {
   later : g.L.Library.faults l.fn.library ≤ g.L.Library.faults l.library;
   grows : Grows l.initial.symbols l.symbols;
   left : Left (g.L.Library.holds l.fn.library) l.fn.search.folder.now (option_copied l.fn.search.root) l.fn.depth l.fn.name l.fn.counts l.initial.item-iterator.rest.items l.symbols l.counts l.clauses l.item-iterator.rest.items;
+  fills : Leaves l.fn.search.folder.now (option_copied l.fn.search.root) (g.L.Library.holds l.fn.library) l.initial.item-iterator.rest.items l.initial.symbols l.item-iterator.rest.items l.symbols;
   sound : IsSoundPart l.symbols l.fn.counts l.counts l.clauses;
   rest : AreSoundItems l.symbols l.item-iterator.rest.items;
 }

@@ -1,6 +1,8 @@
 use Rattle.uc_problem.proofs.HoldsOnce.{problem_is_once, refusal_is_once, held_or_refused}
 use Rattle.uc_problem.proofs.MarksOnce.{marks_once, large_once, marked_or_large}
 use Rattle.uc_problem.proofs.EncodedOnce.{encoding_once}
+use Rattle.uc_problem.proofs.AddedOnce.{marks_add_once}
+use Rattle.uc_problem.proofs.FilledOnce.{filled_once, filled_problem_once}
 use Rattle.uc_problem.proofs.laws.one_problem.Goals as goal
 
 pub returns-clause-problem : goal.returns-clause-problem
@@ -23,3 +25,9 @@ returns-clause-marked_or_not c table problem marks number x y = marked_or_large 
 
 pub returns-clause-encoding : goal.returns-clause-encoding
 returns-clause-encoding c table problem a b distinct x y = encoding_once table problem distinct a b x y
+
+pub returns-clause-filled : goal.returns-clause-filled
+returns-clause-filled c files root name old new other a b distinct others x y = (filled_once files root name old new other distinct others a b x y, filled_problem_once files root name old new other distinct others a b x y)
+
+pub returns-clause-marked_table : goal.returns-clause-marked_table
+returns-clause-marked_table c problem old new other fresh again distinct others has x y p q = marks_add_once problem old new other distinct others has fresh again x y p q

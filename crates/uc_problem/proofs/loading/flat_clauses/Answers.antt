@@ -1,6 +1,7 @@
 use Rattle.std.specs.Option.{option_copied}
 use Rattle.std.proofs.lemmas.Result.{err_from_is_err_and}
 use Rattle.uc_problem.proofs.Problems.{no_fetch_of, no_file, of_fetched}
+use Rattle.uc_problem.proofs.Fillings.{fetched_filled}
 use Rattle.uc_problem.proofs.loading.flat_clauses.Goals as goal
 
 pub returns-in_err-bytes-clause-flat : goal.returns-in_err-bytes-clause-flat
@@ -16,3 +17,8 @@ pub returns-clause-flat : goal.returns-clause-flat
 returns-clause-flat g c =
     of_fetched (option_copied c.args.root) c.args.name.now (g.L.Library.holds c.args.library.now) (g.L.Library.faults c.args.library.now) (g.L.Library.faults c.fetch_text.new.library) (g.L.Library.faults c.load_file.new.library) c.load_file.new.symbols c.in_ok-file.file c.folder_of.result.now c.in-Some.bytes c.as_bytes.result.now c.in_ok-bytes.field-0 c.load_file.new.counts c.load_file.result
     c.in_ok-bytes.ensures.later c.in_ok-file.ensures c.folder_of.ensures c.as_bytes.ensures c.in-Some.is c.in_ok-bytes.ensures.answer (rw c.in_ok-bytes.ensures.same at c.load_file.ensures.part)
+
+pub returns-clause-fills : goal.returns-clause-fills
+returns-clause-fills g c =
+    fetched_filled (option_copied c.args.root) c.args.name.now (g.L.Library.faults c.args.library.now) (g.L.Library.faults c.fetch_text.new.library) c.args.symbols.now c.load_file.new.symbols (g.L.Library.holds c.args.library.now) c.in_ok-file.file c.in-Some.bytes c.in_ok-bytes.field-0 c.load_file.result
+    c.in_ok-file.ensures c.in-Some.is c.in_ok-bytes.ensures.answer (rw (c.in_ok-bytes.ensures.same, c.folder_of.ensures, c.as_bytes.ensures) at c.load_file.ensures.fills)

@@ -2,6 +2,7 @@ use Rattle.std.proofs.Common.{codes}
 use Rattle.uc_problem.proofs.Later.{Grows-trans}
 use Rattle.uc_problem.proofs.Growth.{fresh_later}
 use Rattle.uc_problem.proofs.FreshMarks.{all_later}
+use Rattle.uc_problem.proofs.Fillings.{adds_fresh}
 use Rattle.uc_problem.proofs.marking.new_marks.Goals as goal
 
 pub returns-clause-marks : goal.returns-clause-marks
@@ -14,3 +15,11 @@ returns-clause-marks c =
       yes = fresh_later c.add_fresh-2.new.symbols c.add_fresh-3.new.symbols c.in_ok-no.ensures.grows (codes "true") 0 taken c.in_ok-yes.yes second (rw c.as_slice-taken.ensures at c.in_ok-yes.ensures.fresh);
       no = rw c.as_slice-taken.ensures at c.in_ok-no.ensures.fresh;
     }
+
+pub returns-clause-adds : goal.returns-clause-adds
+returns-clause-adds c =
+    let taken = c.args.problem.now.signature.symbols in
+    (c.add_fresh.new.symbols, c.add_fresh-2.new.symbols,
+    adds_fresh c.args.symbols.now c.add_fresh.new.symbols (codes "eq") 2 taken c.in_ok-eq.eq (rw c.as_slice-taken.ensures at c.in_ok-eq.ensures.fresh) c.in_ok-eq.ensures.only,
+    adds_fresh c.add_fresh.new.symbols c.add_fresh-2.new.symbols (codes "true") 0 taken c.in_ok-yes.yes (rw c.as_slice-taken.ensures at c.in_ok-yes.ensures.fresh) c.in_ok-yes.ensures.only,
+    adds_fresh c.add_fresh-2.new.symbols c.add_fresh-3.new.symbols (codes "false") 0 taken c.in_ok-no.no (rw c.as_slice-taken.ensures at c.in_ok-no.ensures.fresh) c.in_ok-no.ensures.only)
