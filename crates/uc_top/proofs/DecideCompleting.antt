@@ -37,10 +37,10 @@ use Rattle.uc_top.proofs.DecideOnce.{questions_or_fault, first_fault_once}
 
 -- Two tables without an entry twice lie in a third.
 module _ (own table : Table) (distinct : IsDistinct own) (apart : IsDistinct table) (files : Files) (command : Command) (name : List ℕ) (words : List (List ℕ)) (loaded problem : Problem) (held : Holds own files command.root name loaded) (given : Holds table files command.root name problem) where
-  abbrev third : Merged own table
+  abbrev pub third : Merged own table
   third = both own table distinct apart files command.root name command.order loaded problem held given
 
-  abbrev ρ : Sym → Sym
+  abbrev pub ρ : Sym → Sym
   ρ = into own table distinct apart files command.root name command.order loaded problem held given
 
   first : (f : Sym) (e : Entry) → slice_get own f.0 ≡ Some e → slice_get third.table (unchanged f).0 ≡ Some e
@@ -55,33 +55,33 @@ module _ (own table : Table) (distinct : IsDistinct own) (apart : IsDistinct tab
   has_given : Each (Has table) problem.signature.symbols
   has_given = has_second own table distinct apart files command.root name command.order loaded problem held given
 
-  abbrev known : List Sym
+  abbrev pub known : List Sym
   known = map ρ problem.signature.symbols
 
   known_is : map unchanged loaded.signature.symbols ≡ known
   known_is = ap (λ (p : Problem). p.signature.symbols) (same own table distinct apart files command.root name command.order loaded problem held given)
 
-  abbrev Fails : ℕ → WordFault → Type 0
+  abbrev pub Fails : ℕ → WordFault → Type 0
   Fails = IsFirstFault third.table known words
 
-  abbrev IsAsked : Type 0
+  abbrev pub IsAsked : Type 0
   IsAsked = (questions : List (Tree × Tree)) × AreQuestions third.table known words questions
 
-  own_asked : {questions : List (Tree × Tree)} → AreQuestions own loaded.signature.symbols words questions → IsAsked
+  pub own_asked : {questions : List (Tree × Tree)} → AreQuestions own loaded.signature.symbols words questions → IsAsked
   own_asked {questions} q =
       let moved = map (sides_moved own third.table unchanged first distinct) questions in
       (moved, subst (λ fs. AreQuestions third.table fs words moved) known_is (questions_moved own third.table unchanged first distinct loaded.signature.symbols has_own q))
 
-  own_fails : (number : ℕ) (why : WordFault) → IsFirstFault own loaded.signature.symbols words number why → Fails number why
+  pub own_fails : (number : ℕ) (why : WordFault) → IsFirstFault own loaded.signature.symbols words number why → Fails number why
   own_fails number why f = subst (λ fs. IsFirstFault third.table fs words number why) known_is (first_fault_moved own third.table unchanged first distinct loaded.signature.symbols has_own words number why f)
 
-  given_asked : {questions : List (Tree × Tree)} → AreQuestions table problem.signature.symbols words questions → IsAsked
+  pub given_asked : {questions : List (Tree × Tree)} → AreQuestions table problem.signature.symbols words questions → IsAsked
   given_asked {questions} q = (map (sides_moved table third.table ρ second apart) questions, questions_moved table third.table ρ second apart problem.signature.symbols has_given q)
 
-  given_fails : (number : ℕ) (why : WordFault) → IsFirstFault table problem.signature.symbols words number why → Fails number why
+  pub given_fails : (number : ℕ) (why : WordFault) → IsFirstFault table problem.signature.symbols words number why → Fails number why
   given_fails number why f = first_fault_moved table third.table ρ second apart problem.signature.symbols has_given words number why f
 
-  not_both : (number : ℕ) (why : WordFault) → (why ≡ NoMemory → ⊥) → IsAsked → Fails number why → ⊥
+  pub not_both : (number : ℕ) (why : WordFault) → (why ≡ NoMemory → ⊥) → IsAsked → Fails number why → ⊥
   not_both number why some q f = questions_or_fault third.table third.distinct known words number why q.0 some q.1 f
 
   module _ (spec : OrderSpec) (chosen : IsChosen table problem.signature command.order None spec) where

@@ -1,5 +1,5 @@
 -- How a run of `decide` ends, and what its answers promise.
-use Rattle.std.specs.Prelude.{ℕ, ◌≡◌, ◌≤◌, ◌⊎◌, List, [], ◌∷◌, ◌++◌, codes, Option, None}
+use Rattle.std.specs.Prelude.{ℕ, ◌≡◌, ◌≤◌, ◌⊎◌, inl, inr, List, [], ◌∷◌, ◌++◌, codes, slice_get, Option, Some, None}
 use Rattle.std.specs.Io.KnownBytes.{Appends}
 use Rattle.uc_term.specs.declared.equation.Equation.{Equation}
 use Rattle.uc_term.specs.Tree.{Tree}
@@ -19,7 +19,7 @@ use Rattle.uc_search.specs.Searching.{IsSearched}
 use Rattle.uc_search.specs.Causes.{HasCause}
 use Rattle.uc_decide.specs.declared.reply.Reply.{Reply}
 use Rattle.uc_decide.specs.Deciding.{Decides}
-use Rattle.uc_decide.specs.Asking.{IsRight}
+use Rattle.uc_decide.specs.Asking.{IsRight, IsVerdict}
 use Rattle.uc_words.specs.declared.command.Command.{Command}
 use Rattle.uc_words.specs.declared.command.Verb.TheVariants.{Decide}
 use Rattle.uc_words.specs.Reads.{Reads}
@@ -31,7 +31,7 @@ use Rattle.uc_top.specs.Lines.{memory_line}
 use Rattle.uc_top.specs.RewriteAnswers.{word_line}
 use Rattle.uc_top.specs.QuestionWords.{AreQuestions, IsFirstFault}
 use Rattle.uc_top.specs.ProveAnswers.{status_line, IsLimitLine}
-use Rattle.uc_top.specs.DecideAnswers.{AreReplies, replies_status, reply_lines, opening_of_axioms, facts_of}
+use Rattle.uc_top.specs.DecideAnswers.{AreReplies, replies_status, reply_line, reply_lines, opening_of_axioms, facts_of}
 use Rattle.uc_top.specs.Runs.{EndsWith}
 
 -- EACH LINE IS RIGHT
@@ -101,6 +101,17 @@ KeepsDecideCommand files command status answer = (name : List ℕ) (words : List
 -- such an answer.
 abbrev pub KeepsDecideWord : Files → List (List ℕ) → Option (List ℕ) → Option (List ℕ) → ℕ → Type 0
 KeepsDecideWord files all old new result = (command : Command) (name : List ℕ) (words : List (List ℕ)) → Reads all command → command.verb ≡ Decide → command.workers ≡ 1 → command.positionals ≡ name ∷ words → result ≤ 2 → (answer : List ℕ) × KeepsDecision files command name words result answer × Appends old new answer
+
+-- ONE LINE FOR A QUESTION
+
+-- the answer has this line for the question of this number, from 0 on, and the line says whether its equation follows
+abbrev pub TellsLine : {table : Table} {command : Command} {name : List ℕ} {problem : Problem} {spec : OrderSpec} {questions : List (Tree × Tree)} {status : ℕ} {answer : List ℕ} → IsAnswered table command problem spec questions status answer ⊎ IsOut table command name problem spec status answer → ℕ → List ℕ → Type 0
+TellsLine {table} (inl answered) number line = (reply : Reply) × (slice_get answered.replies number ≡ Some reply) × IsVerdict reply × (line ≡ reply_line table reply)
+TellsLine (inr out) number line = ⊥
+
+-- so a decision has it
+abbrev pub Tells : {files : Files} {command : Command} {name : List ℕ} {words : List (List ℕ)} {status : ℕ} {answer : List ℕ} → KeepsDecision files command name words status answer → ℕ → List ℕ → Type 0
+Tells decision number line = TellsLine decision.is_decided.decided.told number line
 
 -- COMPLETENESS
 
