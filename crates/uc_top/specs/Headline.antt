@@ -4,13 +4,14 @@ use Rattle.uc_edge.specs.Files.{Files}
 use Rattle.uc_top.specs.ProveRuns.{KeepsWord}
 use Rattle.uc_top.specs.DecideRuns.{KeepsDecideWord}
 
--- Whatever the words and the files of a library are: where a run ends with status 0, 1 or 2, what the sink was given is right.
+-- Whatever the words and the files of a library are: where a run of `prove` or of `decide`, by one worker, ends with status 0, 1 or
+-- 2, what the sink was given is right.
 --
 -- * `prove`, by its status: a proof, which, read back, derives a goal of the problem from its axioms by instances and replacement
 --   of equals; a system, read back, under which every ground term has exactly one normal form, two terms share it exactly if
 --   their equation follows from the axioms, and no goal follows; or a limit, with what was spent or passed.
 -- * `decide`: a line for each question, which says that its equation follows only where it does, and that it doesn't only where it
---   doesn't; or a limit, with what was spent or passed.
+--   doesn't, or says nothing of it, since its steps are spent or a term grew too large; or a limit, with what was spent or passed.
 pub record Headline (files : Files) (words : List (List ℕ)) (old new : Option (List ℕ)) (result : ℕ) : Type 0 where
   pub prove : KeepsWord files words old new result
   pub decide : KeepsDecideWord files words old new result

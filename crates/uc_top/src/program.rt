@@ -46,10 +46,10 @@ const USAGE_LINE: &[u8] = b"usage: uc COMMAND [--option VALUE].. [WORD]..\n";
 /// order is refused; else 3. For `prove`, with one worker, it is 0 where the text has a proof of the problem, each line of it
 /// right and the last one a refutation of a goal; 1 where it has a system by which each ground term has exactly one normal
 /// form, two terms share it exactly if their equation follows from the axioms, and no goal follows; 2 where the text names the
-/// budget or the size that ended the search; 4 where the order is refused; else 3. For `decide`, with one worker, it is 0 where
+/// budget, the limit on pairs or the size that ended the search; 4 where the order is refused; else 3. For `decide`, with one worker, it is 0 where
 /// each question has its line, `equal` where its equation follows from the axioms and `different` where it doesn't, with the
 /// least terms to which its sides are equal; 2 where a question stays open, since its steps are spent or a term grew too large,
-/// or where the text names the budget or the size that ended the search; 4 where the order is refused; else 3. 4 stands for
+/// or where the text names the budget, the limit on pairs or the size that ended the search; 4 where the order is refused; else 3. 4 stands for
 /// words that have no reading, 5 for a failure of the library and 6 for one of the sink, each only where its count of faults
 /// rose in this call, and 7 for want of memory.
 pub fn run<R: Threads + Wait + Sync, L: Library, S: Sink, G: Gate + Sync>(
@@ -150,7 +150,7 @@ fn command_answer<R: Wait, L: Library>(
     }
 }
 
-// Whether one worker is to search; by more no command has a reading yet.
+// Whether one worker is to search; with more a command is answered by the usage line so far.
 fn is_alone(command: &Command) -> bool
     ensures one { IsTrue result → command.now.workers ≡ 1 }
     ensures many { IsFalse result → command.now.workers ≡ 1 → ⊥ }
@@ -158,7 +158,7 @@ fn is_alone(command: &Command) -> bool
     command.workers == 1
 }
 
-// The answer to `prove` by one worker; by more it has no reading yet.
+// The answer to `prove` by one worker; with more it is the usage line so far.
 fn prove_command<R: Wait, L: Library>(
     rt: &R,
     alloc: Global,
@@ -182,7 +182,7 @@ fn prove_command<R: Wait, L: Library>(
     }
 }
 
-// The answer to `decide` by one worker; by more it has no reading yet.
+// The answer to `decide` by one worker; with more it is the usage line so far.
 fn decide_command<R: Wait, L: Library>(
     rt: &R,
     alloc: Global,
