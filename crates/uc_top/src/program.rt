@@ -37,21 +37,21 @@ const USAGE_LINE: &[u8] = b"usage: uc COMMAND [--option VALUE].. [WORD]..\n";
 ///
 /// For `check` the status is 0 where the proof file has a proof of the problem, each line of it right and the last one a
 /// refutation of a goal, so that one of the problem's goals follows from its axioms; 1 where the proof reads and isn't such; 3
-/// where the problem or the proof isn't there or is refused. For `show` it is 0 where the problem is there, and all its clauses
-/// are told, each on a line; else 3. For `order` it is 0 where the problem is there and the words name an order for it, and how
-/// it directs each axiom is told on a line of its own; 4 where the order is refused; else 3. For `rewrite` it is 0 where the
-/// word is a term over the problem's signature that the axioms normalise by that order, and 2 where the limit or the largest
-/// size ends it, with the term and each step told; 4 where the order is refused; else 3. For `pairs` it is 0 where the problem
-/// is there and the words name an order for it, and each critical pair of its axioms is told on a line of its own; 4 where the
-/// order is refused; else 3. For `prove`, with one worker, it is 0 where the text has a proof of the problem, each line of it
-/// right and the last one a refutation of a goal; 1 where it has a system by which each ground term has exactly one normal
-/// form, two terms share it exactly if their equation follows from the axioms, and no goal follows; 2 where the text names the
-/// budget, the limit on pairs or the size that ended the search; 4 where the order is refused; else 3. For `decide`, with one worker, it is 0 where
-/// each question has its line, `equal` where its equation follows from the axioms and `different` where it doesn't, with the
-/// least terms to which its sides are equal; 2 where a question stays open, since its steps are spent or a term grew too large,
-/// or where the text names the budget, the limit on pairs or the size that ended the search; 4 where the order is refused; else 3. 4 stands for
-/// words that have no reading, 5 for a failure of the library and 6 for one of the sink, each only where its count of faults
-/// rose in this call, and 7 for want of memory.
+/// where the problem or the proof isn't there or is refused. For `show` it is 0 where the problem is there, and all its
+/// clauses are told, each on a line; else 3. For `order` it is 0 where the problem is there and the words name an order for
+/// it, and how it directs each axiom is told on a line of its own; 4 where the order is refused; else 3. For `rewrite` it is 0
+/// where the word is a term over the problem's signature that the axioms normalise by that order, and 2 where the limit or the
+/// largest size ends it, with the term and each step told; 4 where the order is refused; else 3. For `pairs` it is 0 where the
+/// problem is there and the words name an order for it, and each critical pair of its axioms is told on a line of its own; 4
+/// where the order is refused; else 3. For `prove`, with one worker, it is 0 where the text has a proof of the problem, each
+/// line of it right and the last one a refutation of a goal; 1 where it has a system by which each ground term has exactly one
+/// normal form, two terms share it exactly if their equation follows from the axioms, and no goal follows; 2 where the text
+/// names the budget, the limit on pairs or the size that ended the search; 4 where the order is refused; else 3. For `decide`,
+/// with one worker, it is 0 where each question has its line, `equal` where its equation follows from the axioms and
+/// `different` where it doesn't, with the least terms to which its sides are equal; 2 where a question stays open, since its
+/// steps are spent or a term grew too large, or where the text names the budget, the limit on pairs or the size that ended the
+/// search; 4 where the order is refused; else 3. 4 stands for words that have no reading, 5 for a failure of the library and 6
+/// for one of the sink, each only where its count of faults rose in this call, and 7 for want of memory.
 pub fn run<R: Threads + Wait + Sync, L: Library, S: Sink, G: Gate + Sync>(
     rt: &R,
     alloc: Global,
