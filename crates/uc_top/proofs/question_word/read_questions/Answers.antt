@@ -25,8 +25,8 @@ loop-number-preserved c =
       so_far = rw read.2 (one_question_more c.args.known.now c.args.words.now c.loop-number.number c.index-words-number.result c.loop-number.questions c.loop-number.symbols c.read_next.new.symbols read.0 c.loop-number-test.true c.index-words-number.is c.read_next.ensures.grows c.loop-number.invariant.so_far (rw c.as_bytes.ensures at read.1));
       grows = grows_twice c.args.symbols.now c.loop-number.symbols c.read_next.new.symbols c.loop-number.invariant.grows c.read_next.ensures.grows;
       kept = λ has. (
-        let same = c.loop-number.invariant.kept has in
-        c.in_default.ensures.kept (subst (λ (t : Table). HasAll t c.args.known.now) (sym same) has) ∙ same);
+          let same = c.loop-number.invariant.kept has in
+          c.in_default.ensures.kept (subst (λ (t : Table). HasAll t c.args.known.now) (sym same) has) ∙ same);
     }
 
 pub returns-clause-reads : goal.returns-clause-reads
