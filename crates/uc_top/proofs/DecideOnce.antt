@@ -125,9 +125,6 @@ module _ (word : List ℕ) where
       fit_or_unfit : {s : Tree × Tree} {n : Node} {p : Place} → IsQuestionWord table known word s → HasUnfit table known word n p → ⊥
       fit_or_unfit k a = some_or_none a.is_first (ap (first_unfit known) (same_sides k.reads a.reads distinct) ∙ k.is_fit)
 
-      pub question_once : {s t : Tree × Tree} → IsQuestionWord table known word s → IsQuestionWord table known word t → t ≡ s
-      question_once k l = same_sides k.reads l.reads distinct
-
       pub fault_once : (a b : WordFault) → (a ≡ NoMemory → ⊥) → (b ≡ NoMemory → ⊥) → IsQuestionFault table known word a → IsQuestionFault table known word b → a ≡ b
       fault_once (Unread e) (Unread f) na nb x y = ap Unread (equation_refused_once x y)
       fault_once (Unread e) (UnknownSymbol p m) na nb x y = absurd (equation_or_refused y.unfit.reads x)

@@ -1,5 +1,5 @@
 -- The commands that search give one answer, whatever the tables of symbols are.
-use Rattle.std.proofs.Common.{◌⊎◌, inl, inr, ℕ, ◌≡◌, ◌≤◌, List, [], ◌∷◌, ◌++◌, map, position, slice_get, codes, Option, Some, None, Ok, Err, refl, sym, ap, ap₂, ◌∙◌, subst}
+use Rattle.std.proofs.Common.{◌⊎◌, inl, inr, ℕ, ◌≡◌, ◌≤◌, List, [], ◌∷◌, ◌++◌, map, position, slice_get, codes, arith, Option, Some, None, Ok, Err, refl, sym, ap, ap₂, ◌∙◌, subst}
 use Rattle.std.specs.Option.{option_map}
 use Rattle.std.proofs.lemmas.Option.{slice_get-map}
 use Rattle.uc_term.specs.declared.node.Sym.{Sym}
@@ -50,8 +50,12 @@ use Rattle.uc_top.proofs.ProveOnce.{prove_answers_once}
 use Rattle.uc_top.proofs.DecideOnce.{decide_answers_once, first_fault_once}
 use Rattle.uc_top.proofs.DecideCompleting.{own_asked, own_fails, given_asked, given_fails, not_both, third}
 
+-- a count that stays at 0 didn't rise
+never_rose : Rose 0 0 → ⊥
+never_rose r = omega (arith, r)
+
 -- the tables of the encoding's symbols grow
-marks_grow : (old new : Table) (fresh : Option Fresh) → AddsMarks old new fresh → Grows old new
+pub marks_grow : (old new : Table) (fresh : Option Fresh) → AddsMarks old new fresh → Grows old new
 marks_grow old new None i = subst (Grows old) (sym i) (grows_not old)
 marks_grow old new (Some marks) (first, second, eq, yes, no) = grows_twice old first new (adds_grows old first marks.eq eq) (grows_twice first second new (adds_grows first second marks.yes yes) (adds_grows second new marks.no no))
 
@@ -63,7 +67,7 @@ large_alike ρ σ ss ts k n g h lists numbers at there =
     let one : sourced_renamed ρ g ≡ sourced_renamed σ h = some_once left (ap (λ l. slice_get l k) lists ∙ ap (slice_get (map (sourced_renamed σ) ts)) numbers ∙ right) in
     ap large_line one
 
-module _ (one_search : OneSearch) (first second : Table) (distinct : IsDistinct first) (apart : IsDistinct second) (command : Command) (some : 1 ≤ command.order.w0) (most : command.order.w0 ≤ 1000000) (name : List ℕ) (files : Files) (before now again later : ℕ) (well : Rose before now → ⊥) (fine : Rose again later → ⊥) where
+module _ (one_search : OneSearch) (first second : Table) (distinct : IsDistinct first) (apart : IsDistinct second) (command : Command) (some : 1 ≤ command.order.w0) (most : command.order.w0 ≤ 1000000) (name : List ℕ) (files : Files) (before now again later : ℕ) where
   -- a problem that is held in both tables
   module _ (p q : Problem) (held : Holds first files command.root name p) (given : Holds second files command.root name q) where
     abbrev there : Merged first second
@@ -107,7 +111,7 @@ module _ (one_search : OneSearch) (first second : Table) (distinct : IsDistinct 
       in_one {s} {t} {a} {b} e x y =
           let at : IsProveAnswer first command name other q t b = subst (λ u. IsProveAnswer u command name other q t b) e y in
           let holds : Holds first files command.root name q = subst (λ u. Holds u files command.root name q) e given in
-          prove_answers_once one_search first distinct command some most name files before now well (prove.is_loaded filled held x) (prove.is_loaded refilled holds at)
+          prove_answers_once one_search first distinct command some most name files 0 0 never_rose (prove.is_loaded filled held x) (prove.is_loaded refilled holds at)
 
       prove_loaded : {s t : ℕ} {a b : List ℕ} → IsProveAnswer first command name flat p s a → IsProveAnswer second command name other q t b → (s ≡ t) × (a ≡ b)
       prove_loaded (prove.has_large_goal {number = k} {goal = g} m at) (prove.has_large_goal {number = l} {goal = h} n place) =
@@ -121,14 +125,14 @@ module _ (one_search : OneSearch) (first second : Table) (distinct : IsDistinct 
       prove_loaded (prove.is_searched {encoded = e} i d c x v) (prove.is_unordered {encoded = f} j g y m) = in_one (tables e.fresh f.fresh i j d.0 g.0) (prove.is_searched i d c x v) (prove.is_unordered j g y m)
       prove_loaded (prove.is_searched {encoded = e} i d c x v) (prove.is_searched {encoded = f} j g k y w) = in_one (tables e.fresh f.fresh i j d.0 g.0) (prove.is_searched i d c x v) (prove.is_searched j g k y w)
 
-  pub prove_alike : {s t : ℕ} {a b : List ℕ} → ProveAnswers first command name (Some files) before now s a → ProveAnswers second command name (Some files) again later t b → (s ≡ t) × (a ≡ b)
-  prove_alike (prove.fetch_fails file r f) y = absurd (well r)
-  prove_alike (prove.is_refused why x e) (prove.fetch_fails file r f) = absurd (fine r)
-  prove_alike (prove.is_refused why x e) (prove.is_refused other y f) = (refl, ap (λ w. status_line (unloaded_word w) name ++ load_line w) (refused_alike first second distinct apart files command.root name x y))
-  prove_alike (prove.is_refused why x e) (prove.is_loaded {problem = q} g k y) = absurd (isnt_refused first second distinct files command.root name q k x)
-  prove_alike (prove.is_loaded f h x) (prove.fetch_fails file r g) = absurd (fine r)
-  prove_alike (prove.is_loaded {problem = p} f h x) (prove.is_refused why y e) = absurd (isnt_refused second first apart files command.root name p h y)
-  prove_alike (prove.is_loaded {loaded = flat} {problem = p} f h x) (prove.is_loaded {loaded = other} {problem = q} g k y) = prove_loaded p q h k flat other f g x y
+  pub prove_alike : {s t : ℕ} {a b : List ℕ} → (s ≡ 5 → ⊥) → (t ≡ 5 → ⊥) → ProveAnswers first command name (Some files) before now s a → ProveAnswers second command name (Some files) again later t b → (s ≡ t) × (a ≡ b)
+  prove_alike v w (prove.fetch_fails file r f) y = absurd (v refl)
+  prove_alike v w (prove.is_refused why x e) (prove.fetch_fails file r f) = absurd (w refl)
+  prove_alike v w (prove.is_refused why x e) (prove.is_refused other y f) = (refl, ap (λ w. status_line (unloaded_word w) name ++ load_line w) (refused_alike first second distinct apart files command.root name x y))
+  prove_alike v w (prove.is_refused why x e) (prove.is_loaded {problem = q} g k y) = absurd (isnt_refused first second distinct files command.root name q k x)
+  prove_alike v w (prove.is_loaded f h x) (prove.fetch_fails file r g) = absurd (w refl)
+  prove_alike v w (prove.is_loaded {problem = p} f h x) (prove.is_refused why y e) = absurd (isnt_refused second first apart files command.root name p h y)
+  prove_alike v w (prove.is_loaded {loaded = flat} {problem = p} f h x) (prove.is_loaded {loaded = other} {problem = q} g k y) = prove_loaded p q h k flat other f g x y
 
   -- DECIDE
 
@@ -142,7 +146,7 @@ module _ (one_search : OneSearch) (first second : Table) (distinct : IsDistinct 
             let e : second ≡ first = j ∙ sym flats ∙ sym i in
             let at : IsDecided first command name words other q t b = subst (λ u. IsDecided u command name words other q t b) e y in
             let holds : Holds first files command.root name q = subst (λ u. Holds u files command.root name q) e given in
-            decide_answers_once one_search first distinct command some most name words files before now well (answers.is_loaded held (record { loaded = flat; filled = filled; decided = x })) (answers.is_loaded holds (record { loaded = other; filled = refilled; decided = at }))
+            decide_answers_once one_search first distinct command some most name words files 0 0 never_rose (answers.is_loaded held (record { loaded = flat; filled = filled; decided = x })) (answers.is_loaded holds (record { loaded = other; filled = refilled; decided = at }))
 
         abbrev Both : Merged first second
         Both = third first second distinct apart files command name words p q held given
@@ -167,11 +171,11 @@ module _ (one_search : OneSearch) (first second : Table) (distinct : IsDistinct 
         decided_alike (decide.is_out c z i x l) (decide.is_answered d w j y r) = decided_in_one i j (decide.is_out c z i x l) (decide.is_answered d w j y r)
         decided_alike (decide.is_out c z i x l) (decide.is_out d w j y t) = decided_in_one i j (decide.is_out c z i x l) (decide.is_out d w j y t)
 
-    pub decide_alike : {s t : ℕ} {a b : List ℕ} → DecideAnswers first (Some files) before now command name words s a → DecideAnswers second (Some files) again later command name words t b → (s ≡ t) × (a ≡ b)
-    decide_alike (answers.fetch_fails file r f) y = absurd (well r)
-    decide_alike (answers.is_refused why x e) (answers.fetch_fails file r f) = absurd (fine r)
-    decide_alike (answers.is_refused why x e) (answers.is_refused other y f) = (refl, ap load_line (refused_alike first second distinct apart files command.root name x y))
-    decide_alike (answers.is_refused why x e) (answers.is_loaded {problem = q} k y) = absurd (isnt_refused first second distinct files command.root name q k x)
-    decide_alike (answers.is_loaded h x) (answers.fetch_fails file r f) = absurd (fine r)
-    decide_alike (answers.is_loaded {problem = p} h x) (answers.is_refused why y e) = absurd (isnt_refused second first apart files command.root name p h y)
-    decide_alike (answers.is_loaded {problem = p} h x) (answers.is_loaded {problem = q} k y) = decided_alike p q h k x.loaded y.loaded x.filled y.filled x.decided y.decided
+    pub decide_alike : {s t : ℕ} {a b : List ℕ} → (s ≡ 5 → ⊥) → (t ≡ 5 → ⊥) → DecideAnswers first (Some files) before now command name words s a → DecideAnswers second (Some files) again later command name words t b → (s ≡ t) × (a ≡ b)
+    decide_alike v w (answers.fetch_fails file r f) y = absurd (v refl)
+    decide_alike v w (answers.is_refused why x e) (answers.fetch_fails file r f) = absurd (w refl)
+    decide_alike v w (answers.is_refused why x e) (answers.is_refused other y f) = (refl, ap load_line (refused_alike first second distinct apart files command.root name x y))
+    decide_alike v w (answers.is_refused why x e) (answers.is_loaded {problem = q} k y) = absurd (isnt_refused first second distinct files command.root name q k x)
+    decide_alike v w (answers.is_loaded h x) (answers.fetch_fails file r f) = absurd (w refl)
+    decide_alike v w (answers.is_loaded {problem = p} h x) (answers.is_refused why y e) = absurd (isnt_refused second first apart files command.root name p h y)
+    decide_alike v w (answers.is_loaded {problem = p} h x) (answers.is_loaded {problem = q} k y) = decided_alike p q h k x.loaded y.loaded x.filled y.filled x.decided y.decided

@@ -42,6 +42,10 @@ pub record IsRun (holds : Option Files) (fetch_before fetch_now : ℕ) (words : 
   pub answer : MayAnswer holds fetch_before fetch_now words status text
   pub told : IsTold old new write_before write_now text status result
 
+-- a status that neither a failure of the library or the sink nor want of memory brings
+abbrev pub IsSettledStatus : ℕ → Type 0
+IsSettledStatus status = (status ≡ 5 → ⊥) × (status ≡ 6 → ⊥) × (status ≡ 7 → ⊥)
+
 -- These files have a problem under this name, and under the other a proof of it: each line is right, and the last one refutes a
 -- goal. So one of the problem's goals follows from its axioms.
 pub record HasProof (table : Table) (files : Files) (root : Option (List ℕ)) (name proof_name : List ℕ) : Type 0 where

@@ -49,6 +49,6 @@ mod trace_lines;
 mod verdict_lines;
 mod word_lines;
 
-pub use laws::{one_answer, one_line, one_search};
+pub use laws::{one_answer, one_history, one_line, one_run};
 pub use output::tell_memory_out;
 pub use program::run;
