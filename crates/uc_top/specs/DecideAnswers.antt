@@ -84,10 +84,10 @@ facts_of s = numbered (equations_of (live s.entries))
 
 -- Symbols are those of this table, and the problem file has this name.
 module _ (table : Table) (command : Command) (name : List ℕ) (words : List (List ℕ)) where
-  -- The order is chosen first, for the problem's own signature, in which the symbols of its goals count. Then the words are read as
-  -- questions over this signature. Since questions have known
-  -- symbols alone, the table is then still the one that loading left. Then worker 0 searches alone from the axioms. Where their system
-  -- is saturated, each question has its reply by the facts that live; else a limit ended the search.
+  -- The order is chosen first, for the problem's own signature, in which the symbols of its goals count. Then the words are
+  -- read as questions over this signature. Since questions have known symbols alone, the table is then still the one that
+  -- loading left. Then worker 0 searches alone from the axioms. Where their system is saturated, each question has its reply
+  -- by the facts that live; else a limit ended the search.
   pub data IsDecided (loaded : Table) (problem : Problem) : ℕ → List ℕ → Type 0 where
     is_unordered : {why : ChoiceFault} → IsChoiceFault table problem.signature command.order why → (why ≡ choice.NoMemory → ⊥) → IsDecided loaded problem 4 (choice_line why)
     is_no_question : {spec : OrderSpec} {number : ℕ} {why : WordFault} → IsChosen table problem.signature command.order None spec → IsFirstFault table problem.signature.symbols words number why → (why ≡ NoMemory → ⊥) → IsDecided loaded problem 3 (word_line number why)

@@ -123,7 +123,7 @@ pub data EndAnswers (table : Table) (command : Command) (name : List ℕ) (spec 
 
 -- The status and the answer are those of the search by worker 0 alone, for the problem of this name that the files have, the order
 -- that the words name for it and the questions that they ask, with the symbols in the table that loading it leaves, whose entries are
--- all different. So there is one such answer.
+-- all different.
 pub record IsHeldDecision (files : Files) (command : Command) (name : List ℕ) (words : List (List ℕ)) (status : ℕ) (answer : List ℕ) : Type 0 where
   pub table : Table
   pub distinct : IsDistinct table

@@ -108,7 +108,7 @@ pub record Keeps (table : Table) (command : Command) (name : List ℕ) (problem 
   pub settled : status ≡ 1 → IsSettled table name problem spec answer
   pub stopped : status ≡ 2 → IsStopped table command name problem spec answer
 
--- so it is for the problem of this name that the files have, with its symbols in this table, which grew from the one that loading left
+-- so it is for the problem of this name that the files have, with its symbols in this table; loading leaves the other one
 pub record IsKept (table : Table) (files : Files) (command : Command) (name : List ℕ) (status : ℕ) (answer : List ℕ) : Type 0 where
   pub problem : Problem
   pub holds : Holds table files command.root name problem
@@ -116,7 +116,7 @@ pub record IsKept (table : Table) (files : Files) (command : Command) (name : Li
   pub loaded : Table
   pub filled : IsFilled files command.root name [] loaded problem
 
--- and by the encoding's symbols, and its entries are all different
+-- and the encoding's symbols make the one of the other, and its entries are all different
 pub record KeepsPromise (files : Files) (command : Command) (name : List ℕ) (status : ℕ) (answer : List ℕ) : Type 0 where
   pub table : Table
   pub distinct : IsDistinct table
@@ -136,7 +136,7 @@ KeepsWord files words old new result = (command : Command) (name : List ℕ) →
 
 -- The status and the answer are those of the search by worker 0 alone, for the problem of this name that the files have and the
 -- order that the words name for it, with the symbols in the table that loading and encoding it leave, whose entries are all
--- different. So there is one such answer.
+-- different.
 pub record IsHeldAnswer (files : Files) (command : Command) (name : List ℕ) (status : ℕ) (answer : List ℕ) : Type 0 where
   pub table : Table
   pub distinct : IsDistinct table
