@@ -1,6 +1,6 @@
 -- What a front keeps beside its places tells where a fact of a number is born, and whether it is dead.
 use Rattle.std.proofs.Common.{◌≡◌, ℕ, zero, suc, ◌==◌, ◌+◌, ◌<◌, ◌≤◌, ◌^◌, Bool, true, false, List, [], ◌∷◌, ◌++◌, length, slice_get, Option, Some, None, MatchOption, refl, sym, ap, ◌∙◌, arith, append-nil, subst}
-use Rattle.std.specs.Prelude.{◌||◌}
+use Rattle.std.specs.Prelude.{◌||◌, IsSome}
 use Rattle.std.proofs.lemmas.List.{map-append, length-map, length-append}
 use Rattle.std.specs.declared.sync.Arc.{Arc}
 use Rattle.boxcar.specs.Table.{Where}
@@ -9,7 +9,7 @@ use Rattle.uc_fact.specs.declared.fact.Fact.{Fact}
 use Rattle.uc_fact.specs.Live.{fact_at, numbered_from, equation_of}
 use Rattle.uc_shelf.specs.declared.entry.Entry.{Entry}
 use Rattle.uc_shelf.specs.declared.entry.Entry.TheVariants.{Born, Dies}
-use Rattle.uc_shelf.specs.Entries.{is_dead, equations, live}
+use Rattle.uc_shelf.specs.Entries.{born, is_dead, equations, live}
 use Rattle.uc_shelf.specs.Numbers.{births_from, is_among, AreDead, dying, Notes}
 use Rattle.uc_shelf.specs.Sights.{entries_at}
 use Rattle.uc_shelf.proofs.Viewed.{same_if_alive}
@@ -69,6 +69,7 @@ record BornAt (k n i : ℕ) (es : List Entry) (j : ℕ) : Type 0 where
   fact : Fact
   here : j ≡ k + place
   is : slice_get es place ≡ Some (Born fact)
+  nth : slice_get (born es) i ≡ Some fact
   found : fact_at (numbered_from n (equations es)) (n + i) ≡ Some (equation_of fact)
 
 same_number : (n : ℕ) → (n == n + 0) ≡ true
@@ -84,6 +85,7 @@ born_at (Born f ∷ es) k n zero j h = record {
   fact = f;
   here = (let same : k ≡ j = cc in omega (arith, same));
   is = refl;
+  nth = refl;
   found = rw (same_number n) refl;
 }
 born_at (Born f ∷ es) k n (suc i) j h =
@@ -94,6 +96,7 @@ born_at (Born f ∷ es) k n (suc i) j h =
       fact = b.fact;
       here = omega (arith, b.here);
       is = b.is;
+      nth = b.nth;
       found = rw (other_number n i) (rw r b.found);
     }
 born_at (Dies f l ∷ es) k n i j h =
@@ -103,6 +106,7 @@ born_at (Dies f l ∷ es) k n i j h =
       fact = b.fact;
       here = omega (arith, b.here);
       is = b.is;
+      nth = b.nth;
       found = b.found;
     }
 
@@ -145,3 +149,34 @@ sides_at_birth es i j e of o alive birth at h =
     let b = born_at es 0 0 i j (sym birth) in
     let same : Some e ≡ Some (Born b.fact) = at ∙ ap (slice_get es) (b.here ∙ from_zero b.place) ∙ b.is in
     of_born es i b.fact e of o (let r : e ≡ Born b.fact = cc in r) (same_if_alive es i (numbered_from 0 (equations es)) alive ∙ ap (fact_at (numbered_from 0 (equations es))) (sym (from_zero i)) ∙ b.found) h
+
+-- the fact of a number
+
+births_of : (es : List Entry) (k i : ℕ) → i < length (born es) → (j : ℕ) × (slice_get (births_from k es) i ≡ Some j)
+births_of [] k i less = absurd (omega (arith, less))
+births_of (Born f ∷ es) k zero less = (k, refl)
+births_of (Born f ∷ es) k (suc i) less = births_of es (k + 1) i (omega (arith, less))
+births_of (Dies f l ∷ es) k i less = births_of es (k + 1) i less
+
+-- a fact that is born has a birth
+pub birth_of : (es : List Entry) (i : ℕ) (o : Option ℕ) → o ≡ slice_get (births_from 0 es) i → i < length (born es) → IsSome o
+birth_of es i o e less = let b = births_of es 0 i less in let is : o ≡ Some b.0 = e ∙ b.1 in rw is refl
+
+pub entry_at_birth : (es : List Entry) (i j : ℕ) (e : Entry) → Some j ≡ slice_get (births_from 0 es) i → Some e ≡ slice_get es j → (f : Fact) × (e ≡ Born f) × (slice_get (born es) i ≡ Some f)
+entry_at_birth es i j e birth at =
+    let b = born_at es 0 0 i j (sym birth) in
+    let same : Some e ≡ Some (Born b.fact) = at ∙ ap (slice_get es) (b.here ∙ from_zero b.place) ∙ b.is in
+    (b.fact, (let r : e ≡ Born b.fact = cc in r), b.nth)
+
+pub fact_at_birth : (es : List Entry) (i j : ℕ) (e : Entry) (f : Fact) → Some j ≡ slice_get (births_from 0 es) i → Some e ≡ slice_get es j → e ≡ Born f → slice_get (born es) i ≡ Some f
+fact_at_birth es i j e f birth at is =
+    let b = entry_at_birth es i j e birth at in
+    let both : Born b.0 ≡ Born f = sym b.1 ∙ is in
+    let same : b.0 ≡ f = cc in
+    b.2 ∙ ap (λ z. Some z) same
+
+pub no_death_at_birth : (es : List Entry) (i j : ℕ) (e : Entry) (f k : ℕ) → Some j ≡ slice_get (births_from 0 es) i → Some e ≡ slice_get es j → e ≡ Dies f k → ⊥
+no_death_at_birth es i j e f k birth at is =
+    let b = entry_at_birth es i j e birth at in
+    let both : Born b.0 ≡ Dies f k = sym b.1 ∙ is in
+    absurd cc

@@ -3,7 +3,7 @@
 ghost use Rattle.std.specs.Prelude.{◌≡◌, ◌↔◌, ◌+◌, ◌<◌, ◌≤◌, ◌^◌, ◌++◌, ◌∷◌, [], length, slice_get, Some, IsTrue, IfOk, OnOk, OnErr};
 ghost use Rattle.std.specs.Vec.{vec_len, vec_capacity};
 ghost use Rattle.boxcar.specs.Table.{Shows};
-ghost use Rattle.uc_shelf.specs.Entries.{is_dead};
+ghost use Rattle.uc_shelf.specs.Entries.{born, is_dead};
 ghost use Rattle.uc_shelf.specs.Fronts.{IsOf};
 ghost use Rattle.uc_shelf.specs.Numbers.{births_from, Notes};
 
@@ -13,6 +13,7 @@ use indexmap::IndexSet;
 use std::alloc::{AllocError, Global};
 use std::marker::Model;
 use std::sync::{Arc, Wait};
+use uc_fact::Fact;
 
 /// Entries that workers share. It only grows, and an entry stays where it was put. A contract sees which shelf it is, and
 /// not what stands on it.
@@ -107,6 +108,20 @@ impl Shelf {
         self.slots.value(&*front.places[k as usize])
     }
 
+    /// The fact of a number, from 0 in the order of births, that is born in the front, whether it is dead or not. It is found at
+    /// once.
+    pub fn fact<'a>(&'a self, front: &Front, number: u32) -> &'a Fact
+        requires of { IsOf self.now front.now }
+        requires born { number < length (born front.now.entries) }
+        ensures { slice_get (born front.now.entries) number ≡ Some result.now }
+    {
+        let k = front.birth(number).unwrap();
+        match self.read(front, k) {
+            Entry::Born(fact) => fact,
+            Entry::Dies { .. } => unreachable!(),
+        }
+    }
+
     /// Whether the two lists of entries are equal. Equal places show it without a look at the entries.
     pub fn same(&self, a: &Front, b: &Front) -> bool
         requires a_of { IsOf self.now a.now }
@@ -172,8 +187,8 @@ impl Front {
         self.births.get(number as usize).copied()
     }
 
-    /// Whether the fact of a number is dead.
-    pub(crate) fn is_dead(&self, number: u32) -> bool
+    /// Whether the front says that the fact of a number dies. It is found at once, and takes no memory.
+    pub fn is_dead(&self, number: u32) -> bool
         ensures { result ≡ is_dead self.now.entries number }
     {
         self.dead.contains(&number)

@@ -1,14 +1,13 @@
 //! The facts of a front.
 
-ghost use Rattle.std.specs.Prelude.{◌≡◌, ◌<◌, ◌≤◌, ◌++◌, ◌∷◌, [], ℕ, List, IfOk, OnOk, Some, slice_get, length, map, MatchOption, set, true};
-ghost use Rattle.uc_fact.specs.declared.fact.Fact.{Fact as AnyFact};
+ghost use Rattle.std.specs.Prelude.{◌≡◌, ◌≤◌, ◌++◌, ◌∷◌, [], List, IfOk, OnOk, length, map};
 ghost use Rattle.uc_shelf.specs.declared.entry.Entry.{Entry as AnyEntry};
 ghost use Rattle.uc_shelf.specs.Entries.{born, is_dead, live, living};
 ghost use Rattle.uc_shelf.specs.Fronts.{IsOf};
-ghost use Rattle.uc_task.specs.Living.{live_of, IsBornAs, AreFlags};
+ghost use Rattle.uc_task.specs.Living.{live_of};
 
 use std::alloc::{AllocError, Global};
-use uc_fact::{Equation, Fact};
+use uc_fact::Equation;
 use uc_shelf::{Entry, Front, Shelf};
 use uc_term::Term;
 
@@ -29,34 +28,6 @@ pub fn copy_equation(alloc: Global, left: &Term, right: &Term) -> Result<Equatio
     })
 }
 
-/// The fact of a number that is born in the front.
-pub fn fact_at<'a>(shelf: &'a Shelf, front: &Front, number: u32) -> &'a Fact
-    requires of { IsOf shelf.now front.now }
-    requires born { number < length (born front.now.entries) }
-    ensures { slice_get (born front.now.entries) number ≡ Some result.now }
-{
-    let mut count = 0;
-    for k in 0..front.len() {
-        let entry = shelf.read(front, k);
-        if let Some(fact) = fact_if(entry, count, number) {
-            return fact;
-        }
-        count += births(entry);
-    }
-    unreachable!()
-}
-
-/// The fact that is born in an entry under one number, where the other number is the same.
-#[inline]
-fn fact_if(entry: &Entry, count: u32, number: u32) -> Option<&Fact>
-    ensures { MatchOption result ((fact : AnyFact) → IsBornAs entry.now count number fact → ⊥) (λ fact. IsBornAs entry.now count number fact.now) }
-{
-    match entry {
-        Entry::Born(fact) => { if count == number { Some(fact) } else { None } }
-        Entry::Dies { .. } => None,
-    }
-}
-
 /// How many facts are born in one entry.
 #[inline]
 fn births(entry: &Entry) -> u32
@@ -74,12 +45,11 @@ pub fn live_facts(alloc: Global, shelf: &Shelf, front: &Front) -> Result<Vec<Liv
     requires of { IsOf shelf.now front.now }
     ensures { IfOk result (λ list. map live_of list.items ≡ live front.now.entries) }
 {
-    let dead = dead_flags(alloc, shelf, front)?;
     let mut list = Vec::new(alloc);
     let mut number = 0;
     for k in 0..front.len() {
         let entry = shelf.read(front, k);
-        add_living(alloc, &mut list, entry, number, dead[number as usize])?;
+        add_living(alloc, &mut list, entry, number, front.is_dead(number))?;
         number += births(entry);
     }
     Ok(list)
@@ -105,37 +75,5 @@ fn add_living(
             Ok(())
         }
         Entry::Dies { .. } => Ok(()),
-    }
-}
-
-/// Of each number below that of the front's entries, whether an entry says that the fact of this number dies.
-fn dead_flags(alloc: Global, shelf: &Shelf, front: &Front) -> Result<Vec<bool>, AllocError>
-    requires of { IsOf shelf.now front.now }
-    ensures { IfOk result (λ flags. AreFlags front.now.entries (length front.now.entries) flags.items) }
-{
-    let mut flags = vec![in alloc; false; front.len() as usize]?;
-    for k in 0..front.len() {
-        mark(&mut flags, shelf.read(front, k));
-    }
-    Ok(flags)
-}
-
-/// Marks the fact that dies in an entry.
-fn mark(flags: &mut Vec<bool>, entry: &Entry)
-    ensures { (all : List AnyEntry) (n : ℕ) → AreFlags all n flags.old.items → AreFlags (all ++ entry.now ∷ []) n flags.new.items }
-{
-    match entry {
-        Entry::Born(_) => {}
-        Entry::Dies { fact, .. } => set_flag(flags, *fact as usize),
-    }
-}
-
-/// Sets the flag at a place, where there is one.
-#[inline]
-fn set_flag(flags: &mut Vec<bool>, place: usize)
-    ensures { flags.new.items ≡ set flags.old.items place true }
-{
-    if place < flags.len() {
-        flags[place] = true;
     }
 }

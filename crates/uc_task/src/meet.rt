@@ -10,7 +10,7 @@ ghost use Rattle.uc_machine.specs.declared.task.Job.TheVariants.{Meet};
 ghost use Rattle.uc_task.specs.Living.{live_of};
 ghost use Rattle.uc_task.specs.Meeting.{Adds, IsReducedByIt, FirstReducer, KillsOne, MeetsOne};
 
-use crate::live::{LiveFact, copy_equation, fact_at, live_facts};
+use crate::live::{LiveFact, copy_equation, live_facts};
 use crate::reducing::reduces;
 use std::alloc::{AllocError, Global};
 use uc_fact::Equation;
@@ -33,7 +33,7 @@ pub fn meet<O: Order>(
     requires born { number < length (born front.now.entries) }
     ensures { IfOk result (λ finding. (axioms : List AnyEquation) → IsResult (O.meaning order.now) axioms front.now.entries (Meet number) finding) }
 {
-    let fact = fact_at(shelf, front, number);
+    let fact = shelf.fact(front, number);
     let own = copy_equation(alloc, &fact.left, &fact.right)?;
     let facts = live_facts(alloc, shelf, front)?;
     if let Some(other) = stale_by(alloc, number, &own, facts.as_slice(), order)? {

@@ -9,7 +9,7 @@ ghost use Rattle.uc_machine.specs.Results.{IsPair};
 ghost use Rattle.uc_machine.specs.Origins.{IsKnownOrigin, IsListed};
 
 use crate::chains::one_step;
-use crate::live::{copy_equation, fact_at};
+use crate::live::copy_equation;
 use std::alloc::{AllocError, Global};
 use uc_fact::{By, Chain, Equation, Origin, Overlap};
 use uc_order::Order;
@@ -45,7 +45,7 @@ pub fn pair_from<O: Order>(
         }
         Origin::Overlap(overlap) => by_overlap(alloc, &overlap, shelf, front, order),
         Origin::Revived(k) => {
-            let fact = fact_at(shelf, front, k);
+            let fact = shelf.fact(front, k);
             by_equation(alloc, By::Fact(k), &fact.left, &fact.right)
         }
     }
@@ -74,8 +74,8 @@ fn by_overlap<O: Order>(
     ensures pair { IfOk result (λ pair. (axioms : List AnyEquation) → IsPair axioms front.now.entries (OfOverlap overlap.now) pair.equation pair.chain) }
     ensures short { IfOk result (λ pair. length pair.chain.steps ≤ 2) }
 {
-    let a = fact_at(shelf, front, overlap.outer);
-    let b = fact_at(shelf, front, overlap.inner);
+    let a = shelf.fact(front, overlap.outer);
+    let b = shelf.fact(front, overlap.inner);
     let outer = copy_equation(alloc, &a.left, &a.right)?;
     let inner = copy_equation(alloc, &b.left, &b.right)?;
     match pair_of(alloc, overlap, &outer, &inner)? {

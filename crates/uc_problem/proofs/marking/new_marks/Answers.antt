@@ -18,8 +18,10 @@ returns-clause-marks c =
 
 pub returns-clause-adds : goal.returns-clause-adds
 returns-clause-adds c =
-    let taken = c.args.problem.now.signature.symbols in
-    (c.add_fresh.new.symbols, c.add_fresh-2.new.symbols,
-    adds_fresh c.args.symbols.now c.add_fresh.new.symbols (codes "eq") 2 taken c.in_ok-eq.eq (rw c.as_slice-taken.ensures at c.in_ok-eq.ensures.fresh) c.in_ok-eq.ensures.only,
-    adds_fresh c.add_fresh.new.symbols c.add_fresh-2.new.symbols (codes "true") 0 taken c.in_ok-yes.yes (rw c.as_slice-taken.ensures at c.in_ok-yes.ensures.fresh) c.in_ok-yes.ensures.only,
-    adds_fresh c.add_fresh-2.new.symbols c.add_fresh-3.new.symbols (codes "false") 0 taken c.in_ok-no.no (rw c.as_slice-taken.ensures at c.in_ok-no.ensures.fresh) c.in_ok-no.ensures.only)
+    let taken = c.args.problem.now.signature.symbols in (
+      c.add_fresh.new.symbols,
+      c.add_fresh-2.new.symbols,
+      adds_fresh c.args.symbols.now c.add_fresh.new.symbols (codes "eq") 2 taken c.in_ok-eq.eq (rw c.as_slice-taken.ensures at c.in_ok-eq.ensures.fresh) c.in_ok-eq.ensures.only,
+      adds_fresh c.add_fresh.new.symbols c.add_fresh-2.new.symbols (codes "true") 0 taken c.in_ok-yes.yes (rw c.as_slice-taken.ensures at c.in_ok-yes.ensures.fresh) c.in_ok-yes.ensures.only,
+      adds_fresh c.add_fresh-2.new.symbols c.add_fresh-3.new.symbols (codes "false") 0 taken c.in_ok-no.no (rw c.as_slice-taken.ensures at c.in_ok-no.ensures.fresh) c.in_ok-no.ensures.only,
+    )

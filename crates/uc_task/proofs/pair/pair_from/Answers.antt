@@ -13,8 +13,8 @@ use Rattle.uc_task.proofs.pair.pair_from.Goals as goal
 pub bounds-axioms-k : goal.bounds-axioms-k
 bounds-axioms-k g c = subst (IsKnownOrigin (g.O.Order.meaning c.args.order.now) c.args.axioms.now c.args.front.now.entries) c.in-Axiom.is c.requires.can
 
-pub fact_at-fact-requires-clause-born : goal.fact_at-fact-requires-clause-born
-fact_at-fact-requires-clause-born g c = subst (IsKnownOrigin (g.O.Order.meaning c.args.order.now) c.args.axioms.now c.args.front.now.entries) c.in-Revived.is c.requires.can
+pub fact-fact-requires-clause-born : goal.fact-fact-requires-clause-born
+fact-fact-requires-clause-born g c = subst (IsKnownOrigin (g.O.Order.meaning c.args.order.now) c.args.axioms.now c.args.front.now.entries) c.in-Revived.is c.requires.can
 
 pub by_overlap-requires-clause-listed : goal.by_overlap-requires-clause-listed
 by_overlap-requires-clause-listed g c = subst (IsKnownOrigin (g.O.Order.meaning c.args.order.now) c.args.axioms.now c.args.front.now.entries) c.in-Overlap.is c.requires.can
@@ -45,12 +45,12 @@ pub returns-in-Revived-clause-pair : goal.returns-in-Revived-clause-pair
 returns-in-Revived-clause-pair g c =
     let axioms = c.args.axioms.now in
     let entries = c.args.front.now.entries in
-    let f = c.fact_at-fact.result.now in
+    let f = c.fact-fact.result.now in
     IfOk-weaker c.by_equation-in-Revived.result (λ pair. (pair.equation ≡ equation_of f) × (pair.chain ≡ one_step (ByFact c.in-Revived.k) (equation_of f))) (λ pair. IsPair axioms entries c.args.origin.now pair.equation pair.chain)
-    (λ pair h. subst (λ o. IsPair axioms entries o pair.equation pair.chain) (sym c.in-Revived.is) (dead_pair axioms entries c.in-Revived.k f pair.equation pair.chain c.fact_at-fact.ensures h.0 h.1)) c.by_equation-in-Revived.ensures
+    (λ pair h. subst (λ o. IsPair axioms entries o pair.equation pair.chain) (sym c.in-Revived.is) (dead_pair axioms entries c.in-Revived.k f pair.equation pair.chain c.fact-fact.ensures h.0 h.1)) c.by_equation-in-Revived.ensures
 
 pub returns-in-Revived-clause-short : goal.returns-in-Revived-clause-short
 returns-in-Revived-clause-short g c =
-    let f = c.fact_at-fact.result.now in
+    let f = c.fact-fact.result.now in
     IfOk-weaker c.by_equation-in-Revived.result (λ pair. (pair.equation ≡ equation_of f) × (pair.chain ≡ one_step (ByFact c.in-Revived.k) (equation_of f))) (λ pair. length pair.chain.steps ≤ 2)
     (λ pair h. one_step_short pair.chain (one_step (ByFact c.in-Revived.k) (equation_of f)) h.1 refl) c.by_equation-in-Revived.ensures

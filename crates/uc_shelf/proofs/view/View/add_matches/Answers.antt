@@ -1,10 +1,8 @@
-use Rattle.std.proofs.Common.{◌≡◌, ◌∷◌, [], ◌++◌, ap, ◌∙◌, subst, sym}
+use Rattle.std.proofs.Common.{◌++◌}
 use Rattle.std.proofs.lemmas.Result.{IfOk-weaker, on_err_weaker}
 use Rattle.uc_term.specs.declared.equation.Side.TheVariants.{Left, Right}
 use Rattle.uc_term.specs.Flat.{tree_of}
-use Rattle.uc_fact.specs.Live.{rules_of}
 use Rattle.uc_fact.specs.Retrieval.{FindsNothing}
-use Rattle.uc_shelf.specs.Entries.{living}
 use Rattle.uc_shelf.specs.Viewing.{Adds, rule_if_lives}
 use Rattle.uc_shelf.proofs.Viewed.{err_of, nothing_left, nothing_right, both_sides, adds_both, adds_nothing}
 use Rattle.uc_shelf.proofs.view.View.add_matches.Goals as goal

@@ -1,7 +1,7 @@
-use Rattle.std.proofs.Common.{◌≡◌, sym, ◌∙◌, ◌∷◌, [], append-nil, Some, None, subst}
+use Rattle.std.proofs.Common.{sym, ◌∷◌, [], append-nil}
 use Rattle.uc_term.specs.Flat.{tree_of}
 use Rattle.uc_fact.specs.Retrieval.{FindsNothing}
-use Rattle.uc_shelf.specs.Viewing.{FindsOnly, rule_if_lives}
+use Rattle.uc_shelf.specs.Viewing.{rule_if_lives}
 use Rattle.uc_shelf.proofs.Viewed.{err_of, not_nothing, only_some, only_none}
 use Rattle.uc_shelf.proofs.view.View.add_side.Goals as goal
 

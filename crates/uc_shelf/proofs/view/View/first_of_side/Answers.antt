@@ -1,4 +1,4 @@
-use Rattle.std.proofs.Common.{◌≡◌, Bool, true, false, IsTrue, ◌∷◌, [], sym, subst}
+use Rattle.std.proofs.Common.{◌≡◌, Bool, true, false, IsTrue, []}
 use Rattle.uc_term.specs.Flat.{tree_of}
 use Rattle.uc_fact.specs.Retrieval.{FindsNothing}
 use Rattle.uc_shelf.specs.Viewing.{rule_if_lives}

@@ -1,9 +1,9 @@
-use Rattle.std.proofs.Common.{◌≡◌, ◌+◌, ◌≤◌, ◌∷◌, [], Some, None, length, drop, sym, ap, ◌∙◌, subst, arith}
+use Rattle.std.proofs.Common.{◌+◌, ◌≤◌, ◌∷◌, [], Some, None, length, drop, arith}
 use Rattle.uc_term.specs.Flat.{tree_of}
 use Rattle.uc_fact.specs.Live.{rules_of}
 use Rattle.uc_fact.specs.Retrieval.{FirstThat, FindsNothing, IsFound}
 use Rattle.uc_shelf.specs.Entries.{born, live, living}
-use Rattle.uc_shelf.proofs.Viewed.{Passes, err_of, nothing_here, rules_at, rules_end, answered, passes_on, passes_here, found_here, none_passes}
+use Rattle.uc_shelf.proofs.Viewed.{err_of, nothing_here, rules_at, rules_end, answered, passes_on, passes_here, found_here, none_passes}
 use Rattle.uc_shelf.proofs.view.ViewIndex.first_that.Goals as goal
 
 pub first_of_entry-requires-clause-can : goal.first_of_entry-requires-clause-can

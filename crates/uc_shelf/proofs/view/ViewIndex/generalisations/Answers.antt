@@ -1,10 +1,9 @@
-use Rattle.std.proofs.Common.{◌≡◌, ◌+◌, ◌≤◌, ◌∷◌, [], length, drop, sym, ap, ◌∙◌, subst, arith}
+use Rattle.std.proofs.Common.{◌+◌, ◌≤◌, ◌∷◌, [], length, drop, arith}
 use Rattle.uc_term.specs.Flat.{tree_of}
 use Rattle.uc_fact.specs.Live.{rules_of}
-use Rattle.uc_fact.specs.Retrieval.{Generalises, FindsNothing}
+use Rattle.uc_fact.specs.Retrieval.{FindsNothing}
 use Rattle.uc_shelf.specs.Entries.{born, live, living}
-use Rattle.uc_shelf.proofs.Viewed.{Ahead, err_of, nothing_now, rules_at, rules_end, ahead_on, all_found}
-use Rattle.uc_shelf.specs.Viewing.{Adds}
+use Rattle.uc_shelf.proofs.Viewed.{err_of, nothing_now, rules_at, rules_end, ahead_on, all_found}
 use Rattle.uc_shelf.proofs.view.ViewIndex.generalisations.Goals as goal
 
 pub loop-k-preserved : goal.loop-k-preserved
