@@ -44,8 +44,8 @@ use Rattle.uc_top.specs.QuestionWords.{AreQuestions, IsFirstFault}
 use Rattle.uc_top.specs.ProveAnswers.{status_line, opening_for, verdict_status, IsLimitLine, budget_is_spent, limit_is_passed, pair_is_large, step_is_large}
 use Rattle.uc_top.specs.DecideAnswers.{AreReplies, IsReplyOf, AreRepliesOf, replies_status, reply_lines, opening_of_axioms, IsDecided, is_unordered, is_no_question, is_answered, is_out}
 use Rattle.uc_top.specs.Answers.{DecideAnswers, is_loaded}
-use Rattle.uc_top.specs.DecideRuns.{AreGround, AreRight, none_is_wrong, one_is_right, IsAnswered, IsOut, Decided, IsDecidedBy}
-use Rattle.uc_top.specs.DecideTold.{without_goals, AreGroundOfTable, IsTold, tells_replies, tells_limit, IsToldBySearch}
+use Rattle.uc_top.specs.DecideRuns.{AreGroundQuestions, AreRight, none_is_wrong, one_is_right, IsAnswered, IsOut, Decided, IsDecidedBy}
+use Rattle.uc_top.specs.DecideTold.{without_goals, AreGroundOfTable, TellsEnd, tells_replies, tells_limit, IsToldBySearch}
 use Rattle.uc_top.proofs.Answering.{one_line, held_problem}
 use Rattle.uc_top.proofs.OverSignature.{own_axioms_over}
 use Rattle.uc_top.proofs.ProveKeeping.{out_status}
@@ -73,18 +73,18 @@ module _ (table : Table) (m : Meaning) (command : Command) (name : List ℕ) (ax
 
   module _ (s : State) where
     -- what is told of a system is told of the facts that live
-    pub replies_told : (facts : List Equation) (r : Result Answer AllocError) → facts ≡ equations_of (live s.entries) → Decides m (equations_of (live s.entries)) axioms → (Decides m facts axioms → IfOk r (IsReplied facts)) → IfOk r (λ answer. IsTold table m command name axioms questions s Saturated answer.status (joined answer.lines))
+    pub replies_told : (facts : List Equation) (r : Result Answer AllocError) → facts ≡ equations_of (live s.entries) → Decides m (equations_of (live s.entries)) axioms → (Decides m facts axioms → IfOk r (IsReplied facts)) → IfOk r (λ answer. TellsEnd table m command name axioms questions s Saturated answer.status (joined answer.lines))
     replies_told facts (Ok answer) e d h =
         let p = h (subst (λ (es : List Equation). Decides m es axioms) (sym e) d) in
         rw (p.3, p.4) (tells_replies d (subst (λ (es : List Equation). AreReplies m (numbered es) command.steps questions p.0) e p.1) p.2)
     replies_told facts (Err fault) e d h = tt
 
-    pub limit_told : (v : Verdict) (lines : List (List ℕ)) → (line : List ℕ) × IsLimitLine command s v line × (joined lines ≡ status_line (codes "ResourceOut") name ++ line) → IsTold table m command name axioms questions s v 2 (joined lines)
+    pub limit_told : (v : Verdict) (lines : List (List ℕ)) → (line : List ℕ) × IsLimitLine command s v line × (joined lines ≡ status_line (codes "ResourceOut") name ++ line) → TellsEnd table m command name axioms questions s v 2 (joined lines)
     limit_told v lines h = rw h.2 (tells_limit h.1)
 
   -- THE SEARCH
 
-  pub told_by : (o : Opening) (v : Verdict) (s : State) (r : Result Answer AllocError) → IsSearched m o 0 v s → IfOk r (λ answer. IsTold table m command name axioms questions s v answer.status (joined answer.lines)) → IfOk r (λ answer. IsToldBySearch table m command name axioms questions o answer.status (joined answer.lines))
+  pub told_by : (o : Opening) (v : Verdict) (s : State) (r : Result Answer AllocError) → IsSearched m o 0 v s → IfOk r (λ answer. TellsEnd table m command name axioms questions s v answer.status (joined answer.lines)) → IfOk r (λ answer. IsToldBySearch table m command name axioms questions o answer.status (joined answer.lines))
   told_by o v s (Ok answer) searched told = record { verdict = v; state = s; searched = searched; told = told }
   told_by o v s (Err fault) searched told = tt
 
@@ -109,8 +109,8 @@ module _ (table : Table) (problem : Problem) (spec : OrderSpec) (fits : Fits tab
   pub axioms_over : Agrees table problem → (es : List Equation) → es ≡ axioms_of problem.clauses → AreOfSignature (HasSym m) m.arity es
   axioms_over agrees es e = rw (e, is_m) (equations_over table problem.signature.symbols spec fits (axioms_of problem.clauses) (own_axioms_over table problem agrees))
 
-  pub ground_by : (questions : List (Tree × Tree)) → AreGround (meaning_of table spec) questions → AreGround m questions
-  ground_by questions h = subst (λ (n : Meaning). AreGround n questions) (sym is_m) h
+  pub ground_by : (questions : List (Tree × Tree)) → AreGroundQuestions (meaning_of table spec) questions → AreGroundQuestions m questions
+  ground_by questions h = subst (λ (n : Meaning). AreGroundQuestions n questions) (sym is_m) h
 
   pub ground_of_table : AreGroundOfTable table m
   ground_of_table = subst (AreGroundOfTable table) (sym is_m) (table_ground table problem.signature.symbols spec fits (Has table) fits.of_table)
@@ -147,7 +147,7 @@ module _ (table : Table) (command : Command) (name : List ℕ) (words : List (Li
     o = opening_of_axioms command problem
 
     abbrev Told : State → Verdict → ℕ → List ℕ → Type 0
-    Told = IsTold table m command name (axioms_of problem.clauses) questions
+    Told = TellsEnd table m command name (axioms_of problem.clauses) questions
 
     answer_of : (s : State) (v : Verdict) (status : ℕ) (answer : List ℕ) → IsSearched m o 0 v s → Told s v status answer → IsDecided table command name words loaded problem status answer
     answer_of s _ _ _ searched (tells_replies d replies right) = is_answered chosen are kept searched replies

@@ -5,7 +5,7 @@ use Rattle.uc_term.specs.declared.node.Sym.{Sym}
 use Rattle.uc_term.specs.declared.node.Node.{Node}
 use Rattle.uc_term.specs.Tree.{Tree, var, app, Trees, none, more}
 use Rattle.uc_term.specs.Flat.{flat, flat_all}
-use Rattle.uc_term.specs.Over.{AreOver, IsGround, AreGround as AreGroundOver}
+use Rattle.uc_term.specs.Over.{AreOver, IsGround, AreGround}
 use Rattle.uc_term.specs.Table.{Table, Grows, Has, IsOf, arity_of}
 use Rattle.uc_term.specs.Gathering.{HasAll}
 use Rattle.uc_clause.specs.Interning.{InternsEquation}
@@ -18,7 +18,7 @@ use Rattle.uc_order.specs.declared.spec.OrderSpec.{OrderSpec}
 use Rattle.uc_ordering.specs.Fits.{Fits}
 use Rattle.uc_ordering.specs.Meaning.{meaning_of}
 use Rattle.uc_top.specs.QuestionWords.{is_unfit, IsQuestionWord, AreQuestions, no_question, one_question}
-use Rattle.uc_top.specs.DecideRuns.{AreGround}
+use Rattle.uc_top.specs.DecideRuns.{AreGroundQuestions}
 use Rattle.uc_top.proofs.HadSymbols.{each_has}
 use Rattle.uc_top.proofs.OverSignature.{any_in, split_left, split_right}
 use Rattle.uc_top.proofs.SpecSymbols.{order_ground}
@@ -45,7 +45,7 @@ module _ (table : Table) (known : List Sym) where
     fit_ground (var x) h n = let bad : true ≡ false = n.0 in absurd cc
     fit_ground (app f ts) h n = (any_in f known (not_false (list_any (same_symbol f) known) n.0), h.1, fit_all_ground ts h.2 n.1)
 
-    fit_all_ground : (ts : Trees) → AreOver (Has table) (arity_of table) (λ _. Unit {0}) ts → Each IsFit (flat_all ts) → AreGroundOver (In known) (arity_of table) ts
+    fit_all_ground : (ts : Trees) → AreOver (Has table) (arity_of table) (λ _. Unit {0}) ts → Each IsFit (flat_all ts) → AreGround (In known) (arity_of table) ts
     fit_all_ground none h n = tt
     fit_all_ground (more t ts) h n = (fit_ground t h.0 (split_left IsFit (flat t) (flat_all ts) n), fit_all_ground ts h.1 (split_right IsFit (flat t) (flat_all ts) n))
 
@@ -57,7 +57,7 @@ module _ (table : Table) (known : List Sym) where
       )
 
   -- and so over an order that fits these symbols
-  pub questions_ground : (spec : OrderSpec) → Fits table known spec → {words : List (List ℕ)} {questions : List (Tree × Tree)} → AreQuestions table known words questions → AreGround (meaning_of table spec) questions
+  pub questions_ground : (spec : OrderSpec) → Fits table known spec → {words : List (List ℕ)} {questions : List (Tree × Tree)} → AreQuestions table known words questions → AreGroundQuestions (meaning_of table spec) questions
   questions_ground spec fits no_question = tt
   questions_ground spec fits (one_question {word = word} {sides = sides} q rest) =
       let p = question_ground word sides q in

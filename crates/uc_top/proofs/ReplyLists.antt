@@ -9,7 +9,7 @@ use Rattle.uc_fact.specs.Live.{Live}
 use Rattle.uc_decide.specs.declared.reply.Reply.{Reply}
 use Rattle.uc_decide.specs.Asking.{IsReply, IsRight}
 use Rattle.uc_top.specs.DecideAnswers.{IsReplyOf, AreRepliesOf, AreReplies, no_reply, one_reply}
-use Rattle.uc_top.specs.DecideRuns.{AreGround, AreRight, none_is_wrong, one_is_right}
+use Rattle.uc_top.specs.DecideRuns.{AreGroundQuestions, AreRight, none_is_wrong, one_is_right}
 use Rattle.uc_top.proofs.Questions.{take_next}
 
 pub reply_of : (table : Table) (replies : List Reply) (i : ℕ) (reply : Reply) → i < length replies → reply ≡ get_or replies i reply → AreRepliesOf table replies → IsReplyOf table reply
@@ -17,7 +17,7 @@ reply_of table [] i reply h at of = absurd (omega (arith, h))
 reply_of table (r ∷ rs) zero reply h at of = subst (IsReplyOf table) (sym at) of.0
 reply_of table (r ∷ rs) (suc i) reply h at of = reply_of table rs i reply (omega (arith, h)) at of.1
 
-ground_at : (m : Meaning) (questions : List (Tree × Tree)) (i : ℕ) (sides : Tree × Tree) → i < length questions → sides ≡ get_or questions i sides → AreGround m questions → IsGroundOf m sides.0 × IsGroundOf m sides.1
+ground_at : (m : Meaning) (questions : List (Tree × Tree)) (i : ℕ) (sides : Tree × Tree) → i < length questions → sides ≡ get_or questions i sides → AreGroundQuestions m questions → IsGroundOf m sides.0 × IsGroundOf m sides.1
 ground_at m [] i sides h at are = absurd (omega (arith, h))
 ground_at m (q ∷ qs) zero sides h at are = subst (λ (s : Tree × Tree). IsGroundOf m s.0 × IsGroundOf m s.1) (sym at) are.0
 ground_at m (q ∷ qs) (suc i) sides h at are = ground_at m qs i sides (omega (arith, h)) at are.1
@@ -45,7 +45,7 @@ module _ (m : Meaning) where
     right_behind sides reply none_is_wrong r = one_is_right r none_is_wrong
     right_behind sides reply (one_is_right q qs) r = one_is_right q (right_behind sides reply qs r)
 
-    pub one_right_more : (questions : List (Tree × Tree)) (replies : List Reply) (i : ℕ) (sides : Tree × Tree) (reply : Reply) → i < length questions → sides ≡ get_or questions i sides → AreGround m questions → AreRight m axioms (take i questions) replies → (IsGroundOf m sides.0 → IsGroundOf m sides.1 → IsRight m axioms sides.0 sides.1 reply) → AreRight m axioms (take (i + 1) questions) (replies ++ reply ∷ [])
+    pub one_right_more : (questions : List (Tree × Tree)) (replies : List Reply) (i : ℕ) (sides : Tree × Tree) (reply : Reply) → i < length questions → sides ≡ get_or questions i sides → AreGroundQuestions m questions → AreRight m axioms (take i questions) replies → (IsGroundOf m sides.0 → IsGroundOf m sides.1 → IsRight m axioms sides.0 sides.1 reply) → AreRight m axioms (take (i + 1) questions) (replies ++ reply ∷ [])
     one_right_more questions replies i sides reply h at ground rs r =
         let g = ground_at m questions i sides h at ground in
         subst (λ qs. AreRight m axioms qs (replies ++ reply ∷ [])) (sym (take_next questions i sides h at)) (right_behind sides reply rs (r g.0 g.1))

@@ -37,9 +37,9 @@ use Rattle.uc_top.specs.Runs.{EndsWith}
 -- EACH LINE IS RIGHT
 
 -- the questions are of ground terms over the order's signature
-abbrev pub AreGround : Meaning → List (Tree × Tree) → Type 0
-AreGround m [] = Unit {0}
-AreGround m (sides ∷ others) = (IsGroundOf m sides.0 × IsGroundOf m sides.1) × AreGround m others
+abbrev pub AreGroundQuestions : Meaning → List (Tree × Tree) → Type 0
+AreGroundQuestions m [] = Unit {0}
+AreGroundQuestions m (sides ∷ others) = (IsGroundOf m sides.0 × IsGroundOf m sides.1) × AreGroundQuestions m others
 
 -- Each reply is right: where it is Equal, the question's equation follows from the axioms, and where it is Different, it doesn't;
 -- and its terms are the least to which the axioms make the question's sides equal.

@@ -40,13 +40,13 @@ AreGroundOfTable table m = (t : Tree) → IsGroundOf m t → IsOf table t
 module _ (table : Table) (m : Meaning) (command : Command) (name : List ℕ) (axioms : List Equation) (questions : List (Tree × Tree)) where
   -- What is told for the state and the verdict: of a saturated system, which decides what follows from the axioms, a reply to each
   -- question, and each is right; else the limit.
-  pub data IsTold (s : State) : Verdict → ℕ → List ℕ → Type 0 where
-    tells_replies : {replies : List Reply} → Decides m (equations_of (live s.entries)) axioms → AreReplies m (facts_of s) command.steps questions replies → AreRight m axioms questions replies → IsTold s Saturated (replies_status replies) (reply_lines table replies)
-    tells_limit : {v : Verdict} {line : List ℕ} → IsLimitLine command s v line → IsTold s v 2 (status_line (codes "ResourceOut") name ++ line)
+  pub data TellsEnd (s : State) : Verdict → ℕ → List ℕ → Type 0 where
+    tells_replies : {replies : List Reply} → Decides m (equations_of (live s.entries)) axioms → AreReplies m (facts_of s) command.steps questions replies → AreRight m axioms questions replies → TellsEnd s Saturated (replies_status replies) (reply_lines table replies)
+    tells_limit : {v : Verdict} {line : List ℕ} → IsLimitLine command s v line → TellsEnd s v 2 (status_line (codes "ResourceOut") name ++ line)
 
   -- worker 0 searched alone from the opening, and this is told
   pub record IsToldBySearch (o : Opening) (status : ℕ) (answer : List ℕ) : Type 0 where
     pub verdict : Verdict
     pub state : State
     pub searched : IsSearched m o 0 verdict state
-    pub told : IsTold state verdict status answer
+    pub told : TellsEnd state verdict status answer

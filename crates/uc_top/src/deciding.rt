@@ -20,8 +20,8 @@ ghost use Rattle.uc_top.specs.QuestionWords.{AreShort};
 ghost use Rattle.uc_top.specs.ProveAnswers.{opening_for};
 ghost use Rattle.uc_top.specs.DecideAnswers.{AreReplies, replies_status, reply_lines, opening_of_axioms, IsDecided};
 ghost use Rattle.uc_top.specs.Answers.{DecideAnswers};
-ghost use Rattle.uc_top.specs.DecideRuns.{AreGround, AreRight, Decided, IsDecidedBy, KeepsDecision};
-ghost use Rattle.uc_top.specs.DecideTold.{AreGroundOfTable, IsTold, IsToldBySearch};
+ghost use Rattle.uc_top.specs.DecideRuns.{AreGroundQuestions, AreRight, Decided, IsDecidedBy, KeepsDecision};
+ghost use Rattle.uc_top.specs.DecideTold.{AreGroundOfTable, TellsEnd, IsToldBySearch};
 
 use crate::axioms::without_goals;
 use crate::choosing::choice_answer;
@@ -154,7 +154,7 @@ fn searched_answer<R: Wait>(
 ) -> Result<Answer, AllocError>
     requires agrees { Agrees symbols.now problem.now }
     requires fits { Fits symbols.now problem.now.signature.symbols spec.now }
-    requires ground { AreGround (meaning_of symbols.now spec.now) questions.now }
+    requires ground { AreGroundQuestions (meaning_of symbols.now spec.now) questions.now }
     requires budget { command.now.budget ≤ 10000000 }
     requires pairs { command.now.pairs ≤ 8000000 }
     ensures { IfOk result (λ answer. IsToldBySearch symbols.now (meaning_of symbols.now spec.now) command.now name.now (axioms_of problem.now.clauses) questions.now (opening_of_axioms command.now problem.now) answer.status (joined answer.lines)) }
@@ -191,7 +191,7 @@ fn told_answer<R: Wait, O: Order>(
 ) -> Result<Answer, AllocError>
     requires no_goals { encoded.now.goals ≡ [] }
     requires over { AreOfSignature (HasSym (O.meaning order.now)) (O.meaning order.now).arity encoded.now.axioms }
-    requires ground { AreGround (O.meaning order.now) asked.now.questions.now }
+    requires ground { AreGroundQuestions (O.meaning order.now) asked.now.questions.now }
     requires of_table { AreGroundOfTable asked.now.symbols.now (O.meaning order.now) }
     requires budget { asked.now.command.now.budget ≤ 10000000 }
     requires pairs { asked.now.command.now.pairs ≤ 8000000 }
@@ -216,10 +216,10 @@ fn closed_answer<O: Order>(
     requires shelf { book.now.opening.shelf ≡ shelf.now }
     requires no_goals { book.now.opening.problem.goals ≡ [] }
     requires over { AreOfSignature (HasSym (O.meaning order.now)) (O.meaning order.now).arity book.now.opening.problem.axioms }
-    requires ground { AreGround (O.meaning order.now) asked.now.questions.now }
+    requires ground { AreGroundQuestions (O.meaning order.now) asked.now.questions.now }
     requires of_table { AreGroundOfTable asked.now.symbols.now (O.meaning order.now) }
     requires searched { IsSearched (O.meaning order.now) (opening_of book.now.opening) 0 verdict book.now.state }
-    ensures { IfOk result (λ answer. IsTold asked.now.symbols.now (O.meaning order.now) asked.now.command.now asked.now.name.now book.now.opening.problem.axioms asked.now.questions.now book.now.state verdict answer.status (joined answer.lines)) }
+    ensures { IfOk result (λ answer. TellsEnd asked.now.symbols.now (O.meaning order.now) asked.now.command.now asked.now.name.now book.now.opening.problem.axioms asked.now.questions.now book.now.state verdict answer.status (joined answer.lines)) }
 {
     match verdict {
         Verdict::Saturated => {
@@ -241,7 +241,7 @@ fn replied_answer<O: Order>(
     system: &System,
 ) -> Result<Answer, AllocError>
     requires over { AreOfSignature (HasSym (O.meaning order.now)) (O.meaning order.now).arity system.now.facts }
-    requires ground { AreGround (O.meaning order.now) asked.now.questions.now }
+    requires ground { AreGroundQuestions (O.meaning order.now) asked.now.questions.now }
     requires of_table { AreGroundOfTable asked.now.symbols.now (O.meaning order.now) }
     requires decides { (axioms : List AnyEquation) × Decides (O.meaning order.now) system.now.facts axioms }
     ensures { (axioms : List AnyEquation) → Decides (O.meaning order.now) system.now.facts axioms → IfOk result (λ answer. (replies : List AnyReply) × AreReplies (O.meaning order.now) (numbered system.now.facts) asked.now.command.now.steps asked.now.questions.now replies × AreRight (O.meaning order.now) axioms asked.now.questions.now replies × (answer.status ≡ replies_status replies) × (joined answer.lines ≡ reply_lines asked.now.symbols.now replies)) }

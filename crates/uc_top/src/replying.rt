@@ -12,7 +12,7 @@ ghost use Rattle.uc_decide.specs.Deciding.{Decides};
 ghost use Rattle.uc_decide.specs.declared.reply.Reply.TheVariants as answered;
 ghost use Rattle.uc_top.specs.Lines.{joined};
 ghost use Rattle.uc_top.specs.DecideAnswers.{reply_line, reply_lines, is_open, replies_status, IsReplyOf, AreRepliesOf, AreReplies};
-ghost use Rattle.uc_top.specs.DecideRuns.{AreGround, AreRight};
+ghost use Rattle.uc_top.specs.DecideRuns.{AreGroundQuestions, AreRight};
 
 use crate::chaining::{term_line, write_number};
 use crate::output::{DONE, STOPPED};
@@ -37,7 +37,7 @@ pub(crate) fn replies<O: Order>(
 ) -> Result<Seq<Reply>, AllocError>
     ensures replies { IfOk result (AreReplies (O.meaning order.now) (numbered system.now.facts) steps questions.now) }
     // what follows for questions of ground terms, by a system that decides what follows from axioms
-    ensures right { IfOk result (λ replies. (axioms : List AnyEquation) → Decides (O.meaning order.now) system.now.facts axioms → AreGround (O.meaning order.now) questions.now → AreOfSignature (HasSym (O.meaning order.now)) (O.meaning order.now).arity system.now.facts → AreRight (O.meaning order.now) axioms questions.now replies) }
+    ensures right { IfOk result (λ replies. (axioms : List AnyEquation) → Decides (O.meaning order.now) system.now.facts axioms → AreGroundQuestions (O.meaning order.now) questions.now → AreOfSignature (HasSym (O.meaning order.now)) (O.meaning order.now).arity system.now.facts → AreRight (O.meaning order.now) axioms questions.now replies) }
 {
     if system.facts.len() < MOST_FACTS {
         replies_by(alloc, system, order, questions, steps)
@@ -56,7 +56,7 @@ fn replies_by<O: Order>(
 ) -> Result<Seq<Reply>, AllocError>
     requires few { length system.now.facts < 2 ^ 31 }
     ensures replies { IfOk result (AreReplies (O.meaning order.now) (numbered system.now.facts) steps questions.now) }
-    ensures right { IfOk result (λ replies. (axioms : List AnyEquation) → Decides (O.meaning order.now) system.now.facts axioms → AreGround (O.meaning order.now) questions.now → AreOfSignature (HasSym (O.meaning order.now)) (O.meaning order.now).arity system.now.facts → AreRight (O.meaning order.now) axioms questions.now replies) }
+    ensures right { IfOk result (λ replies. (axioms : List AnyEquation) → Decides (O.meaning order.now) system.now.facts axioms → AreGroundQuestions (O.meaning order.now) questions.now → AreOfSignature (HasSym (O.meaning order.now)) (O.meaning order.now).arity system.now.facts → AreRight (O.meaning order.now) axioms questions.now replies) }
 {
     let mut replies = Seq::new(alloc);
     for question in questions {

@@ -5,11 +5,11 @@ use Rattle.uc_fact.specs.Live.{numbered}
 use Rattle.uc_fact.specs.Ground.{AreOfSignature}
 use Rattle.uc_decide.specs.Deciding.{Decides}
 use Rattle.uc_top.specs.DecideAnswers.{AreReplies}
-use Rattle.uc_top.specs.DecideRuns.{AreGround, AreRight}
+use Rattle.uc_top.specs.DecideRuns.{AreGroundQuestions, AreRight}
 use Rattle.uc_top.proofs.replying.replies_by.Given as goal
 
 abbrev pub invariant-loop-question : goal.invariant-loop-question
 invariant-loop-question g l = record {
   replied : AreReplies (g.O.Order.meaning l.order) (numbered l.system.facts) l.steps (take l.question-index l.questions) l.replies;
-  right : (axioms : List Equation) → Decides (g.O.Order.meaning l.order) l.system.facts axioms → AreGround (g.O.Order.meaning l.order) l.questions → AreOfSignature (HasSym (g.O.Order.meaning l.order)) (g.O.Order.meaning l.order).arity l.system.facts → AreRight (g.O.Order.meaning l.order) axioms (take l.question-index l.questions) l.replies;
+  right : (axioms : List Equation) → Decides (g.O.Order.meaning l.order) l.system.facts axioms → AreGroundQuestions (g.O.Order.meaning l.order) l.questions → AreOfSignature (HasSym (g.O.Order.meaning l.order)) (g.O.Order.meaning l.order).arity l.system.facts → AreRight (g.O.Order.meaning l.order) axioms (take l.question-index l.questions) l.replies;
 }
