@@ -1,11 +1,10 @@
 -- The search that answers words is one: it has one verdict and one state, with its history.
 use Rattle.std.proofs.Common.{ℕ, ◌≡◌, ◌≤◌, List, [], None, Ok, sym, subst}
-use Rattle.uc_term.specs.declared.fresh.Fresh.{Fresh}
 use Rattle.uc_term.specs.Table.{Table, IsDistinct}
 use Rattle.uc_edge.specs.Files.{Files}
 use Rattle.uc_problem.specs.declared.problem.Problem.{Problem}
 use Rattle.uc_problem.specs.declared.problem.Encoded.{Encoded}
-use Rattle.uc_problem.specs.Filling.{IsFilled, AddsMarks}
+use Rattle.uc_problem.specs.Filling.{AddsMarks}
 use Rattle.uc_problem.specs.Holds.{Agrees}
 use Rattle.uc_problem.specs.Marks.{Marks}
 use Rattle.uc_problem.specs.Encodes.{Encodes}
@@ -14,7 +13,6 @@ use Rattle.uc_problem.proofs.AddedOnce.{distinct_earlier, marks_add_once}
 use Rattle.uc_problem.proofs.FilledOnce.{filled_once, filled_problem_once}
 use Rattle.uc_problem.proofs.EncodedOnce.{encoding_once}
 use Rattle.uc_order.specs.declared.spec.OrderSpec.{OrderSpec}
-use Rattle.uc_order.specs.Laws.{Laws}
 use Rattle.uc_machine.specs.declared.event.Verdict.{Verdict}
 use Rattle.uc_machine.specs.State.{State}
 use Rattle.uc_search.specs.Searching.{IsSearched}

@@ -1,22 +1,20 @@
 -- A problem that is refused in two tables is refused for the same reason.
-use Rattle.std.proofs.Common.{ℕ, zero, suc, ◌+◌, ◌≡◌, ◌<◌, ◌≤◌, ◌||◌, Bool, true, false, List, [], ◌∷◌, ◌++◌, length, map, slice_get, bytes_eq, Option, Some, None, Result, Ok, Err, if◌then◌else◌, refl, sym, ap, ap₂, ◌∙◌, subst}
+use Rattle.std.proofs.Common.{ℕ, zero, suc, ◌+◌, ◌≡◌, ◌<◌, ◌≤◌, ◌||◌, Bool, true, false, List, [], ◌∷◌, map, slice_get, bytes_eq, Option, Some, None, Result, Err, if◌then◌else◌, refl, sym, ap, ap₂, ◌∙◌, subst}
 use Rattle.std.specs.List.{list_any}
 use Rattle.std.specs.Option.{option_map}
 use Rattle.std.proofs.lemmas.List.{map-append, length-map}
 use Rattle.std.proofs.lemmas.Option.{slice_get-map}
 use Rattle.uc_term.specs.declared.node.Sym.{Sym}
-use Rattle.uc_term.specs.declared.node.Node.{Node}
 use Rattle.uc_term.specs.declared.node.Node.TheVariants.{App}
 use Rattle.uc_term.specs.declared.fault.TermFault.{TermFault}
 use Rattle.uc_term.specs.declared.fault.TermFault.TheVariants as of_terms
-use Rattle.uc_term.specs.Tree.{Tree, nodes}
+use Rattle.uc_term.specs.Tree.{Tree}
 use Rattle.uc_term.specs.Flat.{flat}
 use Rattle.uc_term.specs.Table.{Table, Entry, name_of, arity_of, Has, IsOf, IsDistinct, Grows}
 use Rattle.uc_term.specs.Gathering.{HasAll}
 use Rattle.uc_term.specs.Signatures.{Occurrence, occurrences_from, occurrences_of, same_symbol, first_named, Gathers, all_seen, seen_before, is_new, clashes, is_too_many}
 use Rattle.uc_term.proofs.Grown.{AllHave, have_from}
 use Rattle.uc_edge.specs.Files.{Files}
-use Rattle.uc_clause.specs.declared.token.Place.{Place}
 use Rattle.uc_clause.specs.declared.clause.Sourced.{Sourced}
 use Rattle.uc_problem.specs.declared.fault.LoadFault.{LoadFault}
 use Rattle.uc_problem.specs.declared.fault.LoadFault.TheVariants as fault

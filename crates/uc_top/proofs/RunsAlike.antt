@@ -1,5 +1,5 @@
 -- Two runs of one command line that searches give one answer, but where memory was wanted.
-use Rattle.std.proofs.Common.{◌⊎◌, inl, inr, ℕ, ◌≡◌, ◌≤◌, List, ◌∷◌, Option, Some, refl, sym, ◌∙◌, subst}
+use Rattle.std.proofs.Common.{inl, inr, ℕ, ◌≡◌, ◌≤◌, List, ◌∷◌, Option, Some, refl, sym, ◌∙◌, subst}
 use Rattle.std.specs.Io.KnownBytes.{Appends}
 use Rattle.uc_term.specs.Table.{Table, IsDistinct}
 use Rattle.uc_edge.specs.Files.{Files}
@@ -12,7 +12,7 @@ use Rattle.uc_top.specs.Answers.{IsSearching, DecideAnswers}
 use Rattle.uc_top.specs.Told.{IsTold, told, cut_short}
 use Rattle.uc_top.specs.Runs.{MayAnswer, is_answer, wants_memory, IsRun, IsSettledStatus}
 use Rattle.uc_top.proofs.AnswersOnce.{only_name, head_name, tail_names}
-use Rattle.uc_top.proofs.ByVerb.{IsUsage, OfProve, OfDecide, Of, of_command}
+use Rattle.uc_top.proofs.ByVerb.{OfProve, OfDecide, Of, of_command}
 use Rattle.uc_top.proofs.SearchLaws.{OneSearch}
 use Rattle.uc_top.proofs.SearchEverywhere.{prove_alike, decide_alike}
 use Rattle.uc_top.proofs.VariableWeights.{w0_within}

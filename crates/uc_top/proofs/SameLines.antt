@@ -1,9 +1,8 @@
 -- Two decisions for one problem by one order have one line for a question.
-use Rattle.std.proofs.Common.{◌⊎◌, inl, inr, ℕ, zero, suc, ◌≡◌, ◌≤◌, List, [], ◌∷◌, slice_get, Option, Some, None, refl, sym, ap, ◌∙◌, subst}
-use Rattle.uc_term.specs.declared.node.Sym.{Sym}
+use Rattle.std.proofs.Common.{◌⊎◌, inl, inr, ℕ, zero, suc, ◌≡◌, List, [], slice_get, Some, None, sym, ap, ◌∙◌, subst}
 use Rattle.uc_term.specs.declared.equation.Equation.{Equation}
 use Rattle.uc_term.specs.Tree.{Tree}
-use Rattle.uc_term.specs.Table.{Table, IsDistinct}
+use Rattle.uc_term.specs.Table.{Table}
 use Rattle.uc_edge.specs.Files.{Files}
 use Rattle.uc_check.specs.Clauses.{axioms_of}
 use Rattle.uc_problem.specs.declared.problem.Problem.{Problem}

@@ -1,25 +1,22 @@
 -- The commands that search give one answer, whatever the tables of symbols are.
-use Rattle.std.proofs.Common.{◌⊎◌, inl, inr, ℕ, ◌≡◌, ◌≤◌, List, [], ◌∷◌, ◌++◌, map, position, slice_get, codes, arith, Option, Some, None, Ok, Err, refl, sym, ap, ap₂, ◌∙◌, subst}
+use Rattle.std.proofs.Common.{ℕ, ◌≡◌, ◌≤◌, List, [], ◌++◌, map, position, slice_get, codes, arith, Option, Some, None, Ok, Err, refl, sym, ap, ap₂, ◌∙◌, subst}
 use Rattle.std.specs.Option.{option_map}
 use Rattle.std.proofs.lemmas.Option.{slice_get-map}
 use Rattle.uc_term.specs.declared.node.Sym.{Sym}
 use Rattle.uc_term.specs.declared.fresh.Fresh.{Fresh}
-use Rattle.uc_term.specs.Table.{Table, Entry, Grows, IsDistinct}
+use Rattle.uc_term.specs.Table.{Table, Grows, IsDistinct}
 use Rattle.uc_edge.specs.Files.{Files}
 use Rattle.uc_edge.specs.Faults.{Rose}
 use Rattle.uc_clause.specs.declared.clause.Sourced.{Sourced}
 use Rattle.uc_clause.proofs.Tables.{grows_not, grows_twice}
 use Rattle.uc_problem.specs.declared.problem.Problem.{Problem}
-use Rattle.uc_problem.specs.declared.problem.Encoded.{Encoded}
 use Rattle.uc_problem.specs.declared.fault.EncodeFault.TheVariants.{GoalTooLarge}
 use Rattle.uc_problem.specs.Holds.{Holds}
 use Rattle.uc_problem.specs.Marks.{Marks, is_too_large}
-use Rattle.uc_problem.specs.Encodes.{Encodes}
 use Rattle.uc_problem.specs.Filling.{IsFilled, AddsMarks}
 use Rattle.uc_problem.proofs.Outcomes.{some_once}
 use Rattle.uc_problem.proofs.FreshMarks.{signature_has}
 use Rattle.uc_problem.proofs.MarksOnce.{marked_or_large}
-use Rattle.uc_problem.proofs.HoldsOnce.{problem_is_once}
 use Rattle.uc_problem.proofs.AddedOnce.{distinct_earlier, adds_grows, marks_add_once}
 use Rattle.uc_problem.proofs.FilledOnce.{filled_once, filled_problem_once}
 use Rattle.uc_words.specs.declared.command.Command.{Command}
@@ -57,7 +54,7 @@ never_rose r = omega (arith, r)
 -- the tables of the encoding's symbols grow
 pub marks_grow : (old new : Table) (fresh : Option Fresh) → AddsMarks old new fresh → Grows old new
 marks_grow old new None i = subst (Grows old) (sym i) (grows_not old)
-marks_grow old new (Some marks) (first, second, eq, yes, no) = grows_twice old first new (adds_grows old first marks.eq eq) (grows_twice first second new (adds_grows first second marks.yes yes) (adds_grows second new marks.no no))
+marks_grow old new (Some marks) (first, second, a, b, c) = grows_twice old first new (adds_grows old first marks.eq a) (grows_twice first second new (adds_grows first second marks.yes b) (adds_grows second new marks.no c))
 
 -- the goal with this number in two lists that differ in symbols alone
 large_alike : (ρ σ : Sym → Sym) (ss ts : List Sourced) (k n : ℕ) (g h : Sourced) → map (sourced_renamed ρ) ss ≡ map (sourced_renamed σ) ts → k ≡ n → slice_get ss k ≡ Some g → slice_get ts n ≡ Some h → large_line g ≡ large_line h

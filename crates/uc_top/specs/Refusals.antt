@@ -1,5 +1,5 @@
 -- What is said of refusals: their statuses and places.
-use Rattle.std.specs.Prelude.{ℕ, List, codes, slice_get, unwrap_or, Option, Some, None}
+use Rattle.std.specs.Prelude.{ℕ, List, codes, slice_get, unwrap_or}
 use Rattle.uc_clause.specs.declared.token.Place.{Place}
 use Rattle.uc_clause.specs.declared.clause.Clause as read
 use Rattle.uc_clause.specs.declared.clause.Sourced.{Sourced}
