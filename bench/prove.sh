@@ -23,6 +23,7 @@ phases() {
         else if (name ~ /uc_shelf|boxcar/) phase = "fronts"
         else if (name ~ /uc_book|uc_rows|uc_queue|uc_ledger|uc_machine/) phase = "the book"
         sum[phase] += share
+        if (name ~ /uc_shelf::shelf::Front::copy/) sum["of the fronts, copying"] += share
     } END { for (phase in sum) printf "  %5.1f %%  %s\n", sum[phase], phase }' | sort -rn
 }
 runs_of() {
