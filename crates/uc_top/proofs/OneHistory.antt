@@ -1,10 +1,11 @@
 -- The search that answers words is one: it has one verdict and one state, with its history.
-use Rattle.std.proofs.Common.{ℕ, ◌≡◌, ◌≤◌, List, [], None, Ok, sym, subst}
+use Rattle.std.proofs.Common.{ℕ, ◌≡◌, ◌≤◌, List, [], None, Ok, sym, ap₂, subst}
 use Rattle.uc_term.specs.Table.{Table, IsDistinct}
 use Rattle.uc_edge.specs.Files.{Files}
+use Rattle.uc_check.specs.Clauses.{axioms_of}
 use Rattle.uc_problem.specs.declared.problem.Problem.{Problem}
 use Rattle.uc_problem.specs.declared.problem.Encoded.{Encoded}
-use Rattle.uc_problem.specs.Filling.{AddsMarks}
+use Rattle.uc_problem.specs.Filling.{IsFilled, AddsMarks}
 use Rattle.uc_problem.specs.Holds.{Agrees}
 use Rattle.uc_problem.specs.Marks.{Marks}
 use Rattle.uc_problem.specs.Encodes.{Encodes}
@@ -14,9 +15,10 @@ use Rattle.uc_problem.proofs.FilledOnce.{filled_once, filled_problem_once}
 use Rattle.uc_problem.proofs.EncodedOnce.{encoding_once}
 use Rattle.uc_order.specs.declared.spec.OrderSpec.{OrderSpec}
 use Rattle.uc_machine.specs.declared.event.Verdict.{Verdict}
-use Rattle.uc_machine.specs.State.{State}
+use Rattle.uc_machine.specs.State.{Opening, State}
 use Rattle.uc_search.specs.Searching.{IsSearched}
 use Rattle.uc_words.specs.declared.command.Command.{Command}
+use Rattle.uc_words.specs.declared.command.OrderWords.{OrderWords}
 use Rattle.uc_ordering.specs.Choice.{IsChosen, all_symbols}
 use Rattle.uc_ordering.specs.Meaning.{meaning_of}
 use Rattle.uc_ordering.proofs.Fitting.{fits}
@@ -60,12 +62,19 @@ module _ (one_search : OneSearch) (files : Files) (command : Command) (some : 1 
       let orders : named ≡ spec = order_once table problem.signature command.order None named spec k c in
       one_search (meaning_of table spec) (spec_laws table problem.signature.symbols spec (fits table problem.signature command.order some most (is_signature table problem agrees) None spec c tt)) (opening_of_axioms command problem) 0 v w s t x (subst (λ (o : OrderSpec). IsSearched (meaning_of table o) (opening_of_axioms command problem) 0 w t) orders y)
 
-  -- whatever is asked
-  pub decided_history : {words others : List (List ℕ)} {s t : ℕ} {a b : List ℕ} (x : IsHeldDecision files command name words s a) (y : IsHeldDecision files command name others t b) → (x.verdict ≡ y.verdict) × (x.state ≡ y.state)
+-- whatever is asked, and whatever the words are that don't count
+module _ (one_search : OneSearch) (files : Files) (k l : Command) (some : 1 ≤ k.order.w0) (most : k.order.w0 ≤ 1000000) (name : List ℕ) (roots : k.root ≡ l.root) (orders : k.order ≡ l.order) (budgets : k.budget ≡ l.budget) (limits : k.pairs ≡ l.pairs) where
+  same_opening : (problem : Problem) → opening_of_axioms l problem ≡ opening_of_axioms k problem
+  same_opening problem = ap₂ (λ (b p : ℕ). record { axioms = axioms_of problem.clauses; goals = []; budget = b; limit = p }) (sym budgets) (sym limits)
+
+  pub decided_history : {words others : List (List ℕ)} {s t : ℕ} {a b : List ℕ} (x : IsHeldDecision files k name words s a) (y : IsHeldDecision files l name others t b) → (x.verdict ≡ y.verdict) × (x.state ≡ y.state)
   decided_history x y =
-      let tables : y.table ≡ x.table = sym (filled_once files command.root name [] x.table y.table x.distinct y.distinct x.problem y.problem x.filled y.filled) in
-      let problems : y.problem ≡ x.problem = sym (filled_problem_once files command.root name [] x.table y.table x.distinct y.distinct x.problem y.problem x.filled y.filled) in
-      plain_search x.table x.problem x.holds.agrees x.spec y.spec x.verdict y.verdict x.state y.state x.chosen
-      (subst (λ (p : Problem). IsChosen x.table p.signature command.order None y.spec) problems (subst (λ t. IsChosen t y.problem.signature command.order None y.spec) tables y.chosen))
+      let filled = subst (λ r. IsFilled files r name [] y.table y.problem) (sym roots) y.filled in
+      let chosen = subst (λ (o : OrderWords). IsChosen y.table y.problem.signature o None y.spec) (sym orders) y.chosen in
+      let searched = subst (λ (o : Opening). IsSearched (meaning_of y.table y.spec) o 0 y.verdict y.state) (same_opening y.problem) y.searched in
+      let tables : y.table ≡ x.table = sym (filled_once files k.root name [] x.table y.table x.distinct y.distinct x.problem y.problem x.filled filled) in
+      let problems : y.problem ≡ x.problem = sym (filled_problem_once files k.root name [] x.table y.table x.distinct y.distinct x.problem y.problem x.filled filled) in
+      plain_search one_search files k some most name x.table x.problem x.holds.agrees x.spec y.spec x.verdict y.verdict x.state y.state x.chosen
+      (subst (λ (p : Problem). IsChosen x.table p.signature k.order None y.spec) problems (subst (λ t. IsChosen t y.problem.signature k.order None y.spec) tables chosen))
       x.searched
-      (subst (λ (p : Problem). IsSearched (meaning_of x.table y.spec) (opening_of_axioms command p) 0 y.verdict y.state) problems (subst (λ t. IsSearched (meaning_of t y.spec) (opening_of_axioms command y.problem) 0 y.verdict y.state) tables y.searched))
+      (subst (λ (p : Problem). IsSearched (meaning_of x.table y.spec) (opening_of_axioms k p) 0 y.verdict y.state) problems (subst (λ t. IsSearched (meaning_of t y.spec) (opening_of_axioms k y.problem) 0 y.verdict y.state) tables searched))

@@ -54,9 +54,9 @@ told_all : {old new : Option (List ℕ)} {before now : ℕ} {text : List ℕ} {s
 told_all n (told whole) = (whole, refl)
 told_all n (cut_short short part rose) = absurd (n refl)
 
-pub runs_alike : OneSearch → (files : Files) (words : List (List ℕ)) (command : Command) (before now again later : ℕ) (old new first last : Option (List ℕ)) (write_before write_now write_again write_later : ℕ) (r q : ℕ) → Reads words command → IsSearching command.verb → IsSettledStatus r → IsSettledStatus q → IsRun (Some files) before now words old new write_before write_now r → IsRun (Some files) again later words first last write_again write_later q → (r ≡ q) × (text : List ℕ) × Appends old new text × Appends first last text
+pub runs_alike : OneSearch → (files : Files) (words : List (List ℕ)) (command : Command) (before now again later : ℕ) (old new first last : Option (List ℕ)) (write_before write_now write_again write_later : ℕ) (r q : ℕ) → Reads words command → IsSearching command.verb → IsSettledStatus r → IsSettledStatus q → (x : IsRun (Some files) before now words old new write_before write_now r) (y : IsRun (Some files) again later words first last write_again write_later q) → (r ≡ q) × (x.text ≡ y.text) × Appends old new x.text × Appends first last y.text
 runs_alike one_search files words command before now again later old new first last write_before write_now write_again write_later r q reads searching a b x y =
     let left = told_all a.1 x.told in
     let right = told_all b.1 y.told in
     let one = answers_alike one_search files before now again later words command x.status y.status x.text y.text reads searching (λ e. a.0 (left.1 ∙ e)) (λ e. a.2 (left.1 ∙ e)) (λ e. b.0 (right.1 ∙ e)) (λ e. b.2 (right.1 ∙ e)) x.answer y.answer in
-    (left.1 ∙ one.0 ∙ sym right.1, x.text, left.0, subst (Appends first last) (sym one.1) right.0)
+    (left.1 ∙ one.0 ∙ sym right.1, one.1, left.0, right.0)

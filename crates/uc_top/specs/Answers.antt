@@ -57,7 +57,7 @@ IsBuilt verb.Pairs = Unit {0}
 IsBuilt verb.Decide = Unit {0}
 IsBuilt other = ⊥
 
--- the commands that search, each by one worker so far
+-- the commands that are built and search, each by one worker so far
 abbrev pub IsSearching : Verb → Type 0
 IsSearching verb.Prove = Unit {0}
 IsSearching verb.Decide = Unit {0}

@@ -131,8 +131,8 @@ module _ (table : Table) (command : Command) (name : List ℕ) where
   -- THE PROBLEM
 
   -- A goal is too large to be encoded; or the order is refused; or worker 0 searches alone by the order that the words and the
-  -- defaults name for the encoded problem, and the answer is that for its book's verdict. Encoding makes the table of the one that
-  -- loading left.
+  -- defaults name for the encoded problem, and the answer is that for its book's verdict. Where no goal is too large,
+  -- encoding makes the table of the one that loading left.
   pub data IsProveAnswer (loaded : Table) (problem : Problem) : ℕ → List ℕ → Type 0 where
     has_large_goal : {number : ℕ} {goal : Sourced} → Encodes table problem (Err (GoalTooLarge number)) → slice_get problem.clauses number ≡ Some goal → IsProveAnswer loaded problem 3 (status_line (codes "InputError") name ++ large_line goal)
     is_unordered : {encoded : Encoded} {why : ChoiceFault} → AddsMarks loaded table encoded.fresh → Encodes table problem (Ok encoded) → IsChoiceFault table problem.signature command.order why → (why ≡ NoMemory → ⊥) → IsProveAnswer loaded problem 4 (choice_line why)

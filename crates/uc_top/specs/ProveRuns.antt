@@ -116,7 +116,7 @@ pub record IsKept (table : Table) (files : Files) (command : Command) (name : Li
   pub loaded : Table
   pub filled : IsFilled files command.root name [] loaded problem
 
--- and the encoding's symbols make the one of the other, and its entries are all different
+-- and this table, whose entries are all different, the encoding's symbols make of the one that loading leaves
 pub record KeepsPromise (files : Files) (command : Command) (name : List ℕ) (status : ℕ) (answer : List ℕ) : Type 0 where
   pub table : Table
   pub distinct : IsDistinct table

@@ -22,14 +22,14 @@ pub fn one_answer()
 /// Two runs of one command line whose command searches, `prove` or `decide`, over the same files, that end with another status
 /// than 5, 6 and 7, have one status and tell one text.
 pub fn one_run()
-    ensures { (files : Files) (words : List (List ℕ)) (command : Command) (before now again later : ℕ) (old new first last : Option (List ℕ)) (write_before write_now write_again write_later : ℕ) (r q : ℕ) → Reads words command → IsSearching command.verb → IsSettledStatus r → IsSettledStatus q → IsRun (Some files) before now words old new write_before write_now r → IsRun (Some files) again later words first last write_again write_later q → (r ≡ q) × (text : List ℕ) × Appends old new text × Appends first last text }
+    ensures { (files : Files) (words : List (List ℕ)) (command : Command) (before now again later : ℕ) (old new first last : Option (List ℕ)) (write_before write_now write_again write_later : ℕ) (r q : ℕ) → Reads words command → IsSearching command.verb → IsSettledStatus r → IsSettledStatus q → (x : IsRun (Some files) before now words old new write_before write_now r) (y : IsRun (Some files) again later words first last write_again write_later q) → (r ≡ q) × (x.text ≡ y.text) × Appends old new x.text × Appends first last y.text }
 {}
 
 /// The search that `prove` or `decide` tells of is one function of the words and the files: it has one verdict and one state, with
-/// one history. That of `decide` doesn't depend on the questions.
+/// one history. Of `decide` the words for the root, the order, the budget and the limit on pairs alone count, and not the questions.
 pub fn one_history()
     ensures prove { (files : Files) (words : List (List ℕ)) (command : Command) (name : List ℕ) (s t : ℕ) (a b : List ℕ) (x : IsHeldAnswer files command name s a) (y : IsHeldAnswer files command name t b) → Reads words command → (x.verdict ≡ y.verdict) × (x.state ≡ y.state) }
-    ensures decide { (files : Files) (words : List (List ℕ)) (command : Command) (name : List ℕ) (asked others : List (List ℕ)) (s t : ℕ) (a b : List ℕ) (x : IsHeldDecision files command name asked s a) (y : IsHeldDecision files command name others t b) → Reads words command → (x.verdict ≡ y.verdict) × (x.state ≡ y.state) }
+    ensures decide { (files : Files) (words : List (List ℕ)) (k l : Command) (name : List ℕ) (asked others : List (List ℕ)) (s t : ℕ) (a b : List ℕ) (x : IsHeldDecision files k name asked s a) (y : IsHeldDecision files l name others t b) → Reads words k → k.root ≡ l.root → k.order ≡ l.order → k.budget ≡ l.budget → k.pairs ≡ l.pairs → (x.verdict ≡ y.verdict) × (x.state ≡ y.state) }
 {}
 
 /// Two runs of `decide` for one problem (one name, root and library) by one order that both say of a question whether its equation

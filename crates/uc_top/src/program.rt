@@ -45,13 +45,14 @@ const USAGE_LINE: &[u8] = b"usage: uc COMMAND [--option VALUE].. [WORD]..\n";
 /// problem is there and the words name an order for it, and each critical pair of its axioms is told on a line of its own; 4
 /// where the order is refused; else 3. For `prove`, with one worker, it is 0 where the text has a proof of the problem, each
 /// line of it right and the last one a refutation of a goal; 1 where it has a system by which each ground term has exactly one
-/// normal form, two terms share it exactly if their equation follows from the axioms, and no goal follows; 2 where the text
-/// names the budget, the limit on pairs or the size that ended the search; 4 where the order is refused; else 3. For `decide`,
-/// with one worker, it is 0 where each question has its line, `equal` where its equation follows from the axioms and
-/// `different` where it doesn't, with the least terms to which its sides are equal; 2 where a question stays open, since its
-/// steps are spent or a term grew too large, or where the text names the budget, the limit on pairs or the size that ended the
-/// search; 4 where the order is refused; else 3. 4 stands for words that have no reading, 5 for a failure of the library and 6
-/// for one of the sink, each only where its count of faults rose in this call, and 7 for want of memory.
+/// normal form, two terms share it exactly if their equation follows from the axioms, those of the encoding where a goal has a
+/// variable, and no goal follows; 2 where the text names the budget, the limit on pairs or the size that ended the search; 4
+/// where the order is refused; else 3. For `decide`, with one worker, it is 0 where each question has its line, `equal` where
+/// its equation follows from the axioms and `different` where it doesn't, with the least terms to which its sides are equal; 2
+/// where a question stays open, since its steps are spent or a term grew too large, or where the text names the budget, the
+/// limit on pairs or the size that ended the search; 4 where the order is refused; else 3. 4 stands for words that have no
+/// reading, name a command that isn't built, or ask for more than one worker, 5 for a failure of the library and 6 for one of
+/// the sink, each only where its count of faults rose in this call, and 7 for want of memory.
 pub fn run<R: Threads + Wait + Sync, L: Library, S: Sink, G: Gate + Sync>(
     rt: &R,
     alloc: Global,
