@@ -10,6 +10,7 @@ ghost use Rattle.uc_rows.specs.PairRows.{queue_in, head_in, IsHead};
 
 use std::alloc::{AllocError, Global};
 use std::marker::Model;
+use std::mem::size_of;
 use uc_fact::Origin;
 use uc_ledger::{Ledger, State};
 use uc_queue::Passive;
@@ -20,6 +21,9 @@ pub struct PairRow {
     pub origin: Origin,
     pub weight: u32,
 }
+
+// with the 24 bytes of its entry in the queue and the 8 of its state, a pair that waits takes 60
+const _: () = prove!(size_of::<PairRow>() <= 28);
 
 /// All pairs, by number, with their states. The queue holds those that wait.
 #[derive(Drop)]
