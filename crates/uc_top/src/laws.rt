@@ -1,6 +1,6 @@
 //! Laws over the definitions, the contract of a function that does nothing.
 
-ghost use Rattle.std.specs.Prelude.{◌≡◌, ℕ, List, Option, Some, slice_get};
+ghost use Rattle.std.specs.Prelude.{◌≡◌, ◌≤◌, ◌+◌, ℕ, List, Option, Some, slice_get};
 ghost use Rattle.std.specs.Io.KnownBytes.{Appends};
 ghost use Rattle.uc_term.specs.Tree.{Tree};
 ghost use Rattle.uc_term.specs.Table.{Table, IsDistinct};
@@ -8,9 +8,12 @@ ghost use Rattle.uc_edge.specs.Files.{Files};
 ghost use Rattle.uc_edge.specs.Faults.{Rose};
 ghost use Rattle.uc_words.specs.declared.command.Command.{Command};
 ghost use Rattle.uc_words.specs.Reads.{Reads};
+ghost use Rattle.uc_search.specs.Bounds.{rounds_in, IsBounded};
 ghost use Rattle.uc_top.specs.Answers.{Answers, IsSearching};
 ghost use Rattle.uc_top.specs.Runs.{IsRun, IsSettledStatus};
+ghost use Rattle.uc_top.specs.ProveAnswers.{opening_for};
 ghost use Rattle.uc_top.specs.ProveRuns.{IsHeldAnswer};
+ghost use Rattle.uc_top.specs.DecideAnswers.{opening_of_axioms};
 ghost use Rattle.uc_top.specs.DecideRuns.{IsHeldDecision, KeepsDecision, Tells};
 
 /// In a table whose entries are all different, words and the files of a library have at most one status and one text for an
@@ -36,4 +39,14 @@ pub fn one_history()
 /// follows print the same line for it, whatever words named the order, whatever else is asked, and whatever the limits are.
 pub fn one_line()
     ensures { (files : Files) (words : List (List ℕ)) (k l : Command) (name : List ℕ) (asked others : List (List ℕ)) (s t : ℕ) (a b : List ℕ) (x : KeepsDecision files k name asked s a) (y : KeepsDecision files l name others t b) (i j : ℕ) (sides : Tree × Tree) (line other : List ℕ) → Reads words k → k.root ≡ l.root → x.is_decided.decided.spec ≡ y.is_decided.decided.spec → slice_get x.is_decided.decided.questions i ≡ Some sides → slice_get y.is_decided.decided.questions j ≡ Some sides → Tells x i line → Tells y j other → line ≡ other }
+{}
+
+/// The search that `prove` or `decide` tells of is short. With the budget `B` and `g` goals, those of the encoded problem, it draws
+/// at most `g * (2B + 1) + 2B` tasks and keeps at most `B` audits, and it makes at most `B + 1` rounds, each with at most one final
+/// pass. `decide` searches without goals.
+pub fn searches_are_short()
+    ensures prove { (files : Files) (command : Command) (name : List ℕ) (s : ℕ) (a : List ℕ) (x : IsHeldAnswer files command name s a) → IsBounded (opening_for command x.encoded) x.state }
+    ensures prove_rounds { (files : Files) (command : Command) (name : List ℕ) (s : ℕ) (a : List ℕ) (x : IsHeldAnswer files command name s a) → rounds_in x.searched.searches ≤ command.budget + 1 }
+    ensures decide { (files : Files) (command : Command) (name : List ℕ) (asked : List (List ℕ)) (s : ℕ) (a : List ℕ) (x : IsHeldDecision files command name asked s a) → IsBounded (opening_of_axioms command x.problem) x.state }
+    ensures decide_rounds { (files : Files) (command : Command) (name : List ℕ) (asked : List (List ℕ)) (s : ℕ) (a : List ℕ) (x : IsHeldDecision files command name asked s a) → rounds_in x.searched.searches ≤ command.budget + 1 }
 {}

@@ -46,9 +46,11 @@ mod term_word;
 #[cfg(test)]
 mod tests;
 mod trace_lines;
+#[cfg(test)]
+mod trace_tests;
 mod verdict_lines;
 mod word_lines;
 
-pub use laws::{one_answer, one_history, one_line, one_run};
+pub use laws::{one_answer, one_history, one_line, one_run, searches_are_short};
 pub use output::tell_memory_out;
 pub use program::run;

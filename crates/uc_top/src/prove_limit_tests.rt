@@ -253,6 +253,15 @@ pub(crate) type Large = (
     &'static str,
 );
 
+// A goal with a variable, whose encoded axiom would have 4,097 nodes on its left side.
+const TOO_LARGE_A_GOAL: &[(&str, usize)] = &[
+    ("cnf(g, negated_conjecture, ", 1),
+    ("f(", 4094),
+    ("X", 1),
+    (")", 4094),
+    (" != a).", 1),
+];
+
 // An overlap whose pair would have a side of 6,001 nodes; a goal that would grow to 4,161; and goals with a variable that have
 // 4,096 nodes and 4,095.
 const LARGE: &[Large] = &[
@@ -282,14 +291,14 @@ const LARGE: &[Large] = &[
         "% SZS status ResourceOut for wide.p\n% size goal 1\n",
     ),
     (
+        &["prove", "gl.p"],
+        TOO_LARGE_A_GOAL,
+        3,
+        "% SZS status InputError for gl.p\n% gl.p:1:28 Limit nodes\n",
+    ),
+    (
         &["prove", "--precedence", "zz", "gl.p"],
-        &[
-            ("cnf(g, negated_conjecture, ", 1),
-            ("f(", 4094),
-            ("X", 1),
-            (")", 4094),
-            (" != a).", 1),
-        ],
+        TOO_LARGE_A_GOAL,
         3,
         "% SZS status InputError for gl.p\n% gl.p:1:28 Limit nodes\n",
     ),

@@ -647,8 +647,11 @@ fn is_group_completed(answer: &[u8]) -> bool {
 
 #[test]
 fn groups_are_completed(rt: HostRuntime) -> Result<(), Fail> {
-    let answer = text_of(&rt, rt.alloc(), GROUP_WORDS, GROUP)?;
-    assert!(rt; is_group_completed(answer.as_bytes()));
+    let alloc = rt.alloc();
+    let files = files_for(alloc, GROUP_WORDS, GROUP)?;
+    let (status, sink) = answered(&rt, alloc, GROUP_WORDS, files)?;
+    assert_eq!(rt; status, 1);
+    assert!(rt; is_group_completed(sink.bytes()));
     Ok(())
 }
 

@@ -1,0 +1,17 @@
+use Rattle.std.proofs.Common.{ℕ, ◌<◌, arith}
+use Rattle.uc_ordering.specs.Meaning.{meaning_of}
+use Rattle.uc_search.proofs.Bounded.{searched_bounded, few_rounds}
+use Rattle.uc_top.specs.ProveAnswers.{opening_for}
+use Rattle.uc_top.specs.DecideAnswers.{opening_of_axioms}
+use Rattle.uc_top.proofs.laws.searches_are_short.Goals as goal
+
+worker_zero : 0 < 65
+worker_zero = omega arith
+
+pub returns : goal.returns
+returns c = record {
+  prove = λ files command name s a x. searched_bounded (meaning_of x.table x.spec) (opening_for command x.encoded) 0 worker_zero x.verdict x.state x.searched;
+  prove_rounds = λ files command name s a x. few_rounds (meaning_of x.table x.spec) (opening_for command x.encoded) 0 worker_zero x.verdict x.state x.searched;
+  decide = λ files command name asked s a x. searched_bounded (meaning_of x.table x.spec) (opening_of_axioms command x.problem) 0 worker_zero x.verdict x.state x.searched;
+  decide_rounds = λ files command name asked s a x. few_rounds (meaning_of x.table x.spec) (opening_of_axioms command x.problem) 0 worker_zero x.verdict x.state x.searched;
+}
