@@ -1,4 +1,4 @@
-use Rattle.std.proofs.Common.{ℕ, ◌<◌, arith}
+use Rattle.std.proofs.Common.{◌<◌, arith}
 use Rattle.uc_ordering.specs.Meaning.{meaning_of}
 use Rattle.uc_search.proofs.Bounded.{searched_bounded, few_rounds}
 use Rattle.uc_top.specs.ProveAnswers.{opening_for}
