@@ -1,0 +1,1 @@
+"""What the tools beside `uc` share. They need nothing but Python's standard library."""
