@@ -1,6 +1,6 @@
 //! Compares terms under the Knuth-Bendix and the lexicographic path order and prints the outcomes, to be timed. Of the
 //! five words the first two say how many rounds each order compares the pairs of the file `group_pairs` (made by
-//! `bench/pairs.py`), as plain Rust does it too (`bench/orders_plain`); the next, how many levels the deep terms have
+//! `bench/pairs.py`), as plain Rust does it too (`bench/orders_plain`); the next two, how many levels the deep terms have
 //! that each order compares; the last, how many levels two combs have, each with a variable of its own, that the
 //! Knuth-Bendix order compares a thousand times.
 #![tactic(auto)]
@@ -10,8 +10,6 @@ mod deep;
 mod many;
 mod orders;
 mod pairs;
-#[cfg(test)]
-mod tests;
 
 use counts::{Counts, compared};
 use deep::{Outcomes, Shape, deep_outcomes};

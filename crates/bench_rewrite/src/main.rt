@@ -3,8 +3,6 @@
 #![tactic(auto)]
 
 mod peano;
-#[cfg(test)]
-mod tests;
 
 use peano::{axioms, numeral, order, product};
 use std::alloc::Global;

@@ -2,8 +2,9 @@
 
 ghost use Rattle.std.specs.Prelude.{◌≡◌, OnOk, IfOk, IfErr};
 ghost use Rattle.uc_machine.specs.Finals.{IsFinal};
-ghost use Rattle.uc_machine.specs.Runs.{IsDrained};
+ghost use Rattle.uc_machine.specs.Runs.{IsDrained, Reaches};
 ghost use Rattle.uc_machine.specs.declared.task.Outcome.TheVariants.{Missing as Lacks};
+ghost use Rattle.uc_book.specs.Openings.{opening_of};
 ghost use Rattle.uc_book.specs.Answers.{IsSameBook, IsAnEnd};
 
 use crate::images::sides_of;
@@ -71,12 +72,20 @@ fn audit_all<R: Wait, O: Order>(
     requires missing { IsFinal (O.meaning book.old.order) book.old.opening.problem.axioms book.old.state (Lacks all) }
     ensures book { OnOk result (IsSameBook book.old book.new) }
 {
+    is_reached(book);
     for missing in all.into_vec() {
         let number = machine.audit(sides_of(&missing.fact))?;
         let audited = book.audit(rt, alloc, missing)?;
         check(is_audited(machine, audited, number), "an audit")?;
     }
     Ok(())
+}
+
+// A run leads to the book's state.
+fn is_reached<O: Order>(book: &Book<O>)
+    ensures { Reaches (O.meaning book.now.order) (opening_of book.now.opening) book.now.state }
+{
+    let _events = book.history();
 }
 
 // Whether an audit was answered alike.

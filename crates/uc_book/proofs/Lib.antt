@@ -22,4 +22,3 @@ pub mod Waiting
 pub mod Reclaiming
 pub mod Publishing
 pub mod Beginning
-pub mod TestTurns

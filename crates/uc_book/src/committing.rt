@@ -21,6 +21,7 @@ ghost use Rattle.uc_book.specs.Ending.{CanEnd, AnyAt, CanAccept, HasEnded};
 ghost use Rattle.uc_book.specs.Committing.{stage_by, commit_word, HasGoal, IsGoalJob, IsPairJob, IsFor, IsForPair, HasEnds, HasNoEnds};
 
 use crate::answer::{CommitFault, Receipt};
+use crate::limits::check_entries;
 use crate::opened::Opened;
 use crate::parts::Parts;
 use crate::token::Done;
@@ -30,9 +31,6 @@ use uc_fact::{Fact, Stop};
 use uc_machine::{Finding, GoalEnd, Happening, Job, Stage, Verdict};
 use uc_rows::{TaskRow, end_of, place_of, same_job};
 use uc_shelf::{Entry, Front, Shelf};
-
-/// The most entries of a front.
-pub(crate) const MAX_ENTRIES: u32 = 0x8000_0000;
 
 /// How the normalising of a goal ended, where its ends differ.
 fn end_word(stop: Stop) -> GoalEnd
@@ -333,9 +331,7 @@ impl Parts {
         ensures few { IfOk result (λ f. length f.entries ≤ 2 ^ 31) }
         ensures room { OnOk result (1 ≤ self.new.facts.room) }
     {
-        if self.facts.front().len() >= MAX_ENTRIES {
-            return Err(AllocError);
-        }
+        check_entries(self.facts.front())?;
         self.facts.reserve(1)?;
         let mut front = self.facts.front().copy(alloc)?;
         shelf.publish(rt, alloc, &mut front, Entry::Born(fact))?;

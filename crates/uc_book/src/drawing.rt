@@ -13,6 +13,7 @@ ghost use Rattle.uc_book.specs.Drawing.{IsSound, HasRoomToGive, CanGive};
 ghost use Rattle.uc_rows.specs.Jobs.{AreJobs};
 
 use crate::answer::Drawn;
+use crate::limits::check_tasks;
 use crate::opened::Opened;
 use crate::parts::Parts;
 use crate::token::Task;
@@ -147,9 +148,7 @@ impl Parts {
         ensures steady { IsSteady self.old self.new }
         ensures room { OnOk result (HasRoomToGive self.new) }
     {
-        if self.tasks.len() >= u32::MAX as usize - 1 {
-            return Err(AllocError);
-        }
+        check_tasks(self.tasks.len())?;
         self.tasks.reserve(1)?;
         let ends = self.tasks.len() + 3;
         let events = ends.saturating_add(self.pairs.waiting());

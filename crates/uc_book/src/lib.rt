@@ -9,6 +9,7 @@ mod auditing;
 mod book;
 mod committing;
 mod drawing;
+mod limits;
 mod opened;
 mod parts;
 mod returning;
@@ -21,6 +22,3 @@ pub use book::{Book, MAX_BUDGET, MAX_LIMIT};
 pub use opened::Opened;
 pub use token::{Done, Pass, Task};
 pub use uc_rows::{WORKERS, copy_job};
-
-#[cfg(test)]
-mod tests;

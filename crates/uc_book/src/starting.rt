@@ -7,6 +7,7 @@ ghost use Rattle.uc_machine.specs.State.{Opening};
 ghost use Rattle.uc_machine.specs.Runs.{Starts, axiom_pairs, opened};
 ghost use Rattle.uc_book.specs.Parts.{state_of, Fit, HasRoom};
 
+use crate::limits::check_count;
 use crate::parts::Parts;
 use std::alloc::{AllocError, Global};
 use uc_fact::{Equation, Origin};
@@ -15,21 +16,13 @@ use uc_machine::Verdict;
 use uc_problem::Encoded;
 use uc_rows::{Facts, Goals, Pairs, no_numbers};
 
-/// The most axioms, and the most goals, that a book may have: more need more memory than a book may have.
-const MAX_COUNT: usize = i32::MAX as usize;
-
 /// Refuses more axioms or goals than a book may have.
 fn check_counts(problem: &Encoded) -> Result<(), AllocError>
     ensures axioms { OnOk result (length problem.now.axioms < 2 ^ 31) }
     ensures goals { OnOk result (length problem.now.goals < 2 ^ 31) }
 {
-    if problem.axioms.len() > MAX_COUNT {
-        return Err(AllocError);
-    }
-    if problem.goals.len() > MAX_COUNT {
-        return Err(AllocError);
-    }
-    Ok(())
+    check_count(problem.axioms.len())?;
+    check_count(problem.goals.len())
 }
 
 /// A pair for each axiom, which waits.

@@ -18,7 +18,7 @@ ghost use Rattle.uc_book.specs.Ending.{AnyAt, CanEnd, CanAccept, HasEnded};
 ghost use Rattle.uc_rows.specs.Rising.{AreRising, AreBelow};
 ghost use Rattle.uc_rows.specs.Deaths.{alive_of, deaths_by, revived, all_dead, visited, woken_by};
 
-use crate::committing::MAX_ENTRIES;
+use crate::limits::{check_entries, count_of};
 use crate::opened::Opened;
 use crate::parts::Parts;
 use std::alloc::{AllocError, Global};
@@ -67,9 +67,7 @@ fn with_deaths<R: Wait>(
 {
     let mut longer = front.copy(alloc)?;
     for k in 0..falls.len() {
-        if longer.len() >= MAX_ENTRIES {
-            return Err(AllocError);
-        }
+        check_entries(&longer)?;
         let death = Entry::Dies {
             fact: falls[k],
             killer,
@@ -185,16 +183,6 @@ fn wake(goals: &mut Goals, falls: &[u32])
 {
     if !falls.is_empty() {
         goals.wake();
-    }
-}
-
-/// A count as a number of 32 bits. For more than those there would be no memory.
-fn count_of(count: usize) -> Result<u32, AllocError>
-    ensures { IfOk result (λ n. n ≡ count) }
-{
-    match u32::try_from(count) {
-        Ok(count) => Ok(count),
-        Err(_) => Err(AllocError),
     }
 }
 

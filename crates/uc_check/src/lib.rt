@@ -13,8 +13,6 @@ mod parents;
 mod proof;
 mod refute;
 mod replacement;
-#[cfg(test)]
-mod tests;
 mod variants;
 
 pub use checker::{Cause, Checked, check, check_lines};

@@ -16,7 +16,7 @@ use Rattle.uc_clause.specs.Terms.{Term}
 use Rattle.uc_clause.specs.Items.{term, equals, term_alone, equals_alone}
 use Rattle.uc_clause.specs.Meaning.{Variables, with_names, variables_in, Means}
 use Rattle.uc_clause.specs.Drafts.{IsPart}
-use Rattle.uc_clause.specs.Interning.{InternsAt, with_sides}
+use Rattle.uc_clause.specs.Interning.{InternsAt, with_term, with_sides}
 use Rattle.uc_clause.specs.Sides.{IsTermAlone, IsEquationAlone, ReadsPair}
 use Rattle.uc_clause.specs.Reading.{SaysTerm, SaysSides}
 use Rattle.uc_clause.proofs.Sequences.{passes}
@@ -61,6 +61,14 @@ module _ (bytes : List ℕ) (tokens : List Token) where
       reads = goes_on l.reads (goes_on {v = tt} (e, refl) refl);
       means = subst (λ s. Means bytes tokens table s l.parse part.term) l.seen_is l.means;
     }
+
+  -- what is read makes the new table
+  pub alone_term_interns : (old new : Table) (k : ℕ) → InternsAt (Term bytes tokens 0 0) (with_term bytes tokens) old new k → terminal_at bytes tokens k ≡ End → InternsAt (term_alone bytes tokens 0) (with_term bytes tokens) old new (k + 1)
+  alone_term_interns old new k r e = record {
+    parse = r.parse;
+    reads = goes_on r.reads (goes_on {v = tt} (e, refl) refl);
+    new_is = r.new_is;
+  }
 
   pub alone_equals_stops : (err : Stop) → Stops (equals bytes tokens 0) err → Stops (equals_alone bytes tokens 0) err
   alone_equals_stops err h = passes (equals bytes tokens 0) (equals_alone bytes tokens 0) err (λ why k s. stops_first s) h

@@ -3,12 +3,12 @@ use Rattle.std.proofs.Common.{◌≡◌, ℕ, List, sym, ap, ◌∙◌, subst}
 use Rattle.uc_term.specs.Table.{Table}
 use Rattle.uc_clause.specs.declared.token.Token.{Token}
 use Rattle.uc_clause.specs.Rules.{Outcome, Rule, read}
-use Rattle.uc_clause.specs.Items.{Items, equals_alone}
-use Rattle.uc_clause.specs.Interning.{Interns, InternsFile, InternsEquation, with_items, with_sides}
+use Rattle.uc_clause.specs.Items.{Items, term_alone, equals_alone}
+use Rattle.uc_clause.specs.Interning.{Interns, InternsFile, InternsTerm, InternsEquation, with_items, with_term, with_sides}
 use Rattle.uc_clause.proofs.Once.{tokens_once}
 use Rattle.uc_clause.proofs.ReadOnce.{Once}
 use Rattle.uc_clause.proofs.ItemsOnce.{items_once}
-use Rattle.uc_clause.proofs.Alone.{equals_alone_once}
+use Rattle.uc_clause.proofs.Alone.{term_alone_once, equals_alone_once}
 
 same_parse : {P : Type 0} {p q : P} {k l : ℕ} → Path (Outcome P) (read p k) (read q l) → p ≡ q
 same_parse e = cc
@@ -26,3 +26,6 @@ file_interns_once {bytes} x y = interns_once Items with_items bytes (λ tokens. 
 
 pub equation_interns_once : {bytes : List ℕ} {old a b : Table} → InternsEquation bytes old a → InternsEquation bytes old b → a ≡ b
 equation_interns_once {bytes} x y = interns_once equals_alone with_sides bytes (λ tokens. equals_alone_once bytes tokens) x y
+
+pub term_interns_once : {bytes : List ℕ} {old a b : Table} → InternsTerm bytes old a → InternsTerm bytes old b → a ≡ b
+term_interns_once {bytes} x y = interns_once term_alone with_term bytes (λ tokens. term_alone_once bytes tokens) x y

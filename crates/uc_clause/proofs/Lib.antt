@@ -40,3 +40,4 @@ pub mod InText
 pub mod Files
 pub mod InternedOnce
 pub mod Kept
+mod LawsOnce

@@ -1,10 +1,10 @@
 -- Where the tokens of a text lie in it.
-use Rattle.std.proofs.Common.{◌≡◌, ℕ, zero, suc, ◌<◌, List, [], ◌∷◌, take, drop, length-drop, refl, sym, ◌∙◌, subst, arith, true, false}
+use Rattle.std.proofs.Common.{◌≡◌, ℕ, zero, suc, ◌+◌, ◌<◌, ◌≤◌, length, List, [], ◌∷◌, take, drop, length-drop, refl, sym, ◌∙◌, subst, arith, true, false}
 use Rattle.std.specs.Prelude.{Result, Ok, Err, Some, slice_get}
 use Rattle.uc_clause.specs.declared.token.Token.{Token}
 use Rattle.uc_clause.specs.declared.token.Kind.{Kind}
 use Rattle.uc_clause.proofs.Once.{nothing_spells}
-use Rattle.uc_clause.specs.Tokens.{spells, Cut, end, gap, token, stuck, token_at, AreTokens, IsWithin}
+use Rattle.uc_clause.specs.Tokens.{spells, Cut, end, gap, token, stuck, token_at, AreTokens, IsWithin, Spans}
 
 positive : (kind : Kind) (n : ℕ) (text : List ℕ) → spells kind (take n text) ≡ true → 0 < n
 positive kind zero text e = absurd (let bad : false ≡ true = sym (nothing_spells kind) ∙ e in cc)
@@ -26,3 +26,8 @@ all_within (stuck h s) ts e k u at = cc
 -- a token of the text lies in it
 pub within_text : (text : List ℕ) (ts : List Token) (k : ℕ) (u : Token) → AreTokens text ts → slice_get ts k ≡ Some u → IsWithin text u
 within_text text ts k u cut at = all_within cut ts refl k u at
+
+-- there are no more tokens than bytes
+pub spans_few : (text : List ℕ) (at : ℕ) (ts : List Token) → at ≤ length text → Spans text at ts → at + length ts ≤ length text
+spans_few text at [] h spans = omega arith
+spans_few text at (t ∷ ts) h spans = omega (arith, spans.0, spans.1, spans_few text t.to ts spans.2 spans.5)

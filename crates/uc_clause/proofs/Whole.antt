@@ -31,14 +31,14 @@ places_once bytes p q a b =
 
 module _ {V P : Type 0} (rule : List ℕ → List Token → Rule P) (says : List ℕ → List Token → P → V → Type 0) (bytes : List ℕ) (once : (tokens : List Token) → Once (rule bytes tokens)) where
   -- what reads isn't refused
-  reads_or_not : (v : V) (e : ClauseFault) → ReadsBy rule says bytes v → Refuses rule bytes e → ⊥
+  pub reads_or_not : (v : V) (e : ClauseFault) → ReadsBy rule says bytes v → Refuses rule bytes e → ⊥
   reads_or_not v _ r (isnt_tokens {place = place} s) = tokens_or_not bytes r.tokens place r.are_tokens s
   reads_or_not v _ r (isnt_read {tokens = ts} {why = why} {k = k} are stops) =
       let same : ts ≡ r.tokens = tokens_once bytes ts r.tokens are r.are_tokens in
       let e : read r.parse r.end ≡ stop why k = once r.tokens 0 (read r.parse r.end) (stop why k) r.reads (subst (λ us. rule bytes us 0 (stop why k)) same stops) in
       cc
 
-  refused_once : (e f : ClauseFault) → Refuses rule bytes e → Refuses rule bytes f → e ≡ f
+  pub refused_once : (e f : ClauseFault) → Refuses rule bytes e → Refuses rule bytes f → e ≡ f
   refused_once _ _ (isnt_tokens {place = p} a) (isnt_tokens {place = q} b) = ap fault.Syntax (places_once bytes p q a b)
   refused_once _ _ (isnt_tokens {place = p} a) (isnt_read {tokens = ts} are stops) = absurd (tokens_or_not bytes ts p are a)
   refused_once _ _ (isnt_read {tokens = ts} are stops) (isnt_tokens {place = p} a) = absurd (tokens_or_not bytes ts p are a)
@@ -55,7 +55,7 @@ module _ {V P : Type 0} (rule : List ℕ → List Token → Rule P) (says : List
   refuses (Err f) (inr memory) e r = inr (ap Err memory)
 
   module _ (says_once : (tokens : List Token) (p : P) (v w : V) → says bytes tokens p v → says bytes tokens p w → v ≡ w) where
-    read_once : (v w : V) → ReadsBy rule says bytes v → ReadsBy rule says bytes w → v ≡ w
+    pub read_once : (v w : V) → ReadsBy rule says bytes v → ReadsBy rule says bytes w → v ≡ w
     read_once v w r q =
         let same : q.tokens ≡ r.tokens = tokens_once bytes q.tokens r.tokens q.are_tokens r.are_tokens in
         let e : read r.parse r.end ≡ read q.parse q.end = once r.tokens 0 (read r.parse r.end) (read q.parse q.end) r.reads (subst (λ us. rule bytes us 0 (read q.parse q.end)) same q.reads) in

@@ -9,7 +9,7 @@ use Rattle.uc_clause.specs.Tokens.{AreTokens}
 use Rattle.uc_clause.specs.Terminals.{word_at}
 use Rattle.uc_clause.specs.Rules.{Outcome, Rule, read}
 use Rattle.uc_clause.specs.Parse.{Parse, variable, applied, Parses, no_more, also, count_all, Sides, Literal, Formula, Entry as Parsed, formula, inclusion}
-use Rattle.uc_clause.specs.Items.{Items, equals_alone}
+use Rattle.uc_clause.specs.Items.{Items, term_alone, equals_alone}
 
 -- whether this is the entry of this name with this arity
 abbrev pub is_entry_of : List ℕ → ℕ → Entry → Bool
@@ -69,6 +69,10 @@ pub record Interns {P : Type 0} (rule : List ℕ → List Token → Rule P) (wit
 -- so for the items of a file
 abbrev pub InternsFile : List ℕ → Table → Table → Type 0
 InternsFile bytes old new = Interns Items with_items bytes old new
+
+-- for a term
+abbrev pub InternsTerm : List ℕ → Table → Table → Type 0
+InternsTerm bytes old new = Interns term_alone with_term bytes old new
 
 -- and for the equation of two terms
 abbrev pub InternsEquation : List ℕ → Table → Table → Type 0

@@ -67,6 +67,21 @@ pub data RefusesFile (bytes : List ℕ) : ClauseFault → Type 0 where
   is_too_long : 16777216 < length bytes → RefusesFile bytes (Limit (record { line = 1; column = 1 }) Bytes)
   isnt_items : {fault : ClauseFault} → length bytes ≤ 16777216 → Refuses Items bytes fault → RefusesFile bytes fault
 
+-- what a file comes to in a table of symbols: its items, or a fault
+abbrev pub ReadsOrRefusesFile : List ℕ → Table → Result (List Item) ClauseFault → Type 0
+ReadsOrRefusesFile bytes table (Ok items) = ReadsFile bytes table items
+ReadsOrRefusesFile bytes table (Err fault) = RefusesFile bytes fault
+
+-- the same of a term
+abbrev pub ReadsOrRefusesTerm : List ℕ → Table → Result Tree ClauseFault → Type 0
+ReadsOrRefusesTerm bytes table (Ok t) = ReadsTerm bytes table t
+ReadsOrRefusesTerm bytes table (Err fault) = Refuses term_alone bytes fault
+
+-- and of the equation of two terms
+abbrev pub ReadsOrRefusesEquation : List ℕ → Table → Result (Tree × Tree) ClauseFault → Type 0
+ReadsOrRefusesEquation bytes table (Ok pair) = ReadsEquation bytes table pair
+ReadsOrRefusesEquation bytes table (Err fault) = Refuses equals_alone bytes fault
+
 -- this is the answer, unless memory is wanted
 abbrev pub IsUnlessMemory : {V : Type 0} → Result V ClauseFault → Result V ClauseFault → Type 0
 IsUnlessMemory answer result = (result ≡ answer) ⊎ (result ≡ Err NoMemory)

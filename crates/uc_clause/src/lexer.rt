@@ -215,6 +215,7 @@ pub fn tokens(alloc: Global, bytes: &[u8]) -> Result<Seq<Token>, TokenFault>
     requires { length bytes.now < 2 ^ 31 }
     ensures tokens { IfOk result (AreTokens bytes.now) }
     ensures spans { IfOk result (Spans bytes.now 0) }
+    ensures few { IfOk result (λ ts. length ts ≤ length bytes.now) }
     ensures refused { IfErr result (IsRefused bytes.now) }
     ensures complete { (ts : List Token) → AreTokens bytes.now ts → (result ≡ Ok ts) ⊎ (result ≡ Err TokenFault.NoMemory) }
     ensures stops { (place : Place) → StopsAt bytes.now place → (result ≡ Err (TokenFault.Syntax place)) ⊎ (result ≡ Err TokenFault.NoMemory) }

@@ -12,6 +12,3 @@ pub use laws::{
     pair_joins, reply_is_right,
 };
 pub use reply::Reply;
-
-#[cfg(test)]
-mod tests;

@@ -7,8 +7,6 @@ mod gate;
 mod library;
 mod memory;
 mod sink;
-#[cfg(test)]
-mod tests;
 
 pub use gate::{Gate, NoGate};
 pub use library::{Fetched, Library};

@@ -26,9 +26,9 @@ pub fn matching(alloc: Global, pattern: &[Node], term: &[Node]) -> Result<Option
     }
 }
 
-/// Whether the term is an instance of the pattern. It takes no memory, and time linear in the two where no variable is
+/// Tells whether the term is an instance of the pattern. It takes no memory, and time linear in the two where no variable is
 /// repeated in the pattern and they are numbered as they come; each further occurrence of a variable goes through them anew.
-fn is_instance(pattern: &[Node], term: &[Node]) -> bool
+pub fn is_instance(pattern: &[Node], term: &[Node]) -> bool
     requires whole_pattern { IsWhole pattern.now }
     requires whole_term { IsWhole term.now }
     requires small_term { length term.now ≤ MAX_NODES }

@@ -9,7 +9,7 @@ pub enum Reason {
     Same,
     /// They are, either way round, the two sides of one instance of the fact of this number.
     Instance(u32),
-    /// Under each order of their variables they have the same normal form.
+    /// Under each order of their variables they are normalised to the same end.
     Orders,
 }
 

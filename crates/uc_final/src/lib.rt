@@ -16,6 +16,3 @@ mod testing;
 
 pub use laws::{convergent_decides, convergent_joins};
 pub use passing::final_pass;
-
-#[cfg(test)]
-mod tests;

@@ -9,6 +9,3 @@ mod variables;
 
 pub use join::ground_join;
 pub use laws::{joined_is_joinable, one_answer};
-
-#[cfg(test)]
-mod tests;

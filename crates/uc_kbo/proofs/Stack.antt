@@ -10,7 +10,7 @@ use Rattle.uc_order.specs.Renamed.{renamed_node}
 use Rattle.uc_order.proofs.Renaming.{length-renamed}
 use Rattle.uc_kbo.specs.Kbo.{Weighing}
 use Rattle.uc_kbo.specs.Runs.{IsStack, IsOver, image_by, read_by}
-use Rattle.uc_kbo.proofs.Reading.{get_or-renamed}
+use Rattle.uc_order.proofs.Reading.{get_or-renamed}
 
 pub read_get : (under : Bool) (cs : Classes) (ns : List Node) (at : ℕ) (d e m : Node) → at < length ns → m ≡ renamed_node (image_by under cs) (get_or ns at d) → get_or (read_by under cs ns) at e ≡ m
 read_get under cs ns at d e m h q = get_or-renamed (image_by under cs) ns at d e h ∙ sym q

@@ -12,4 +12,3 @@ pub mod Runs
 pub mod Balances
 pub mod Faults
 pub mod Valid
-pub mod Known

@@ -7,8 +7,6 @@ mod covers;
 mod kbo;
 mod run;
 mod table;
-#[cfg(test)]
-mod tests;
 mod weights;
 mod wide;
 

@@ -135,6 +135,51 @@ module _ (rank : Sym → ℕ) (above : ℕ → ℕ → Type 0) (above_transitive
     unfolding right
     first_not_greater = (there, λ p. by_argument (reach_join cs (more s rs) (app f (join cs (more t rt))) (a_later p)))
 
+  the_first : (cs : Trees) (s t : Tree) (rs rt : Trees) → s ≢ t → FirstGreater rank above (join cs (more s rs)) (join cs (more t rt)) → PathOrder rank above s t
+  the_first none s t rs rt ne d = elim (differ_cases d) [ inl l ↦ l | inr p ↦ absurd (ne p.0) ]
+  the_first (more c cs) s t rs rt ne d = elim (differ_cases d) [ inl l ↦ absurd (irreflexive rank above above_transitive above_irreflexive c l) | inr p ↦ the_first cs s t rs rt ne p.1 ]
+
+  module _ (f : Sym) (cs : Trees) (s t : Tree) (rs rt : Trees) (ne : s ≢ t) where
+    the_left : Tree
+    the_left = app f (join cs (more s rs))
+
+    the_right : Tree
+    the_right = app f (join cs (more t rt))
+
+    right_over : PathOrder rank above the_right t
+    unfolding the_right
+    right_over = by_argument (reach_join cs (more t rt) t is_it)
+
+    pub later_reaches : SomeReaches rank above rs (app f (join cs (more t rt))) → PathOrder rank above (app f (join cs (more s rs))) (app f (join cs (more t rt)))
+    later_reaches p = by_argument (reach_join cs (more s rs) (app f (join cs (more t rt))) (a_later p))
+
+    second : {u : Tree} {us : Trees} → Exceeds rank above the_left (more u us) → Exceeds rank above the_left us
+    second (one_more k e) = e
+
+    pub exceeds_later : PathOrder rank above (app f (join cs (more s rs))) (app f (join cs (more t rt))) → Exceeds rank above (app f (join cs (more s rs))) rt
+    unfolding the_left
+    exceeds_later l = second (exceeds_end (app f (join cs (more s rs))) cs (more t rt) (exceeds_args (app f (join cs (more s rs))) f (join cs (more t rt)) l))
+
+    over_first : (SomeReaches rank above rs the_right → ⊥) → SomeReaches rank above (more s rs) the_right → PathOrder rank above s t
+    over_first n p = elim (reach_cases p) [
+      | inl e ↦ subst (λ (u : Tree). PathOrder rank above u t) (sym e) right_over
+      | inr (inl l) ↦ transitive rank above above_transitive s the_right t l right_over
+      | inr (inr q) ↦ absurd (n q)
+    ]
+
+    from_whole : (SomeReaches rank above rs the_right → ⊥) → PathOrder rank above the_left the_right → PathOrder rank above s t
+    unfolding the_left the_right
+    from_whole n l = elim (cases l) [
+      | inl p ↦ over_first n (drop_front f (join cs (more t rt)) cs (more s rs) (λ u q. front_reaches cs (more t rt) u q) p)
+      | inr (inl q) ↦ absurd (omega (arith, q.0))
+      | inr (inr q) ↦ the_first cs s t rs rt ne q.2
+    ]
+
+    -- where no later argument reaches the right one, and the left one exceeds all later arguments
+    pub turned : (SomeReaches rank above rs (app f (join cs (more t rt))) → ⊥) → Exceeds rank above (app f (join cs (more s rs))) rt → PathOrder rank above s t ↔ PathOrder rank above (app f (join cs (more s rs))) (app f (join cs (more t rt)))
+    unfolding the_left the_right
+    turned n e = (λ l. (first_greater f cs s t rs rt l).1 e, from_whole n)
+
   -- where one list of arguments is used up, no argument is greater than its partner
   no_first : (cs rs rt : Trees) → (rs ≡ none) ⊎ (rt ≡ none) → FirstGreater rank above (join cs rs) (join cs rt) → ⊥
   no_first none none rt h d = elim d [ ]

@@ -14,7 +14,10 @@ use Rattle.uc_lpo.specs.Higher.{higher_transitive, higher_irreflexive}
 use Rattle.uc_lpo.specs.Shown.{shown, shown_all}
 use Rattle.uc_order.specs.Renamed.{renamed_node}
 use Rattle.uc_lpo.specs.Heads.{SameHead}
-use Rattle.uc_lpo.proofs.Decide.{first_greater, first_not_greater, none_differ}
+use Rattle.uc_lpo.proofs.Decide.{first_greater, first_not_greater, later_reaches, exceeds_later, turned, none_differ}
+use Rattle.uc_lpo.specs.declared.compare.Rest.{Rest}
+use Rattle.uc_lpo.specs.Rests.{Says, Goes}
+use Rattle.uc_lpo.proofs.Rests.{joined}
 use Rattle.uc_lpo.proofs.Steps.{tail_is, nothing_left}
 use Rattle.uc_lpo.proofs.Shown.{shown_same, alike_length}
 
@@ -71,6 +74,18 @@ module _ (ranks : List ℕ) (classes : Classes) where
   abbrev rest : List Node → ℕ → Trees
   rest ns p = shown_all represent (trees_of (drop p ns))
 
+  -- one level: what is left of the first arguments that differ, and of the terms
+  pub level_says : (first rest_of : Rest) (f : Sym) (cs : Trees) (s t : Tree) (rs rt : Trees) → s ≢ t → Says ranks classes first (PathOrder rank above s t) → Goes ranks classes first rest_of (SomeReaches rank above rs (app f (join cs (more t rt)))) (Exceeds rank above (app f (join cs (more s rs))) rt) → Says ranks classes rest_of (PathOrder rank above (app f (join cs (more s rs))) (app f (join cs (more t rt))))
+  level_says first rest_of f cs s t rs rt ne a g =
+      let over = λ (l : PathOrder rank above s t). first_greater rank above above_transitive above_irreflexive f cs s t rs rt l in
+      let under = λ (n : PathOrder rank above s t → ⊥). first_not_greater rank above above_transitive above_irreflexive f cs s t rs rt ne n in
+      joined ranks classes first rest_of (PathOrder rank above s t) (SomeReaches rank above rs (app f (join cs (more t rt)))) (Exceeds rank above (app f (join cs (more s rs))) rt) (PathOrder rank above (app f (join cs (more s rs))) (app f (join cs (more t rt)))) a g
+      (λ l. ((over l).1, (over l).0))
+      (λ n. ((under n).1, (under n).0))
+      (later_reaches rank above above_transitive above_irreflexive f cs s t rs rt ne)
+      (exceeds_later rank above above_transitive above_irreflexive f cs s t rs rt ne)
+      (turned rank above above_transitive above_irreflexive f cs s t rs rt ne)
+
   module _ (s t : List Node) (h : Heads s t) (from : ℕ) (c : Common (rest s 1) (rest t 1) (rest s from) (rest t from)) (P : Type 0) where
     module _ (s_end t_end : ℕ) (w : Split s from s_end) (v : Split t from t_end) where
       abbrev S : Tree
@@ -85,19 +100,11 @@ module _ (ranks : List ℕ) (classes : Classes) where
       t_is : shown represent (tree_of t) ≡ app h.f (join c.front (more T (rest t t_end)))
       t_is = ap (shown represent) h.right ∙ ap (app h.f) (c.right ∙ ap (λ ts. join c.front (shown_all represent ts)) v.trees)
 
-      pub answer_first : PathOrder rank above S T → (P ↔ Exceeds rank above (shown represent (tree_of s)) (shown_all represent (trees_of (take (length t - t_end) (drop t_end t))))) → P ↔ PathOrder rank above (shown represent (tree_of s)) (shown represent (tree_of t))
-      answer_first l a =
-          let d = first_greater rank above above_transitive above_irreflexive h.f c.front S T (rest s s_end) (rest t t_end) l in
-          let b : P ↔ Exceeds rank above (shown represent (tree_of s)) (rest t t_end) = rw (tail_is t t_end) at a in
-          let b' : P ↔ Exceeds rank above (app h.f (join c.front (more S (rest s s_end)))) (rest t t_end) = rw s_is at b in
-          rw (s_is, t_is) (λ p. d.1 (b'.0 p), λ k. b'.1 (d.0 k))
-
-      pub answer_not_first : S ≢ T → (PathOrder rank above S T → ⊥) → (P ↔ SomeReaches rank above (shown_all represent (trees_of (take (length s - s_end) (drop s_end s)))) (shown represent (tree_of t))) → P ↔ PathOrder rank above (shown represent (tree_of s)) (shown represent (tree_of t))
-      answer_not_first ne n a =
-          let d = first_not_greater rank above above_transitive above_irreflexive h.f c.front S T (rest s s_end) (rest t t_end) ne n in
-          let b : P ↔ SomeReaches rank above (rest s s_end) (shown represent (tree_of t)) = rw (tail_is s s_end) at a in
-          let b' : P ↔ SomeReaches rank above (rest s s_end) (app h.f (join c.front (more T (rest t t_end)))) = rw t_is at b in
-          rw (s_is, t_is) (λ p. d.1 (b'.0 p), λ k. b'.1 (d.0 k))
+      pub answer_first : (first rest_of : Rest) → S ≢ T → Says ranks classes first (PathOrder rank above S T) → Goes ranks classes first rest_of (SomeReaches rank above (shown_all represent (trees_of (take (length s - s_end) (drop s_end s)))) (shown represent (tree_of t))) (Exceeds rank above (shown represent (tree_of s)) (shown_all represent (trees_of (take (length t - t_end) (drop t_end t))))) → Says ranks classes rest_of (PathOrder rank above (shown represent (tree_of s)) (shown represent (tree_of t)))
+      answer_first first rest_of ne a g =
+          let g' : Goes ranks classes first rest_of (SomeReaches rank above (rest s s_end) (shown represent (tree_of t))) (Exceeds rank above (shown represent (tree_of s)) (rest t t_end)) = rw (tail_is s s_end, tail_is t t_end) at g in
+          let g'' : Goes ranks classes first rest_of (SomeReaches rank above (rest s s_end) (app h.f (join c.front (more T (rest t t_end))))) (Exceeds rank above (app h.f (join c.front (more S (rest s s_end)))) (rest t t_end)) = rw (s_is, t_is) at g' in
+          rw (s_is, t_is) (level_says first rest_of h.f c.front S T (rest s s_end) (rest t t_end) ne a g'')
 
       pub go_on : map (renamed_node represent) (take (s_end - from) (drop from s)) ≡ map (renamed_node represent) (take (t_end - from) (drop from t)) → (s_end ≤ length t) × Common (rest s 1) (rest t 1) (rest s s_end) (rest t s_end)
       go_on e =

@@ -6,5 +6,7 @@ pub mod Passes
 pub mod Alike
 pub mod Same
 pub mod Precedences
-pub mod Known
 pub mod Occurrences
+pub mod Rests
+pub mod Ends
+pub mod Climbed

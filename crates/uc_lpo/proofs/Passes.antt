@@ -16,7 +16,7 @@ use Rattle.uc_lpo.specs.Shown.{shown, shown_all}
 use Rattle.uc_lpo.specs.Heads.{IsLower, IsPassed}
 use Rattle.uc_lpo.proofs.Decide.{Exceeds-join, exceeds_end, front_reaches, head_greater, head_other, over_var, reach_cases}
 
-join-of_list : (ts us : List Tree) → join (of_list ts) (of_list us) ≡ of_list (ts ++ us)
+pub join-of_list : (ts us : List Tree) → join (of_list ts) (of_list us) ≡ of_list (ts ++ us)
 join-of_list [] us = refl
 join-of_list (t ∷ ts) us = ap (more t) (join-of_list ts us)
 

@@ -96,6 +96,15 @@ module _ (ranks : List ℕ) (classes : Classes) where
     pub exceeds_stop : Split ns p e → Exceeds rank above s (shown_all represent (trees_of ns)) → PathOrder rank above s First
     exceeds_stop w h = (at_split w h).0
 
+    -- the first one is put off
+    pub exceeds_put_off : Split ns p e → Exceeds rank above s (shown_all represent (trees_of (take (length ns - e) (drop e ns)))) → PathOrder rank above s First ↔ Exceeds rank above s (shown_all represent (trees_of ns))
+    exceeds_put_off w k =
+        let k' : Exceeds rank above s (shown_all represent (trees_of (drop e ns))) = rw (tail_is ns e) at k in
+        (λ l. from_split w l k', λ h. (at_split w h).0)
+
+    pub exceeds_no_later : Split ns p e → (Exceeds rank above s (shown_all represent (trees_of (take (length ns - e) (drop e ns)))) → ⊥) → Exceeds rank above s (shown_all represent (trees_of ns)) → ⊥
+    exceeds_no_later w n h = n (rw (tail_is ns e) (at_split w h).1)
+
     pub exceeds_end : length ns ≤ p → Exceeds rank above s (shown_all represent (trees_of ns))
     exceeds_end h = left.1 (let P : List Node → Type 0 = λ l. Exceeds rank above s (shown_all represent (trees_of l)) in subst P (sym (nothing_left ns p h)) no_more)
 
@@ -117,6 +126,16 @@ module _ (ranks : List ℕ) (classes : Classes) where
 
     pub reaches_turn : Split ns p e → Head ≢ t → (PathOrder rank above Head t → ⊥) → SomeReaches rank above (shown_all represent (trees_of ns)) t ↔ SomeReaches rank above (shown_all represent (trees_of (drop e ns))) t
     reaches_turn w ne n = (λ h. elim (reach_cases_at w h) [ inl q ↦ absurd (ne q) | inr (inl l) ↦ absurd (n l) | inr (inr q) ↦ q ], λ q. back w (a_later q))
+
+    pub reaches_later : Split ns p e → SomeReaches rank above (shown_all represent (trees_of (take (length ns - e) (drop e ns)))) t → SomeReaches rank above (shown_all represent (trees_of ns)) t
+    reaches_later w k = back w (a_later (rw (tail_is ns e) at k))
+
+    -- the first one is put off
+    pub reaches_put_off : Split ns p e → Head ≢ t → (SomeReaches rank above (shown_all represent (trees_of (take (length ns - e) (drop e ns)))) t → ⊥) → PathOrder rank above Head t ↔ SomeReaches rank above (shown_all represent (trees_of ns)) t
+    reaches_put_off w ne n = (
+      λ l. back w (is_greater l),
+      λ h. elim (reach_cases_at w h) [ inl q ↦ absurd (ne q) | inr (inl l) ↦ l | inr (inr q) ↦ absurd (n (rw (tail_is ns e) q)) ],
+    )
 
     nothing : (ts : Trees) → ts ≡ none → SomeReaches rank above ts t → ⊥
     nothing none q h = elim h [ ]

@@ -1,10 +1,9 @@
 -- Heads of terms and of flat lists.
-use Rattle.std.specs.Prelude.{ℕ, ◌≡◌, ◌<◌, length}
+use Rattle.std.specs.Prelude.{ℕ, ◌≡◌, ◌<◌}
 use Rattle.uc_term.specs.declared.node.Sym.{Sym}
 use Rattle.uc_term.specs.declared.node.Node.{Node}
 use Rattle.uc_term.specs.declared.node.Node.TheVariants.{Var, App}
 use Rattle.uc_term.specs.Tree.{Tree, app}
-use Rattle.uc_order.specs.VarOrders.{Classes, class_of}
 
 -- both have a head, and it is one symbol
 abbrev pub SameHead : Tree → Tree → Type 0
@@ -22,8 +21,3 @@ abbrev pub IsPassed : (Sym → ℕ) → Node → Node → Type 0
 IsPassed rank (App f n) (App g m) = rank f < rank g
 IsPassed rank (App f n) (Var x) = Unit {0}
 IsPassed rank (Var y) m = ⊥
-
--- if it is a variable, it is in one of the classes
-abbrev pub IsKnown : Classes → Node → Type 0
-IsKnown cs (Var x) = class_of cs x < length cs
-IsKnown cs (App f n) = Unit {0}

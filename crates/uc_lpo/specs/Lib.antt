@@ -11,3 +11,4 @@ pub mod Places
 pub mod Meaning
 pub mod Constants
 pub mod Orders
+pub mod Rests

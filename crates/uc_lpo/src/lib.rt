@@ -2,10 +2,9 @@
 #![tactic(auto)]
 
 mod compare;
+mod levels;
 mod path_order;
 mod tables;
-#[cfg(test)]
-mod tests;
 mod variables;
 
 pub use path_order::Lpo;

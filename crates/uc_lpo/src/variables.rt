@@ -18,7 +18,7 @@ pub fn is_above(classes: &[Seq<u32>], x: u32, y: u32) -> bool
 
 // Whether two nodes look alike.
 #[inline]
-fn is_alike(classes: &[Seq<u32>], a: Node, b: Node) -> bool
+pub fn is_alike(classes: &[Seq<u32>], a: Node, b: Node) -> bool
     ensures { IsTrue result ↔ (renamed_node (representative classes.now) a ≡ renamed_node (representative classes.now) b) }
 {
     match a {

@@ -42,7 +42,8 @@ use Rattle.uc_machine.specs.declared.task.Missing.{Missing}
 use Rattle.uc_machine.specs.declared.task.Outcome.{Outcome}
 use Rattle.uc_machine.specs.Draws.{Reply, Draws, verdict_stands, goal_is_due, fact_is_unmet, orphan_is_dropped, goal_is_continued, pair_is_drawn, budget_is_out, budget_is_spent, all_is_out, all_is_done}
 use Rattle.uc_machine.specs.Commits.{GoalEnds, ends_meet, ends_differ, Meets, within_limit, past_limit, newly_waiting, stays, steps_of, end_word, Commits, is_late, goal_ends, more_ends, pair_joins, fact_is_kept, fact_is_stale, fact_is_dead, fact_meets}
-use Rattle.uc_machine.specs.Runs.{AuditReply, axiom_pairs, opened, Starts, axioms_wait, too_many_axioms, Audits, is_closed, is_spent, is_kept, Closes, converges, has_large, has_stuck, IsAudited, not_yet, once_more, MayAudit}
+use Rattle.uc_machine.specs.Runs.{AuditReply, axiom_pairs, opened, Starts, axioms_wait, too_many_axioms, Audits, is_closed, is_spent, is_kept, Closes, converges, has_large, has_stuck, AreAudited, none_yet, one_more, MayAudit}
+use Rattle.uc_machine.proofs.Audited.{was_missing}
 use Rattle.uc_machine.proofs.Kept.{IsBusy, is_same, Numbered, Kept}
 use Rattle.uc_machine.proofs.Lists.{below, get-change_same, get-change_other, Each-map}
 use Rattle.uc_machine.proofs.Found.{first_is, IsPlace, peek_is}
@@ -272,9 +273,9 @@ out_audited o f s _ _ (is_closed v e) = refl
 out_audited o f s _ _ (is_spent e c) = refl
 out_audited o f s _ _ (is_kept e c) = refl
 
-audits_out : (o : Opening) (ms : List Missing) (d s : State) → IsAudited o ms d s → s.out ≡ d.out
-audits_out o ms d _ not_yet = refl
-audits_out o ms d u (once_more {s = s} {answer = r} x c a b) = out_audited o x.fact s r u b ∙ audits_out o ms d s a
+pub audits_out : (o : Opening) (all : List Missing) (d : State) (left : List Missing) (s : State) → AreAudited o all d left s → s.out ≡ d.out
+audits_out o all d _ _ none_yet = refl
+audits_out o all d left u (one_more {missing = x} {s = s} {answer = r} a b) = out_audited o x.fact s r u b ∙ audits_out o all d (x ∷ left) s a
 
 below_budget : (c r b : ℕ) → r ≡ 0 → c + r ≤ b → (c ≡ b → ⊥) → c + r < b
 below_budget c r b z l ne = elim (cases_order c b) [ inl q ↦ absurd (ne q) | inr h ↦ elim h [ inl l2 ↦ omega arith | inr g ↦ absurd (omega arith) ] ]
@@ -288,7 +289,7 @@ kept_audits o f s _ _ e k (is_kept c ne) =
     kept_audit o s f k (below_budget s.counted s.reserved o.budget zero_out w ne)
 
 pub kept_audited : (m : Meaning) (o : Opening) (s u : State) (x : Missing) (r : AuditReply) → MayAudit m o s x → Kept o s → Audits o x.fact s r u → Kept o u
-kept_audited m o s u x r a k b = kept_audits o x.fact s r u (audits_out o a.all a.drained s a.audited ∙ a.is_drained.none_out) k b
+kept_audited m o s u x r may k b = let a = was_missing m o s x may in kept_audits o x.fact s r u (audits_out o a.all a.drained (x ∷ a.left) s a.audited ∙ a.is_drained.none_out) k b
 
 pub kept_closes : (o : Opening) (s u : State) (outcome : Outcome) (v : Verdict) → Kept o s → Closes s outcome v u → Kept o u
 kept_closes o s _ _ _ k converges = kept_close o s 0 _ k

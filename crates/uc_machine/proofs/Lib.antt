@@ -4,6 +4,7 @@ pub mod Accounts
 pub mod Blocks
 pub mod Found
 pub mod Steps
+pub mod Audited
 pub mod Calls
 pub mod Meetings
 pub mod Grows

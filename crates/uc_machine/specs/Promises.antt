@@ -213,7 +213,7 @@ module _ (m : Meaning) where
   abbrev pub GoalsAtRest : State → Type 0
   GoalsAtRest s = Each (StaysAtRest s.entries) s.goals
 
--- the last commit of the goal made exactly 4,096 steps, and a further one was possible
+-- the last commit of the goal made exactly 4,096 steps and stopped for them
 abbrev pub WasSpent : ℕ → List Event → Type 0
 WasSpent g h = last_commit g h ≡ Some (record { steps = 4096; end = Steps })
 

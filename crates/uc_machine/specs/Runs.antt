@@ -3,7 +3,6 @@ use Rattle.std.specs.Prelude.{◌≡◌, ◌≢◌, ℕ, ◌+◌, ◌<◌, ◌�
 use Rattle.uc_term.specs.Tree.{nodes}
 use Rattle.uc_term.specs.declared.equation.Equation.{Equation}
 use Rattle.uc_order.specs.Laws.{Meaning}
-use Rattle.uc_order.specs.Members.{In}
 use Rattle.uc_fact.specs.declared.fact.Fact.{Fact}
 use Rattle.uc_fact.specs.declared.fact.Origin.TheVariants.{Axiom}
 use Rattle.uc_ledger.specs.declared.ledger.State.TheVariants.{Waiting}
@@ -81,29 +80,26 @@ pub record IsDrained (s : State) : Type 0 where
   pub nothing_waits : NothingWaits s
   pub none_out : s.out ≡ []
 
--- the state was only audited since it was as it is here, for equations that were missing then
-pub data IsAudited (o : Opening) (ms : List Missing) (drained : State) : State → Type 0 where
-  not_yet : IsAudited o ms drained drained
-  once_more : {s u : State} {answer : AuditReply} (missing : Missing) → In ms missing → IsAudited o ms drained s → Audits o missing.fact s answer u → IsAudited o ms drained u
+-- Of all these equations, which were missing when the book was drained, the first ones were audited since, each once and in order;
+-- these are left.
+pub data AreAudited (o : Opening) (all : List Missing) (drained : State) : List Missing → State → Type 0 where
+  none_yet : AreAudited o all drained all drained
+  one_more : {missing : Missing} {left : List Missing} {s u : State} {answer : AuditReply} → AreAudited o all drained (missing ∷ left) s → Audits o missing.fact s answer u → AreAudited o all drained left u
 
--- the equation stands in the Missing answer of the final pass for the book as it was drained, since when it was only audited
-pub record MayAudit (m : Meaning) (o : Opening) (s : State) (missing : Missing) : Type 0 where
-  pub drained : State
-  pub is_drained : IsDrained drained
-  pub all : List Missing
-  pub is_final : IsFinal m o.axioms drained (Lacks all)
-  pub audited : IsAudited o all drained s
-  pub among : In all missing
+mutual
+  -- the equation is the first that is left to audit of those that the final pass found missing over the drained book of a run
+  pub data MayAudit (m : Meaning) (o : Opening) : State → Missing → Type 0 where
+    is_next : {drained s : State} {all left : List Missing} {missing : Missing} → Reaches m o drained → IsDrained drained → IsFinal m o.axioms drained (Lacks all) → AreAudited o all drained (missing ∷ left) s → MayAudit m o s missing
 
--- The events lead, one by one, from the start to the state. Each call makes its events in a row.
-pub data Reaches (m : Meaning) (o : Opening) : State → Type 0 where
-  starts : {s : State} → Starts o s → Reaches m o s
-  draws_on : {s u : State} {r : Reply} (w : ℕ) → w < 65 → Reaches m o s → Draws o w s r u → Reaches m o u
-  commits_on : {s u : State} {f : Finding} (t : Out) → out_at t.ticket s.out ≡ Some t → IsResult m o.axioms (take t.front s.entries) t.job f → Reaches m o s → Commits o t f s u → Reaches m o u
-  reclaims_on : {s : State} (t : Out) → out_at t.ticket s.out ≡ Some t → Reaches m o s → Reaches m o (reclaims t s)
-  recalls_on : {s : State} → Reaches m o s → Reaches m o (recalls s)
-  audits_on : {s u : State} {answer : AuditReply} (missing : Missing) → MayAudit m o s missing → Reaches m o s → Audits o missing.fact s answer u → Reaches m o u
-  closes_on : {s u : State} {outcome : Outcome} {v : Verdict} → IsDrained s → IsFinal m o.axioms s outcome → Reaches m o s → Closes s outcome v u → Reaches m o u
+  -- The events lead, one by one, from the start to the state. Each call makes its events in a row.
+  pub data Reaches (m : Meaning) (o : Opening) : State → Type 0 where
+    starts : {s : State} → Starts o s → Reaches m o s
+    draws_on : {s u : State} {r : Reply} (w : ℕ) → w < 65 → Reaches m o s → Draws o w s r u → Reaches m o u
+    commits_on : {s u : State} {f : Finding} (t : Out) → out_at t.ticket s.out ≡ Some t → IsResult m o.axioms (take t.front s.entries) t.job f → Reaches m o s → Commits o t f s u → Reaches m o u
+    reclaims_on : {s : State} (t : Out) → out_at t.ticket s.out ≡ Some t → Reaches m o s → Reaches m o (reclaims t s)
+    recalls_on : {s : State} → Reaches m o s → Reaches m o (recalls s)
+    audits_on : {s u : State} {answer : AuditReply} (missing : Missing) → MayAudit m o s missing → Reaches m o s → Audits o missing.fact s answer u → Reaches m o u
+    closes_on : {s u : State} {outcome : Outcome} {v : Verdict} → IsDrained s → IsFinal m o.axioms s outcome → Reaches m o s → Closes s outcome v u → Reaches m o u
 
 -- a run with this history
 pub record Run (m : Meaning) (o : Opening) (history : List Event) (s : State) : Type 0 where

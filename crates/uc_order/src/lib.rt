@@ -10,8 +10,6 @@ mod listing;
 mod order;
 mod precedence;
 mod spec;
-#[cfg(test)]
-mod tests;
 
 pub use classes::{
     class_number, class_of, first_of_class, represent, represent_node, representative,

@@ -60,7 +60,7 @@ module _ (Greater : Tree → Tree → Type 0) where
   abbrev pub ListsOn : Rule → Rule → ℕ → ℕ → List Formed → Type 0
   ListsOn outer inner place next added = (list : List Formed) → Lists Greater outer inner next list → Lists Greater outer inner place (added ++ list)
 
--- What the instances of renamed sides by a unifier come to: one of the rules doesn't lead down, though both instances are small;
+-- What the instances of renamed sides by a unifier come to: one of the rules goes up or stays, though both instances are small;
 -- or it is how large the pair is.
 pub record LeadDown (Greater : Tree → Tree → Type 0) (terms : RenamedApart) (σ : ℕ → Tree) : Type 0 where
   pub outer_down : IsSmall (apply σ terms.outer_from) → IsSmall (apply σ terms.outer_to) → AtMost Greater (apply σ terms.outer_from) (apply σ terms.outer_to) → ⊥

@@ -38,7 +38,7 @@ module _ (Greater : Tree → Tree → Type 0) where
     by_instances : IsSmall u → IsSmall v → AtMost u v → GoesUp l r u v
     by_sides : IsLarge u ⊎ IsLarge v → AtMost l r → GoesUp l r u v
 
-  -- one of the two rules doesn't lead down from the peak
+  -- one of the two rules goes up or stays from the peak: its instance there is less than the other side's, or the same
   pub data LeadsUp {outer inner : Rule} {place : ℕ} (o : Overlapping outer inner place) : Type 0 where
     outer_up : GoesUp outer.from outer.to (peak o) (left_of o) → LeadsUp o
     inner_up : GoesUp inner.from inner.to (inner_from o) (inner_to o) → LeadsUp o

@@ -51,7 +51,7 @@ pub(crate) fn size_at<O: Order>(
     }
 }
 
-/// The size of the pair of an overlap by this unifier. None where one of the rules doesn't lead down from the peak.
+/// The size of the pair of an overlap by this unifier. None where one of the rules goes up or stays from the peak.
 fn judged<O: Order>(
     alloc: Global,
     terms: &RenamedApart,

@@ -18,6 +18,3 @@ pub use formed::{Formed, Size};
 pub use laws::{nowhere_is_up, one_list, one_pair, too_large_by_size, up_is_never_down};
 pub use listing::overlaps;
 pub use pairing::pair_of;
-
-#[cfg(test)]
-mod tests;

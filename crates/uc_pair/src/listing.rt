@@ -22,10 +22,11 @@ use uc_term::{Equation, Pos, Seq};
 /// preorder. At each position of the outer side that is no variable there is one where the subterm unifies with the inner
 /// side, the variables of the two facts being renamed apart.
 ///
-/// An overlap is left out where one of the two facts doesn't lead down from the term from which both sides of the pair come;
-/// where an instance of a side has more than 4,096 nodes, the fact's own two sides decide instead. At the root, where the inner
-/// side is no variable, it is also left out where the inner fact and side come after the outer ones, and where they are the same
-/// and the other side has no further variable. No term of more than 4,096 nodes is built.
+/// An overlap is left out where the order says that one of the two facts, read so, goes up or stays: its side's instance is less
+/// than or equal to that of its other side (where the order can't tell, as for commutativity, the overlap is listed). Where an
+/// instance of a side has more than 4,096 nodes, the fact's own two sides decide instead. At the root, where the inner side is no
+/// variable, it is also left out where the inner fact and side come after the outer ones, and where they are the same and the
+/// other side has no further variable. No term of more than 4,096 nodes is built.
 pub fn overlaps<O: Order>(
     alloc: Global,
     outer: u32,

@@ -166,4 +166,4 @@ module _ (files : Files) (root : Option (List ℕ)) (name : List ℕ) (old new o
       (subst (λ ss. IsSignatureOf other (terms_of ss) q.signature) (sym clauses_filled_once) y.agrees.signature)
 
   pub filled_problem_once : p ≡ q
-  filled_problem_once = agrees_once new distinct p q clauses_filled_once x.agrees (subst (λ t. Agrees t q) (sym filled_once) y.agrees)
+  filled_problem_once = agrees_once new distinct p q clauses_filled_once x.agrees (subst (λ t. Agrees t q) (sym filled_once) y.agrees) (x.conjecture ∙ sym y.conjecture)

@@ -92,8 +92,8 @@ module _ (root : Option (List ℕ)) (name : List ℕ) (before now : ℕ) (old ne
 
 -- the problem
 module _ (root : Option (List ℕ)) (name : List ℕ) (old flat new : Table) (clauses : List Sourced) (sound : AreSoundFew flat clauses) where
-  is_filled : (files : Files) (before now : ℕ) (problem : Problem) → IsFlat flat (Some files) before now root name (Ok clauses) → FillsProblem files root name old flat → problem.clauses ≡ clauses → Agrees new problem → AddsOne flat new problem.signature.least → IsFilled files root name old new problem
-  is_filled files before now problem f p e a l =
+  is_filled : (files : Files) (before now : ℕ) (problem : Problem) → IsFlat flat (Some files) before now root name (Ok clauses) → FillsProblem files root name old flat → problem.clauses ≡ clauses → Agrees new problem → problem.conjecture ≡ None → AddsOne flat new problem.signature.least → IsFilled files root name old new problem
+  is_filled files before now problem f p e a n l =
       let here = f flat (Grows-refl flat) in
       record {
         flat = flat;
@@ -103,15 +103,16 @@ module _ (root : Option (List ℕ)) (name : List ℕ) (old flat new : Table) (cl
         over = subst (λ (ss : List Sourced). AreOf flat (terms_of ss)) (sym e) (terms_sound flat clauses sound.sound);
         least = l;
         agrees = a;
+        conjecture = n;
       }
 
-  told_filled : (holds : Option Files) (before now : ℕ) (problem : Problem) → IsFlat flat holds before now root name (Ok clauses) → WhereTold holds (λ files. FillsProblem files root name old flat) → problem.clauses ≡ clauses → Agrees new problem → AddsOne flat new problem.signature.least → WhereTold holds (λ files. IsFilled files root name old new problem)
-  told_filled None before now problem f p e a l = tt
-  told_filled (Some files) before now problem f p e a l = is_filled files before now problem f p e a l
+  told_filled : (holds : Option Files) (before now : ℕ) (problem : Problem) → IsFlat flat holds before now root name (Ok clauses) → WhereTold holds (λ files. FillsProblem files root name old flat) → problem.clauses ≡ clauses → Agrees new problem → problem.conjecture ≡ None → AddsOne flat new problem.signature.least → WhereTold holds (λ files. IsFilled files root name old new problem)
+  told_filled None before now problem f p e a n l = tt
+  told_filled (Some files) before now problem f p e a n l = is_filled files before now problem f p e a n l
 
-  pub filled_by : (holds : Option Files) (before now : ℕ) (r : Result Problem LoadFault) → IsFlat flat holds before now root name (Ok clauses) → WhereTold holds (λ files. FillsProblem files root name old flat) → IfOk r (λ problem. problem.clauses ≡ clauses) → IfOk r (Agrees new) → IfOk r (λ problem. AddsOne flat new problem.signature.least) → IfOk r (λ problem. WhereTold holds (λ files. IsFilled files root name old new problem))
-  filled_by holds before now (Ok problem) f p e a l = told_filled holds before now problem f p e a l
-  filled_by holds before now (Err why) f p e a l = tt
+  pub filled_by : (holds : Option Files) (before now : ℕ) (r : Result Problem LoadFault) → IsFlat flat holds before now root name (Ok clauses) → WhereTold holds (λ files. FillsProblem files root name old flat) → IfOk r (λ problem. problem.clauses ≡ clauses) → IfOk r (Agrees new) → IfOk r (λ problem. problem.conjecture ≡ None) → IfOk r (λ problem. AddsOne flat new problem.signature.least) → IfOk r (λ problem. WhereTold holds (λ files. IsFilled files root name old new problem))
+  filled_by holds before now (Ok problem) f p e a n l = told_filled holds before now problem f p e a n l
+  filled_by holds before now (Err why) f p e a n l = tt
 
 -- a fresh symbol is one of the table
 pub adds_fresh : (old new : Table) (word : List ℕ) (arity : ℕ) (fs : List Sym) (f : Sym) → IsFreshFor new word arity fs f → AddsAtMost old new f → AddsOne old new f

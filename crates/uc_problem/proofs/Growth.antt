@@ -45,7 +45,6 @@ module _ (old new : Table) (grows : Grows old new) where
     goals = a.goals;
     over = terms_later (terms_of problem.clauses) a.over;
     signature = signature_later (terms_of problem.clauses) problem.signature a.over a.signature;
-    conjecture = a.conjecture;
   }
 
   named_has : (seen : List Sym) (name : List ℕ) (f : Sym) → HasAll old seen → first_named old name seen ≡ Some f → Has old f

@@ -39,13 +39,12 @@ same_spot : {o : Option (List ℕ × Place)} {a b : List ℕ} {p q : Place} → 
 same_spot e f = let both = some_once e f in (first_once both, second_once both)
 
 module _ (table : Table) (distinct : IsDistinct table) where
-  -- problems of the same clauses whose parts agree are one
-  pub agrees_once : (a b : Problem) → a.clauses ≡ b.clauses → Agrees table a → Agrees table b → a ≡ b
-  agrees_once a b clauses x y =
+  -- problems of the same clauses and the same conjecture whose parts agree are one
+  pub agrees_once : (a b : Problem) → a.clauses ≡ b.clauses → Agrees table a → Agrees table b → a.conjecture ≡ b.conjecture → a ≡ b
+  agrees_once a b clauses x y conjectures =
       let axioms : a.axioms ≡ b.axioms = x.axioms ∙ ap (numbers_of true 0) clauses ∙ sym y.axioms in
       let goals : a.goals ≡ b.goals = x.goals ∙ ap (numbers_of false 0) clauses ∙ sym y.goals in
       let signatures : a.signature ≡ b.signature = signature_once table distinct x.signature (subst (λ ss. IsSignatureOf table (terms_of ss) b.signature) (sym clauses) y.signature) in
-      let conjectures : a.conjecture ≡ b.conjecture = x.conjecture ∙ sym y.conjecture in
       let all : record { clauses = a.clauses; axioms = a.axioms; goals = a.goals; signature = a.signature; conjecture = a.conjecture } ≡ (let p : Problem = record { clauses = b.clauses; axioms = b.axioms; goals = b.goals; signature = b.signature; conjecture = b.conjecture } in p) = rw (clauses, axioms, goals, signatures, conjectures) refl in
       all
 
@@ -57,10 +56,10 @@ module _ (table : Table) (distinct : IsDistinct table) where
     clauses_once x y = (given_once (flat_once x y)).0
 
     pub problem_is_once : (a b : Problem) → Holds table files root name a → Holds table files root name b → a ≡ b
-    problem_is_once a b x y = agrees_once a b (clauses_once x.flat y.flat) x.agrees y.agrees
+    problem_is_once a b x y = agrees_once a b (clauses_once x.flat y.flat) x.agrees y.agrees (x.conjecture ∙ sym y.conjecture)
 
     -- what the clauses gather to is one
-    gathered_once : {a b : List Sourced} {m n : Counts} {r q : Result (List Sym) TermFault} → Flattens table files root name (Ok (a, m)) → Flattens table files root name (Ok (b, n)) → Gathers table [] (occurrences_of (terms_of a)) r → Gathers table [] (occurrences_of (terms_of b)) q → r ≡ q
+    pub gathered_once : {a b : List Sourced} {m n : Counts} {r q : Result (List Sym) TermFault} → Flattens table files root name (Ok (a, m)) → Flattens table files root name (Ok (b, n)) → Gathers table [] (occurrences_of (terms_of a)) r → Gathers table [] (occurrences_of (terms_of b)) q → r ≡ q
     gathered_once {q = q} x y g h = gathers_once table g (subst (λ ss. Gathers table [] (occurrences_of (terms_of ss)) q) (clauses_once y x) h)
 
     pub refusal_is_once : {a b : LoadFault} → Refuses table files root name a → Refuses table files root name b → a ≡ b

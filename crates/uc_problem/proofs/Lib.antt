@@ -9,6 +9,8 @@ pub mod Occurring
 pub mod Problems
 pub mod Fillings
 pub mod Sides
+pub mod Shapes
+pub mod Stopping
 pub mod OpenGoals
 pub mod FreshMarks
 pub mod Outcomes
@@ -19,6 +21,7 @@ pub mod HoldsOnce
 pub mod AddedOnce
 pub mod FilledOnce
 pub mod MarksOnce
+pub mod RefusedOnce
 pub mod NameKeys
 pub mod Encodings
 pub mod EncodedOnce

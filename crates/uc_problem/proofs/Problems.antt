@@ -32,32 +32,34 @@ use Rattle.uc_problem.proofs.Sides.{has_symbol}
 use Rattle.uc_problem.proofs.Growth.{agrees_later, all_gathers_later}
 
 module _ (root : Option (List ℕ)) (name : List ℕ) (t u : Table) (grows : Grows t u) where
-  pub is_problem : (holds : Option Files) (before now : ℕ) (clauses : List Sourced) (problem : Problem) → IsFlat t holds before now root name (Ok clauses) → problem.clauses ≡ clauses → Agrees u problem → IsProblem u holds root name problem
-  is_problem None before now clauses problem f e a = tt
-  is_problem (Some files) before now clauses problem f e a = λ T g.
+  pub is_problem : (holds : Option Files) (before now : ℕ) (clauses : List Sourced) (problem : Problem) → IsFlat t holds before now root name (Ok clauses) → problem.clauses ≡ clauses → Agrees u problem → problem.conjecture ≡ None → IsProblem u holds root name problem
+  is_problem None before now clauses problem f e a n = tt
+  is_problem (Some files) before now clauses problem f e a n = λ T g.
       let flat = f T (Grows-trans t u T grows g) in
-      record { counts = flat.0; flat = subst (λ (ss : List Sourced). Flattens T files root name (Ok (ss, flat.0))) (sym e) flat.1; agrees = agrees_later u T g problem a }
+      record { counts = flat.0; flat = subst (λ (ss : List Sourced). Flattens T files root name (Ok (ss, flat.0))) (sym e) flat.1; agrees = agrees_later u T g problem a; conjecture = n }
 
-  module _ (clauses : List Sourced) (sound : AreSound u clauses) where
-    pub is_refused : (holds : Option Files) (first before now last : ℕ) (why : LoadFault) → IsFlat t holds first before root name (Ok clauses) → HasNoSignature u clauses why → IsLoadFault u holds now last root name why
+  module _ (clauses : List Sourced) (sound : AreSound t clauses) where
+    pub is_refused : (holds : Option Files) (first before now last : ℕ) (why : LoadFault) → IsFlat t holds first before root name (Ok clauses) → HasNoSignature t clauses why → IsLoadFault u holds now last root name why
     is_refused holds first before now last _ f wants_memory = tt
     is_refused None first before now last _ f (clashes g s l) = tt
     is_refused None first before now last _ f (is_too_many g l) = tt
     is_refused (Some files) first before now last _ f (clashes {term = term} {first = a} {second = b} {pos = pos} {f = h} {file = file} {place = place} g s l) = λ T k.
-        let flat = f T (Grows-trans t u T grows k) in
-        subst (λ (n : List ℕ). Refuses T files root name (fault.ArityClash file place n a b)) (name-grows u T k h (has_symbol u clauses term pos h sound s))
-        (clash_held flat.1 (all_gathers_later u T k (terms_of clauses) (Err (of_terms.ArityClash term pos a b)) (terms_sound u clauses sound) g) s.tree_at s.node_at l)
+        let later = Grows-trans t u T grows k in
+        let flat = f T later in
+        subst (λ (n : List ℕ). Refuses T files root name (fault.ArityClash file place n a b)) (name-grows t T later h (has_symbol t clauses term pos h sound s))
+        (clash_held flat.1 (all_gathers_later t T later (terms_of clauses) (Err (of_terms.ArityClash term pos a b)) (terms_sound t clauses sound) g) s.tree_at s.node_at l)
     is_refused (Some files) first before now last _ f (is_too_many {term = term} {pos = pos} g l) = λ T k.
-        let flat = f T (Grows-trans t u T grows k) in
-        has_too_many flat.1 (all_gathers_later u T k (terms_of clauses) (Err (of_terms.TooMany term pos)) (terms_sound u clauses sound) g) l
+        let later = Grows-trans t u T grows k in
+        let flat = f T later in
+        has_too_many flat.1 (all_gathers_later t T later (terms_of clauses) (Err (of_terms.TooMany term pos)) (terms_sound t clauses sound) g) l
 
-    pub refused_by : (holds : Option Files) (first before now last : ℕ) (r : Result Problem LoadFault) → IsFlat t holds first before root name (Ok clauses) → IfErr r (HasNoSignature u clauses) → IfErr r (IsLoadFault u holds now last root name)
+    pub refused_by : (holds : Option Files) (first before now last : ℕ) (r : Result Problem LoadFault) → IsFlat t holds first before root name (Ok clauses) → IfErr r (HasNoSignature t clauses) → IfErr r (IsLoadFault u holds now last root name)
     refused_by holds first before now last (Ok p) f h = tt
     refused_by holds first before now last (Err e) f h = is_refused holds first before now last e f h
 
-  pub answered_by : (holds : Option Files) (before now : ℕ) (clauses : List Sourced) (r : Result Problem LoadFault) → IsFlat t holds before now root name (Ok clauses) → IfOk r (λ problem. problem.clauses ≡ clauses) → IfOk r (Agrees u) → IfOk r (IsProblem u holds root name)
-  answered_by holds before now clauses (Ok p) f e a = is_problem holds before now clauses p f e a
-  answered_by holds before now clauses (Err e) f h a = tt
+  pub answered_by : (holds : Option Files) (before now : ℕ) (clauses : List Sourced) (r : Result Problem LoadFault) → IsFlat t holds before now root name (Ok clauses) → IfOk r (λ problem. problem.clauses ≡ clauses) → IfOk r (Agrees u) → IfOk r (λ problem. problem.conjecture ≡ None) → IfOk r (IsProblem u holds root name)
+  answered_by holds before now clauses (Ok p) f e a n = is_problem holds before now clauses p f e a n
+  answered_by holds before now clauses (Err e) f h a n = tt
 
 module _ (root : Option (List ℕ)) (name : List ℕ) where
   -- a problem file that isn't there
@@ -141,11 +143,10 @@ pub has_clash : (table : Table) (clauses : List Sourced) (term first second : �
 has_clash table clauses term first second pos f file name shown place g s l e q = rw (e, q) (clashes g s l)
 
 -- a problem's parts agree
-pub agree : (table : Table) (clauses : List Sourced) (problem : Problem) → AreSound table clauses → problem.clauses ≡ clauses → problem.axioms ≡ numbers_of true 0 clauses → problem.goals ≡ numbers_of false 0 clauses → IsSignatureOf table (terms_of clauses) problem.signature → problem.conjecture ≡ None → Agrees table problem
-agree table clauses problem sound c a g s n = record {
+pub agree : (table : Table) (clauses : List Sourced) (problem : Problem) → AreSound table clauses → problem.clauses ≡ clauses → problem.axioms ≡ numbers_of true 0 clauses → problem.goals ≡ numbers_of false 0 clauses → IsSignatureOf table (terms_of clauses) problem.signature → Agrees table problem
+agree table clauses problem sound c a g s = record {
   axioms = a ∙ ap (numbers_of true 0) (sym c);
   goals = g ∙ ap (numbers_of false 0) (sym c);
   over = subst (λ (ss : List Sourced). AreOf table (terms_of ss)) (sym c) (terms_sound table clauses sound);
   signature = subst (λ (ss : List Sourced). IsSignatureOf table (terms_of ss) problem.signature) (sym c) s;
-  conjecture = n;
 }

@@ -30,14 +30,14 @@ items_refused_once {bytes} (isnt_read {tokens = ts} {why = why} {k = k} are x) (
     let ks : k ≡ l = stops.1 in
     rw (whys, ks, tokens) refl
 
-refused_once : {bytes : List ℕ} {a b : ClauseFault} → RefusesFile bytes a → RefusesFile bytes b → a ≡ b
+pub refused_once : {bytes : List ℕ} {a b : ClauseFault} → RefusesFile bytes a → RefusesFile bytes b → a ≡ b
 refused_once (is_too_long h) (is_too_long k) = refl
 refused_once (is_too_long h) (isnt_items k y) = absurd (less_or_not h k)
 refused_once (isnt_items h x) (is_too_long k) = absurd (less_or_not k h)
 refused_once (isnt_items h x) (isnt_items k y) = items_refused_once x y
 
 -- where something is read, no memory is wanted
-was_read : {items : List Item} {answer : Result (List Item) ClauseFault} → (Ok items ≡ answer) ⊎ (Path (Result (List Item) ClauseFault) (Ok items) (Err NoMemory)) → Ok items ≡ answer
+pub was_read : {items : List Item} {answer : Result (List Item) ClauseFault} → (Ok items ≡ answer) ⊎ (Path (Result (List Item) ClauseFault) (Ok items) (Err NoMemory)) → Ok items ≡ answer
 was_read (inl e) = e
 was_read (inr e) = absurd (ok_or_err e)
 

@@ -69,6 +69,7 @@ pub record IsFilled (files : Files) (root : Option (List ℕ)) (name : List ℕ)
   pub over : AreOf flat (terms_of problem.clauses)
   pub least : AddsOne flat new problem.signature.least
   pub agrees : Agrees new problem
+  pub conjecture : problem.conjecture ≡ None
 
 -- the encoding's symbols, where there are any, make the new table of the old
 abbrev pub AddsMarks : Table → Table → Option Fresh → Type 0

@@ -55,13 +55,14 @@ pub record Agrees (table : Table) (problem : Problem) : Type 0 where
   pub goals : problem.goals ≡ numbers_of false 0 problem.clauses
   pub over : AreOf table (terms_of problem.clauses)
   pub signature : IsSignatureOf table (terms_of problem.clauses) problem.signature
-  pub conjecture : problem.conjecture ≡ None
 
--- the library holds this problem under this name: its clauses in flat order, and what follows from them
+-- the library holds this problem under this name: its clauses in flat order, and what follows from them; none of them was a
+-- conjecture
 pub record Holds (table : Table) (files : Files) (root : Option (List ℕ)) (name : List ℕ) (problem : Problem) : Type 0 where
   pub counts : Counts
   pub flat : Flattens table files root name (Ok (problem.clauses, counts))
   pub agrees : Agrees table problem
+  pub conjecture : problem.conjecture ≡ None
 
 -- the file and the place of a node of one of the terms, by the term's number and the node's
 abbrev pub located : List Sourced → ℕ → ℕ → Option (List ℕ × Place)

@@ -9,4 +9,5 @@ pub mod Marks
 pub mod NameSets
 pub mod Encodes
 pub mod Filling
+pub mod Refusing
 pub mod Kinds

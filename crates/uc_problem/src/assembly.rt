@@ -1,6 +1,6 @@
 //! A problem of its clauses.
 
-ghost use Rattle.std.specs.Prelude.{◌≡◌, ◌≤◌, ◌∷◌, ◌++◌, [], length, IfOk, IfErr};
+ghost use Rattle.std.specs.Prelude.{◌≡◌, ◌≤◌, ◌∷◌, ◌++◌, [], length, None, IfOk, IfErr};
 ghost use Rattle.uc_term.specs.Table.{Grows};
 ghost use Rattle.uc_term.specs.Signatures.{IsSignatureOf};
 ghost use Rattle.uc_problem.specs.Holds.{Agrees, terms_of, numbers_of};
@@ -22,7 +22,8 @@ pub(crate) fn assemble(
     requires { AreSoundFew symbols.old clauses }
     ensures clauses { IfOk result (λ problem. problem.clauses ≡ clauses) }
     ensures agrees { IfOk result (Agrees symbols.new) }
-    ensures refused { IfErr result (HasNoSignature symbols.new clauses) }
+    ensures conjecture { IfOk result (λ problem. problem.conjecture ≡ None) }
+    ensures refused { IfErr result (HasNoSignature symbols.old clauses) }
     ensures grows { Grows symbols.old symbols.new }
     ensures least { IfOk result (λ problem. AddsOne symbols.old symbols.new problem.signature.least) }
 {
@@ -60,7 +61,7 @@ fn signature_of(
 ) -> Result<Signature, LoadFault>
     requires { AreSoundFew symbols.old clauses.now }
     ensures signature { IfOk result (IsSignatureOf symbols.new (terms_of clauses.now)) }
-    ensures refused { IfErr result (HasNoSignature symbols.new clauses.now) }
+    ensures refused { IfErr result (HasNoSignature symbols.old clauses.now) }
     ensures grows { Grows symbols.old symbols.new }
     ensures least { IfOk result (λ signature. AddsOne symbols.old symbols.new signature.least) }
 {

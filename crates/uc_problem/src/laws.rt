@@ -16,13 +16,14 @@ ghost use Rattle.uc_problem.specs.declared.problem.Encoded.{Encoded};
 ghost use Rattle.uc_problem.specs.Holds.{Holds, Refuses, Agrees};
 ghost use Rattle.uc_problem.specs.Marks.{Marks, is_open_goal};
 ghost use Rattle.uc_problem.specs.Filling.{IsFilled, AddsMarks};
+ghost use Rattle.uc_problem.specs.Refusing.{IsRefused};
 ghost use Rattle.uc_problem.specs.Encodes.{Encodes, equations_where};
 
 /// In a table whose entries are all different, the files of a library hold at most one problem under a name, or refuse it for
 /// one reason, and never both. So where `load` names what the library holds it says exactly where each answer comes. A problem
 /// is encoded by one choice of symbols and in one way, or one goal is the first that is too large, and never both. What the files
-/// and the least constant make of a table of symbols is one such table, with one problem, and what the encoding's symbols make of
-/// it is one.
+/// and the least constant make of a table of symbols is one such table, with one problem, or the files are refused for one reason,
+/// and never both; and what the encoding's symbols make of that table is one.
 pub fn one_problem()
     ensures problem { (table : Table) (files : Files) (root : Option (List ℕ)) (name : List ℕ) (a b : Problem) → IsDistinct table → Holds table files root name a → Holds table files root name b → a ≡ b }
     ensures refusal { (table : Table) (files : Files) (root : Option (List ℕ)) (name : List ℕ) (a b : LoadFault) → IsDistinct table → Refuses table files root name a → Refuses table files root name b → a ≡ b }
@@ -32,6 +33,8 @@ pub fn one_problem()
     ensures marked_or_not { (table : Table) (problem : Problem) (marks : Option Fresh) (number : ℕ) → Marks table problem (Ok marks) → Marks table problem (Err (GoalTooLarge number)) → ⊥ }
     ensures encoding { (table : Table) (problem : Problem) (a b : Encoded) → IsDistinct table → Encodes table problem (Ok a) → Encodes table problem (Ok b) → a ≡ b }
     ensures filled { (files : Files) (root : Option (List ℕ)) (name : List ℕ) (old new other : Table) (a b : Problem) → IsDistinct new → IsDistinct other → IsFilled files root name old new a → IsFilled files root name old other b → (new ≡ other) × (a ≡ b) }
+    ensures refused { (files : Files) (root : Option (List ℕ)) (name : List ℕ) (old : Table) (a b : LoadFault) → IsRefused files root name old a → IsRefused files root name old b → a ≡ b }
+    ensures filled_or_refused { (files : Files) (root : Option (List ℕ)) (name : List ℕ) (old new : Table) (a : Problem) (why : LoadFault) → IsFilled files root name old new a → IsRefused files root name old why → ⊥ }
     ensures marked_table { (problem : Problem) (old new other : Table) (fresh again : Option Fresh) → IsDistinct new → IsDistinct other → HasAll old problem.signature.symbols → AddsMarks old new fresh → AddsMarks old other again → Marks new problem (Ok fresh) → Marks other problem (Ok again) → new ≡ other }
 {}
 

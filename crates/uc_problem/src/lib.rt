@@ -15,8 +15,6 @@ mod marking;
 mod names;
 mod problem;
 mod selection;
-#[cfg(test)]
-mod tests;
 
 pub use counts::Counts;
 pub use encoding::encode;

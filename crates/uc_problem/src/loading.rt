@@ -1,10 +1,11 @@
 //! Loading a problem.
 
-ghost use Rattle.std.specs.Prelude.{◌≡◌, ◌≤◌, IfOk, IfErr};
+ghost use Rattle.std.specs.Prelude.{◌≡◌, ◌≤◌, None, IfOk, IfErr};
 ghost use Rattle.std.specs.Option.{option_copied};
-ghost use Rattle.uc_term.specs.Table.{Grows};
+ghost use Rattle.uc_term.specs.Table.{Grows, IsDistinct};
 ghost use Rattle.uc_problem.specs.Holds.{IsProblem, IsLoadFault, Agrees};
 ghost use Rattle.uc_problem.specs.Filling.{WhereTold, FillsProblem, IsFilled};
+ghost use Rattle.uc_problem.specs.Refusing.{IsStopped};
 ghost use Rattle.uc_problem.specs.Assembly.{IsFlat, AreSoundFew};
 
 use crate::assembly::assemble;
@@ -39,14 +40,20 @@ pub fn load<L: Library>(
 ) -> Result<Problem, LoadFault>
     ensures problem { IfOk result (IsProblem symbols.new (L.holds library.old) (option_copied root.entry) name.now) }
     ensures agrees { IfOk result (Agrees symbols.new) }
+    ensures conjecture { IfOk result (λ problem. problem.conjecture ≡ None) }
     ensures refused { IfErr result (IsLoadFault symbols.new (L.holds library.old) (L.faults library.old) (L.faults library.new) (option_copied root.entry) name.now) }
     ensures grows { Grows symbols.old symbols.new }
     ensures filled { IfOk result (λ problem. WhereTold (L.holds library.old) (λ files. IsFilled files (option_copied root.entry) name.now symbols.old symbols.new problem)) }
+    ensures distinct { IfOk result (λ _. IsDistinct symbols.new) }
+    ensures stopped { IfErr result (λ why. WhereTold (L.holds library.old) (λ files. IsStopped files (option_copied root.entry) name.now symbols.old why)) }
     ensures same { L.holds library.new ≡ L.holds library.old }
     ensures later { L.faults library.old ≤ L.faults library.new }
 {
     let clauses = flat_clauses(alloc, library, root, name, symbols)?;
-    assemble(alloc, clauses, symbols)
+    let problem = assemble(alloc, clauses, symbols);
+    // The entries of the table are all different, so the files make one table and are one problem.
+    let _ = symbols.len();
+    problem
 }
 
 // The clauses of the problem in flat order.
@@ -61,6 +68,7 @@ fn flat_clauses<L: Library>(
     ensures sound { IfOk result (AreSoundFew symbols.new) }
     ensures grows { Grows symbols.old symbols.new }
     ensures fills { IfOk result (λ _. WhereTold (L.holds library.old) (λ files. FillsProblem files (option_copied root.entry) name.now symbols.old symbols.new)) }
+    ensures stopped { IfErr result (λ why. WhereTold (L.holds library.old) (λ files. IsStopped files (option_copied root.entry) name.now symbols.old why)) }
     ensures same { L.holds library.new ≡ L.holds library.old }
     ensures later { L.faults library.old ≤ L.faults library.new }
 {

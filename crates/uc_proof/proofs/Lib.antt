@@ -18,4 +18,3 @@ pub mod Once
 pub mod Writing
 pub mod Making
 pub mod Saying
-pub mod Rows

@@ -15,6 +15,3 @@ mod steps;
 
 pub use extraction::{Extracted, extract_from};
 pub use laws::{extraction_is_right, one_extraction};
-
-#[cfg(test)]
-mod tests;

@@ -1,6 +1,6 @@
 //! Lines whose variables are numbered by first occurrence.
 
-ghost use Rattle.std.specs.Prelude.{◌≡◌, ◌++◌, ℕ, List, map, IfOk};
+ghost use Rattle.std.specs.Prelude.{◌≡◌, ◌++◌, ◌-◌, ◌<◌, ◌≤◌, ◌^◌, ℕ, List, map, IfOk, OnOk, OnErr};
 ghost use Rattle.uc_term.specs.Variables.{variables, firsts_after, renumbered_by};
 ghost use Rattle.uc_pair.specs.Numbering.{IsNumberedNode, IsNameAt};
 ghost use Rattle.uc_tstp.specs.Printable.{renumbered_line, renumbered_source, renumbered_step, source_variables};
@@ -110,11 +110,21 @@ fn number_node(node: Node, names: &mut IndexSet<u32>) -> Result<Node, AllocError
 fn name_place(x: u32, names: &mut IndexSet<u32>) -> Result<u32, AllocError>
     ensures { IfOk result (IsNameAt x names.old.keys names.new.keys) }
 {
-    if names.len() >= MOST {
-        return Err(AllocError);
-    }
+    check_names(names.len())?;
     let (place, _) = names.insert_full(x)?;
     Ok(place as u32)
 }
 
+// The most names.
 const MOST: usize = u32::MAX as usize;
+
+// Refuses a name more exactly where there are the most.
+fn check_names(count: usize) -> Result<(), AllocError>
+    ensures few { OnOk result (count < 2 ^ 32 - 1) }
+    ensures refused { OnErr result (2 ^ 32 - 1 ≤ count) }
+{
+    if count >= MOST {
+        return Err(AllocError);
+    }
+    Ok(())
+}

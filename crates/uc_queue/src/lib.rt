@@ -3,8 +3,6 @@
 
 mod entry;
 mod passive;
-#[cfg(test)]
-mod tests;
 mod tree;
 
 pub use entry::Entry;

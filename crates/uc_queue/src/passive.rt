@@ -38,12 +38,14 @@ impl Model for Passive {
 // so that an entry's place fits 32 bits
 const MAX_ROOM: usize = 0x8000_0000;
 
-// The next room: twice as much, so that growing costs little for each entry, or what is wanted.
+// The next room: twice as much, so that growing costs little for each entry, or what is wanted. It is refused exactly past the
+// most room.
 fn grown(room: usize, wanted: usize) -> Result<usize, AllocError>
     requires { room ≤ 2 ^ 31 }
     ensures wanted { IfOk result (λ n. wanted ≤ n) }
     ensures few { IfOk result (λ n. n ≤ 2 ^ 31) }
     ensures more { IfOk result (λ n. room ≤ n) }
+    ensures refused { OnErr result (2 ^ 31 < wanted) }
 {
     if wanted > MAX_ROOM {
         return Err(AllocError);

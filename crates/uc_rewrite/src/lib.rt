@@ -16,10 +16,3 @@ pub use laws::{one_normal_form, one_normal_form_under};
 pub use normal::{Normal, normalise, normalise_under};
 pub use replaying::replay;
 pub use scan::Scan;
-
-#[cfg(test)]
-mod replaying_tests;
-#[cfg(test)]
-mod tests;
-#[cfg(test)]
-mod under_tests;

@@ -16,6 +16,3 @@ pub use goals::Goals;
 pub use pairs::Pairs;
 pub use tasks::{TaskRow, copy_job, draw_event, place_of, reclaim_event, same_job, units};
 pub use workers::{WORKERS, count_commit, count_draw, count_reclaim, no_numbers};
-
-#[cfg(test)]
-mod tests;

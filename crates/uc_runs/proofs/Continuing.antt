@@ -67,7 +67,7 @@ spent_steps m ls _ t end _ stop (makes_step {limit = limit} {v = v} {steps = ste
     let low : length steps ≤ limit = r.0 in
     ((omega arith), (λ e. ap suc (r.1 e)))
 
-one_spent : (a b : Stop) → stop_of a b ≡ Steps → (a ≡ Steps) ⊎ (b ≡ Steps)
+pub one_spent : (a b : Stop) → stop_of a b ≡ Steps → (a ≡ Steps) ⊎ (b ≡ Steps)
 one_spent Full b e = inr e
 one_spent Steps b e = inl refl
 one_spent Size Full e = absurd (cc)
@@ -126,20 +126,20 @@ going_staged gs out h c g f a = record { continued = staged; out = a.out }
       | inr b ↦ subst (λ k. WasSpent k h) b.0 (f (sym (ap (λ (z : Target). z.stage) b.1.2) ∙ q))
     ]
 
-busy_no : {A : Type 0} → (let c : Stage = Busy in c ≡ Continued) → A
+pub busy_no : {A : Type 0} → (let c : Stage = Busy in c ≡ Continued) → A
 busy_no e = absurd (cc)
 
-due_no : {A : Type 0} → (let c : Stage = Due in c ≡ Continued) → A
+pub due_no : {A : Type 0} → (let c : Stage = Due in c ≡ Continued) → A
 due_no e = absurd (cc)
 
-still_continued : (c : Stage) → wakes_stage c ≡ Continued → c ≡ Continued
+pub still_continued : (c : Stage) → wakes_stage c ≡ Continued → c ≡ Continued
 still_continued Due e = absurd (cc)
 still_continued Busy e = absurd (cc)
 still_continued Continued e = refl
 still_continued Settled e = absurd (cc)
 still_continued Stuck e = absurd (cc)
 
-woken_from : (gs : List Target) (g : ℕ) (y : Target) → slice_get (map wakes gs) g ≡ Some y → (x : Target) × (slice_get gs g ≡ Some x) × (y ≡ wakes x)
+pub woken_from : (gs : List Target) (g : ℕ) (y : Target) → slice_get (map wakes gs) g ≡ Some y → (x : Target) × (slice_get gs g ≡ Some x) × (y ≡ wakes x)
 woken_from [] g y e = absurd (cc)
 woken_from (x ∷ gs) zero y e = (x, refl, (cc))
 woken_from (x ∷ gs) (suc g) y e = woken_from gs g y e
@@ -160,7 +160,7 @@ going_each : (i : ℕ) (ks : List ℕ) (s : State) → IsGoing s → IsGoing (ea
 going_each i [] s a = a
 going_each i (k ∷ ks) s a = going_each i ks (kills i k s) (going_kills i k s a)
 
-continued_is : (c : Stage) → is_continued c ≡ true → c ≡ Continued
+pub continued_is : (c : Stage) → is_continued c ≡ true → c ≡ Continued
 continued_is Due e = absurd (false≢true e)
 continued_is Busy e = absurd (false≢true e)
 continued_is Continued e = refl
@@ -223,7 +223,7 @@ going_commit kind tells w g n e gs hs out h j f apart known a = record { continu
           (tells g n k e ∙ rw (eq-eqb g k b.0) (ap (λ z. Some (let c : GoalCommit = record { steps = z; end = e } in c)) b.1.0 ∙ ap (λ z. Some (let c : GoalCommit = record { steps = 4096; end = z } in c)) b.1.1))
     ]
 
-steps_only : (t : Out) (s : State) (stop : Stop) (c : Stage) → StageAfter t s stop c → c ≡ Continued → stop ≡ Steps
+pub steps_only : (t : Out) (s : State) (stop : Stop) (c : Stage) → StageAfter t s stop c → c ≡ Continued → stop ≡ Steps
 steps_only t s _ _ after_steps e = refl
 steps_only t s _ _ (full_but_grown a) e = absurd (cc)
 steps_only t s _ _ (size_but_grown a) e = absurd (cc)
@@ -275,7 +275,7 @@ module _ (m : Meaning) where
   going_meets o t i pairs does s _ g (past_limit more b c) a =
       going_event s.goals (without t.ticket s.out) _ _ (λ k. refl) (going_event s.goals (without t.ticket s.out) s.history (record { worker = t.worker; what = CommitMeet i 0 0 }) (λ k. refl) (going_without s.goals s.out s.history t.ticket a))
 
-  not_continued : (gs : List Target) (g : ℕ) → ((x : Target) → slice_get gs g ≡ Some x → x.stage ≡ Busy) → (x : Target) → slice_get gs g ≡ Some x → x.stage ≡ Continued → ⊥
+  pub not_continued : (gs : List Target) (g : ℕ) → ((x : Target) → slice_get gs g ≡ Some x → x.stage ≡ Busy) → (x : Target) → slice_get gs g ≡ Some x → x.stage ≡ Continued → ⊥
   not_continued gs g busy x at e = let b : x.stage ≡ Busy = busy x at in busy_no (sym b ∙ e)
 
   going_commits : (o : Opening) (s : State) (t : Out) (f : Finding) (u : State) → Kept o s → out_at t.ticket s.out ≡ Some t → IsResult m o.axioms (take t.front s.entries) t.job f → IsGoing s → Commits o t f s u → IsGoing u
@@ -322,7 +322,7 @@ module _ (m : Meaning) where
   going_closes s _ _ _ has_large a = going_event s.goals s.out s.history _ (λ k. refl) a
   going_closes s _ _ _ has_stuck a = going_event s.goals s.out s.history _ (λ k. refl) a
 
-  none_continued : (gs : List Equation) (g : ℕ) (x : Target) → slice_get (map goal_of gs) g ≡ Some x → x.stage ≡ Continued → ⊥
+  pub none_continued : (gs : List Equation) (g : ℕ) (x : Target) → slice_get (map goal_of gs) g ≡ Some x → x.stage ≡ Continued → ⊥
   none_continued [] g x at e = cc
   none_continued (y ∷ gs) zero x at e = due_no (ap (λ (z : Target). z.stage) (first_goal (goal_of y) x at) ∙ e)
     where

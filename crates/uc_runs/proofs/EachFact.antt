@@ -27,6 +27,7 @@ use Rattle.uc_machine.specs.Promises.{Grew}
 use Rattle.uc_machine.specs.Results.{Trial, IsTrial, GivesFact, IsResult, goal_comes_to, more_comes_to, pair_is_joined, pair_is_kept, fact_is_stale as comes_stale, fact_meets as comes_to_meet}
 use Rattle.uc_machine.specs.Runs.{Starts, axioms_wait, too_many_axioms, AuditReply, Audits, is_closed, is_spent, is_kept, MayAudit, Reaches, starts, draws_on, commits_on, reclaims_on, recalls_on, audits_on, closes_on}
 use Rattle.uc_machine.specs.State.{Opening, State, Out}
+use Rattle.uc_machine.proofs.Audited.{was_missing}
 use Rattle.uc_machine.proofs.Blocks.{born-append, born-dies}
 use Rattle.uc_machine.proofs.Grows.{reclaim_same, recall_same}
 use Rattle.uc_machine.proofs.Lists.{Each-front, Each-push}
@@ -141,8 +142,9 @@ module _ (m : Meaning) (o : Opening) (P : Fact → Type 0) (given : IsGivenOn m 
   audits_each : (s u : State) (x : Missing) (r : AuditReply) → MayAudit m o s x → Audits o x.fact s r u → Each P (born s.entries) → Each P (born u.entries)
   audits_each s _ x _ may (is_closed v e) a = a
   audits_each s _ x _ may (is_spent e c) a = a
-  audits_each s _ x _ may (is_kept e c) a =
-      let before = earlier_each P may.drained.entries s.entries (audited_grew o may.all may.drained s may.audited) a in
+  audits_each s _ x _ next (is_kept e c) a =
+      let may = was_missing m o s x next in
+      let before = earlier_each P may.drained.entries s.entries (audited_grew o may.all may.drained (x ∷ may.left) s may.audited) a in
       born_each m o.axioms P given s.entries x.fact (final_each m o.axioms P given may.drained before may.all (Lacks may.all) may.is_final refl x may.among) a
 
   starts_each : (s : State) → Starts o s → Each P (born s.entries)

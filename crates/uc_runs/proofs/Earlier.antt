@@ -19,8 +19,9 @@ use Rattle.uc_machine.specs.declared.task.Outcome.{Outcome}
 use Rattle.uc_machine.specs.Draws.{Reply, Draws, verdict_stands, goal_is_due, fact_is_unmet, orphan_is_dropped, goal_is_continued, pair_is_drawn, budget_is_out, budget_is_spent, all_is_out, all_is_done}
 use Rattle.uc_machine.specs.Commits.{GoalEnds, ends_meet, ends_differ, Meets, within_limit, past_limit, newly_waiting, stays, Commits, is_late, goal_ends, more_ends, pair_joins, fact_is_kept, fact_is_stale, fact_is_dead, fact_meets}
 use Rattle.uc_machine.specs.Results.{IsResult}
-use Rattle.uc_machine.specs.Runs.{Starts, axioms_wait, too_many_axioms, AuditReply, Audits, is_closed, is_spent, is_kept, Closes, converges, has_large, has_stuck, IsAudited, not_yet, once_more, MayAudit, Reaches, starts, draws_on, commits_on, reclaims_on, recalls_on, audits_on, closes_on}
+use Rattle.uc_machine.specs.Runs.{Starts, axioms_wait, too_many_axioms, AuditReply, Audits, is_closed, is_spent, is_kept, Closes, converges, has_large, has_stuck, AreAudited, none_yet, one_more, MayAudit, Reaches, starts, draws_on, commits_on, reclaims_on, recalls_on, audits_on, closes_on}
 use Rattle.uc_machine.specs.Promises.{Grew, FrontsAreEarlier}
+use Rattle.uc_machine.proofs.Audited.{was_missing}
 use Rattle.uc_machine.proofs.Kept.{IsKnown}
 use Rattle.uc_machine.proofs.Lists.{Each-at}
 use Rattle.uc_machine.proofs.Grows.{same, further, audits_grew, reclaim_same, recall_same}
@@ -48,9 +49,9 @@ pub goal_same : (kind : ℕ → ℕ → GoalEnd → Happening) (t : Out) (g : �
 goal_same kind t g l r stop s _ (ends_meet e) = refl
 goal_same kind t g l r stop s _ (ends_differ c e a) = refl
 
-pub audited_grew : (o : Opening) (ms : List Missing) (d s : State) → IsAudited o ms d s → Grew d.entries s.entries
-audited_grew o ms d _ not_yet = same d.entries
-audited_grew o ms d u (once_more {s = s} {answer = r} x c a b) = further _ _ _ (audited_grew o ms d s a) (audits_grew o x.fact s u r b)
+pub audited_grew : (o : Opening) (all : List Missing) (d : State) (left : List Missing) (s : State) → AreAudited o all d left s → Grew d.entries s.entries
+audited_grew o all d _ _ none_yet = same d.entries
+audited_grew o all d left u (one_more {missing = x} {s = s} {answer = r} a b) = further _ _ _ (audited_grew o all d (x ∷ left) s a) (audits_grew o x.fact s u r b)
 
 module _ (m : Meaning) (laws : Laws m) where
   moved : (es fs : List Entry) → fs ≡ es → EarlierIn m laws es → EarlierIn m laws fs
@@ -83,7 +84,7 @@ module _ (m : Meaning) (laws : Laws m) where
   audits_earlier : (o : Opening) (s u : State) (x : Missing) (r : AuditReply) → MayAudit m o s x → Audits o x.fact s r u → EarlierIn m laws s.entries → EarlierIn m laws u.entries
   audits_earlier o s _ x _ a (is_closed v e) h = h
   audits_earlier o s _ x _ a (is_spent e c) h = h
-  audits_earlier o s _ x _ a (is_kept e c) h = earlier_born m laws s.entries x.fact (kept_by_audit m laws o.axioms a.drained s.entries a.all x (audited_grew o a.all a.drained s a.audited) a.is_final a.among) h
+  audits_earlier o s _ x _ may (is_kept e c) h = let a = was_missing m o s x may in earlier_born m laws s.entries x.fact (kept_by_audit m laws o.axioms a.drained s.entries a.all x (audited_grew o a.all a.drained (x ∷ a.left) s a.audited) a.is_final a.among) h
 
   starts_earlier : (o : Opening) (s : State) → Starts o s → EarlierIn m laws s.entries
   starts_earlier o _ (axioms_wait l) n f e = absurd (cc)

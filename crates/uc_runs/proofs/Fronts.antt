@@ -33,7 +33,7 @@ use Rattle.uc_machine.specs.Promises.{StandsBy, IsKeptOver, Grew}
 use Rattle.uc_runs.proofs.Renumbered.{names_have, renumbered_stands}
 
 module _ (m : Meaning) (laws : Laws m) where
-  normal_stands : (es : List Entry) (limit : ℕ) (t end : Tree) (steps : List Step) (stop : Stop) → Normalises m.greater m.least (live es) limit t steps end stop → StandsBy m es stop end
+  pub normal_stands : (es : List Entry) (limit : ℕ) (t end : Tree) (steps : List Step) (stop : Stop) → Normalises m.greater m.least (live es) limit t steps end stop → StandsBy m es stop end
   normal_stands es limit t _ _ _ (is_full i) = i
   normal_stands es _ t _ _ _ (is_spent {v = v} {place = place} {rule = rule} f) = record { place = place; rule = rule; v = v; first = f }
   normal_stands es _ t _ _ _ (is_large {v = v} {place = place} {rule = rule} f l) = record { place = place; rule = rule; v = v; first = f; large = l }

@@ -22,3 +22,6 @@ pub mod WrittenFacts
 pub mod ProvedGoals
 pub mod FewFacts
 pub mod LargeOverlaps
+pub mod Furthering
+pub mod Recording
+pub mod Verdicting

@@ -36,6 +36,7 @@ use Rattle.uc_machine.specs.Results.{IsResult}
 use Rattle.uc_machine.specs.Runs.{goal_of, Starts, axioms_wait, too_many_axioms, AuditReply, Audits, is_closed, is_spent, is_kept, Closes, converges, has_large, has_stuck, MayAudit, Reaches, starts, draws_on, commits_on, reclaims_on, recalls_on, audits_on, closes_on}
 use Rattle.uc_machine.specs.State.{Opening, State, Target, Out}
 use Rattle.uc_runs.proofs.AtRest.{HasEnds, JobEnds, GoalResult, result_goal, result_more, rests_reaches}
+use Rattle.uc_machine.proofs.Audited.{was_missing}
 use Rattle.uc_machine.proofs.Blocks.{born-append, born-dies}
 use Rattle.uc_runs.proofs.Earlier.{audited_grew}
 use Rattle.uc_machine.proofs.Lists.{Each-at, below}
@@ -220,9 +221,10 @@ module _ (m : Meaning) where
   replaying_audits : (o : Opening) (s u : State) (x : Missing) (r : AuditReply) → MayAudit m o s x → Audits o x.fact s r u → IsReplaying o s → IsReplaying o u
   replaying_audits o s _ x _ may (is_closed v e) a = a
   replaying_audits o s _ x _ may (is_spent e c) a = a
-  replaying_audits o s _ x _ may (is_kept e c) a =
+  replaying_audits o s _ x _ next (is_kept e c) a =
+      let may = was_missing m o s x next in
       replaying_born o s.entries s.goals x.fact
-      (over_grown o.axioms may.drained.entries s.entries (audited_grew o may.all may.drained s may.audited) x.fact.chain x.fact.left x.fact.right (missing_leads m o.axioms may.drained may.all may.is_final x may.among)) a
+      (over_grown o.axioms may.drained.entries s.entries (audited_grew o may.all may.drained (x ∷ may.left) s may.audited) x.fact.chain x.fact.left x.fact.right (missing_leads m o.axioms may.drained may.all may.is_final x may.among)) a
 
   replaying_closes : (o : Opening) (s u : State) (outcome : Outcome) (v : Verdict) → Closes s outcome v u → IsReplaying o s → IsReplaying o u
   replaying_closes o s _ _ _ converges a = a

@@ -1,6 +1,6 @@
 //! What every run of the machine keeps, each the contract of a function that does nothing.
 
-ghost use Rattle.std.specs.Prelude.{◌≡◌, ◌≤◌, ℕ, List, Some, length};
+ghost use Rattle.std.specs.Prelude.{◌≡◌, ◌<◌, ◌≤◌, ℕ, List, Some, length};
 ghost use Rattle.uc_term.specs.declared.equation.Equation.{Equation as AnyEquation};
 ghost use Rattle.uc_order.specs.Laws.{HasSym};
 ghost use Rattle.uc_fact.specs.declared.fact.Overlap.{Overlap as AnyOverlap};
@@ -8,6 +8,7 @@ ghost use Rattle.uc_fact.specs.Ground.{AreOfSignature};
 ghost use Rattle.uc_fact.specs.Live.{equations_of};
 ghost use Rattle.uc_shelf.specs.declared.entry.Entry.{Entry as AnyEntry};
 ghost use Rattle.uc_shelf.specs.Entries.{born, live};
+ghost use Rattle.uc_machine.specs.declared.event.Verdict.{Verdict as AnyVerdict};
 ghost use Rattle.uc_machine.specs.declared.event.Verdict.TheVariants.{Proved, Saturated};
 ghost use Rattle.uc_machine.specs.declared.task.Finding.{Finding as AnyFinding};
 ghost use Rattle.uc_machine.specs.declared.task.Job.{Job as AnyJob};
@@ -25,6 +26,9 @@ ghost use Rattle.uc_runs.specs.Saturated.{IsSaturated};
 ghost use Rattle.uc_runs.specs.Written.{AreNumbered, AreSmall};
 ghost use Rattle.uc_runs.specs.Proved.{IsProved};
 ghost use Rattle.uc_runs.specs.Large.{IsLargeOverlap};
+ghost use Rattle.uc_runs.specs.Further.{ContinuedGoFurther};
+ghost use Rattle.uc_runs.specs.Later.{Continues, Later, IsRecorded};
+ghost use Rattle.uc_runs.specs.Causes.{VerdictCame};
 
 use uc_order::Order;
 
@@ -40,9 +44,15 @@ pub fn meetings_are_whole<O: Order>(order: &O)
     ensures { (o : Opening) (s : State) → Reaches (O.meaning order.now) o s → MeetingsAreWhole (O.meaning order.now) s }
 {}
 
-/// A More is drawn only for a goal whose last commit made exactly 4,096 steps, a further one being possible.
+/// A More is drawn only for a goal whose last commit made exactly 4,096 steps and stopped for them ([`continued_go_further`]).
 pub fn mores_go_on<O: Order>(order: &O)
     ensures { (o : Opening) (s : State) → Reaches (O.meaning order.now) o s → MoresGoOn s }
+{}
+
+/// From an end of each goal that is Continued, and of each More that is out, an ordered step is possible by the facts that live
+/// in the front of a task: in some earlier list of entries.
+pub fn continued_go_further<O: Order>(order: &O)
+    ensures { (o : Opening) (s : State) → Reaches (O.meaning order.now) o s → ContinuedGoFurther (O.meaning order.now) s }
 {}
 
 /// Each pair that isn't too large comes from an axiom of the problem, a fact that is born, or an overlap that is in the list of
@@ -124,4 +134,17 @@ pub fn proved_goal_meets<O: Order>(order: &O)
 /// The overlap that the final pass names as too large is one of two facts that live.
 pub fn large_overlap_of_live<O: Order>(order: &O)
     ensures { (axioms : List AnyEquation) (s : State) (x : AnyOverlap) → IsFinal (O.meaning order.now) axioms s (Large x) → IsLargeOverlap s.entries x }
+{}
+
+/// Each event of a run was recorded by the start or by one call, from a state that a run reaches, and calls lead on from there:
+/// so what each call promises is known of each event.
+pub fn events_are_recorded<O: Order>(order: &O)
+    ensures recorded { (o : Opening) (s : State) (k : ℕ) → Reaches (O.meaning order.now) o s → k < length s.history → IsRecorded (O.meaning order.now) o s k }
+    ensures reaches { (o : Opening) (s u : State) → Reaches (O.meaning order.now) o s → Later (O.meaning order.now) o s u → Reaches (O.meaning order.now) o u }
+    ensures history { (o : Opening) (s u : State) → Later (O.meaning order.now) o s u → Continues s.history u.history }
+{}
+
+/// The verdict of a run came in one of its states, and one that a limit brings has its cause there.
+pub fn verdicts_have_causes<O: Order>(order: &O)
+    ensures { (o : Opening) (s : State) (v : AnyVerdict) → Reaches (O.meaning order.now) o s → s.verdict ≡ Some v → VerdictCame (O.meaning order.now) o s v }
 {}

@@ -7,7 +7,7 @@ use Rattle.uc_machine.specs.declared.task.Outcome.TheVariants.{Missing as Lacks}
 use Rattle.uc_machine.specs.State.{Opening, State}
 use Rattle.uc_machine.specs.Events.{commits_by}
 use Rattle.uc_machine.specs.Finals.{IsFinal}
-use Rattle.uc_machine.specs.Runs.{KeptAs, ClosedBy, Audits, IsDrained, MayAudit}
+use Rattle.uc_machine.specs.Runs.{KeptAs, ClosedBy, Audits, IsDrained, MayAudit, Reaches}
 use Rattle.uc_search.specs.Searching.{AuditsAll, all_are_kept, one_is_kept, book_is_closed}
 use Rattle.uc_search.proofs.Counting.{audit_commits}
 use Rattle.uc_search.proofs.Rests.{WereMissing, may_audit, missing_on, missing_first, audit_out, audit_leaves}
@@ -28,8 +28,8 @@ module _ (m : Meaning) (o : Opening) (drained : State) (all : List Missing) wher
     pub out : u.out ≡ drained.out
     pub commits : (w : ℕ) → commits_by w u.history ≡ commits_by w drained.history
 
-  pub auditing_starts : IsDrained drained → IsFinal m o.axioms drained (Lacks all) → Auditing all drained
-  auditing_starts d f = record { missing = missing_first m o drained all d f; open_ = d.none_unmet.none_due.open_; on = λ v u a. a; out = refl; commits = λ w. refl }
+  pub auditing_starts : Reaches m o drained → IsDrained drained → IsFinal m o.axioms drained (Lacks all) → Auditing all drained
+  auditing_starts r d f = record { missing = missing_first m o drained all r d f; open_ = d.none_unmet.none_due.open_; on = λ v u a. a; out = refl; commits = λ w. refl }
 
   pub next_may : (x : Missing) (rest : List Missing) (s : State) → Auditing (x ∷ rest) s → MayAudit m o s x
   next_may x rest s a = may_audit m o drained all rest x s a.missing

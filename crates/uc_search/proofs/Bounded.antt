@@ -20,7 +20,7 @@ use Rattle.uc_machine.proofs.Runs.{kept_reaches}
 use Rattle.uc_runs.proofs.Replaying.{chains_replay}
 use Rattle.uc_search.specs.Working.{TakesTurn, Works, no_turn, one_more_turn}
 use Rattle.uc_search.specs.Searching.{AuditsAll, all_are_kept, one_is_kept, book_is_closed, EndsRound, is_closed_by, audits_missing, Rounds, gets_verdict, gets_drained, Searches, last_round, next_round, IsSearched}
-use Rattle.uc_search.specs.Bounds.{rounds_in, IsBounded}
+use Rattle.uc_search.specs.Bounds.{rounds_in, passes_of, passes_in, IsBounded}
 use Rattle.uc_search.proofs.Distinct.{few_distinct}
 use Rattle.uc_search.proofs.Loads.{dues, dues-few, unmets}
 use Rattle.uc_search.proofs.Fits.{Fits, audits_in, draws_fit, commits_fit, fits_closes, fits_keeps, fewer_fit}
@@ -142,4 +142,21 @@ module _ (m : Meaning) (o : Opening) where
         let b : audits_in s.history ≤ o.budget = (searched_bounded v s x).audits in
         let l : 0 + h.0 ≤ audits_in s.history = h.2.least in
         let n : rounds_in x.searches ≡ suc h.0 = h.1 in
+        omega arith
+
+    one_pass : (s : State) (v : Option Verdict) (u : State) → (r : Rounds m o w s v u) → passes_of r ≤ 1
+    one_pass s _ u (gets_verdict a) = omega arith
+    one_pass s v u (gets_drained a b) = omega arith
+
+    passes_by_rounds : (s : State) (v : Verdict) (u : State) → (x : Searches m o w s v u) → passes_in x ≤ rounds_in x
+    passes_by_rounds s v u (last_round r) = one_pass s (Some v) u r
+    passes_by_rounds s v t (next_round {u = u} r rest) =
+        let a : passes_of r ≤ 1 = one_pass s None u r in
+        let b : passes_in rest ≤ rounds_in rest = passes_by_rounds u v t rest in
+        omega arith
+
+    pub few_passes : (v : Verdict) (s : State) → (x : IsSearched m o w v s) → passes_in x.searches ≤ o.budget + 1
+    few_passes v s x =
+        let a : passes_in x.searches ≤ rounds_in x.searches = passes_by_rounds x.start v s x.searches in
+        let b : rounds_in x.searches ≤ o.budget + 1 = few_rounds v s x in
         omega arith

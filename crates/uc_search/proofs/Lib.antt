@@ -6,6 +6,7 @@ pub mod Moved
 pub mod Finishing
 pub mod Turning
 pub mod RoundEnds
+pub mod Rounding
 pub mod Births
 pub mod AllAudits
 pub mod Rests

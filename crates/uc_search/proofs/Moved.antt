@@ -16,7 +16,8 @@ use Rattle.uc_book.specs.Answers.{IsSameBook, audit_reply_of}
 use Rattle.uc_book.specs.Openings.{Opened, BookView, PassView, opening_of}
 use Rattle.uc_search.specs.declared.working.Turn.{Turn}
 use Rattle.uc_search.specs.Working.{IsSamePass, EndsTask, is_committed, is_put_back, TurnsTo, takes_turn, lacks_result}
-use Rattle.uc_search.specs.Searching.{Rounds, EndsRound}
+use Rattle.uc_search.specs.Searching.{EndsRound}
+use Rattle.uc_search.specs.Bounds.{CountedRound}
 
 pub same_book_on : {O : Type 0} (a b c : BookView O) → IsSameBook a b → IsSameBook b c → IsSameBook a c
 same_book_on a b c x y = record { opening = y.opening ∙ x.opening; order = y.order ∙ x.order; enrolled = y.enrolled ∙ x.enrolled }
@@ -50,11 +51,11 @@ module _ {O : Type 0} (meaning : O → Meaning) (a b : BookView O) (same : IsSam
       (subst (λ (o : Opened). TurnsTo (meaning a.order) (opening_of o) v s t u) same.opening
       (subst (λ (p : O). TurnsTo (meaning p) (opening_of b.opening) v s t u) same.order x))
 
-  pub moved_round : (v w : ℕ) (s : State) (r : Option Verdict) (u : State) → v ≡ w → Rounds (meaning b.order) (opening_of b.opening) v s r u → Rounds (meaning a.order) (opening_of a.opening) w s r u
-  moved_round v w s r u e x =
-      subst (λ n. Rounds (meaning a.order) (opening_of a.opening) n s r u) e
-      (subst (λ (o : Opened). Rounds (meaning a.order) (opening_of o) v s r u) same.opening
-      (subst (λ (p : O). Rounds (meaning p) (opening_of b.opening) v s r u) same.order x))
+  pub moved_round : (v w : ℕ) (s : State) (r : Option Verdict) (u : State) (old new : ℕ) → v ≡ w → CountedRound (meaning b.order) (opening_of b.opening) v s r u old new → CountedRound (meaning a.order) (opening_of a.opening) w s r u old new
+  moved_round v w s r u old new e x =
+      subst (λ n. CountedRound (meaning a.order) (opening_of a.opening) n s r u old new) e
+      (subst (λ (o : Opened). CountedRound (meaning a.order) (opening_of o) v s r u old new) same.opening
+      (subst (λ (p : O). CountedRound (meaning p) (opening_of b.opening) v s r u old new) same.order x))
 
   pub moved_end : (s : State) (r : Option Verdict) (u : State) → EndsRound (meaning b.order) (opening_of b.opening) s r u → EndsRound (meaning a.order) (opening_of a.opening) s r u
   moved_end s r u x =

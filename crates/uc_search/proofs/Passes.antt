@@ -10,13 +10,13 @@ use Rattle.uc_search.proofs.Counting.{draw_commits}
 none_made : (a : ℕ) → a ≡ a + 0
 none_made a = omega arith
 
-none_counted : (c : ℕ) → c < 2 ^ 64 → c ≡ min (c + 0) (2 ^ 64 - 1)
+pub none_counted : (c : ℕ) → c < 2 ^ 64 → c ≡ min (c + 0) (2 ^ 64 - 1)
 none_counted c l = omega (arith, l)
 
 both_made : (a b c k n : ℕ) → b ≡ a + k → c ≡ b + n → c ≡ a + (k + n)
 both_made a b c k n e f = omega (arith, e, f)
 
-both_counted : (c d e k n : ℕ) → d ≡ min (c + k) (2 ^ 64 - 1) → e ≡ min (d + n) (2 ^ 64 - 1) → e ≡ min (c + (k + n)) (2 ^ 64 - 1)
+pub both_counted : (c d e k n : ℕ) → d ≡ min (c + k) (2 ^ 64 - 1) → e ≡ min (d + n) (2 ^ 64 - 1) → e ≡ min (c + (k + n)) (2 ^ 64 - 1)
 both_counted c d e k n x y = omega (arith, x, y)
 
 all_counted : (c d a b k : ℕ) → c ≡ a → d ≡ min (c + k) (2 ^ 64 - 1) → b ≡ a + k → b < 2 ^ 64 → d ≡ b

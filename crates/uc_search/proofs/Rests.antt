@@ -1,7 +1,6 @@
 -- A search by one worker is a run of the machine. Between its turns no task is out.
 use Rattle.std.proofs.Common.{◌≡◌, ℕ, ◌<◌, List, [], ◌∷◌, ◌++◌, Option, Some, None, refl, ap, ◌∙◌}
 use Rattle.uc_order.specs.Laws.{Meaning}
-use Rattle.uc_order.specs.Members.{In, in_front, in_rest}
 use Rattle.uc_machine.specs.declared.event.Verdict.{Verdict}
 use Rattle.uc_machine.specs.declared.task.Missing.{Missing}
 use Rattle.uc_machine.specs.declared.task.Outcome.{Outcome}
@@ -9,7 +8,7 @@ use Rattle.uc_machine.specs.declared.task.Outcome.TheVariants.{Missing as Lacks}
 use Rattle.uc_machine.specs.State.{Opening, State, Out}
 use Rattle.uc_machine.specs.Draws.{Drew, Drained, Closed}
 use Rattle.uc_machine.specs.Finals.{IsFinal}
-use Rattle.uc_machine.specs.Runs.{Reaches, starts, draws_on, commits_on, audits_on, closes_on, Starts, axioms_wait, too_many_axioms, AuditReply, KeptAs, ClosedBy, Audits, is_closed, is_spent, is_kept, Closes, converges, has_large, has_stuck, IsDrained, IsAudited, not_yet, once_more, MayAudit}
+use Rattle.uc_machine.specs.Runs.{Reaches, starts, draws_on, commits_on, audits_on, closes_on, Starts, axioms_wait, too_many_axioms, AuditReply, KeptAs, ClosedBy, Audits, is_closed, is_spent, is_kept, Closes, converges, has_large, has_stuck, IsDrained, AreAudited, none_yet, one_more, MayAudit, is_next}
 use Rattle.uc_search.specs.Working.{TakesTurn, Works, no_turn, one_more_turn, WorksUntil}
 use Rattle.uc_search.specs.Searching.{AuditsAll, all_are_kept, one_is_kept, book_is_closed, EndsRound, is_closed_by, audits_missing, Rounds, gets_verdict, gets_drained, Searches, last_round, next_round, IsSearched}
 use Rattle.uc_search.proofs.Turns.{leaves, at_one, one_commits}
@@ -64,21 +63,21 @@ module _ (m : Meaning) (o : Opening) where
   pub start_rests : (s : State) → Starts o s → Rests s
   start_rests s a = record { reaches = starts a; none_out = start_out o s a }
 
-  -- all these are among the equations that were missing when the book was drained
+  -- of the equations that were missing when the book was drained, these are left to audit
   pub record WereMissing (drained : State) (all xs : List Missing) (s : State) : Type 0 where
+    pub reaches : Reaches m o drained
     pub is_drained : IsDrained drained
     pub is_final : IsFinal m o.axioms drained (Lacks all)
-    pub audited : IsAudited o all drained s
-    pub among : (x : Missing) → In xs x → In all x
+    pub audited : AreAudited o all drained xs s
 
   pub may_audit : (drained : State) (all xs : List Missing) (x : Missing) (s : State) → WereMissing drained all (x ∷ xs) s → MayAudit m o s x
-  may_audit drained all xs x s a = record { drained = drained; is_drained = a.is_drained; all = all; is_final = a.is_final; audited = a.audited; among = a.among x in_front }
+  may_audit drained all xs x s a = is_next a.reaches a.is_drained a.is_final a.audited
 
   pub missing_on : (drained : State) (all xs : List Missing) (x : Missing) (s u : State) (r : AuditReply) → WereMissing drained all (x ∷ xs) s → Audits o x.fact s r u → WereMissing drained all xs u
-  missing_on drained all xs x s u r a b = record { is_drained = a.is_drained; is_final = a.is_final; audited = once_more x (a.among x in_front) a.audited b; among = λ y i. a.among y (in_rest i) }
+  missing_on drained all xs x s u r a b = record { reaches = a.reaches; is_drained = a.is_drained; is_final = a.is_final; audited = one_more a.audited b }
 
-  pub missing_first : (drained : State) (all : List Missing) → IsDrained drained → IsFinal m o.axioms drained (Lacks all) → WereMissing drained all all drained
-  missing_first drained all d f = record { is_drained = d; is_final = f; audited = not_yet; among = λ x i. i }
+  pub missing_first : (drained : State) (all : List Missing) → Reaches m o drained → IsDrained drained → IsFinal m o.axioms drained (Lacks all) → WereMissing drained all all drained
+  missing_first drained all r d f = record { reaches = r; is_drained = d; is_final = f; audited = none_yet }
 
   pub audits_rest : (drained : State) (all xs : List Missing) (s : State) (v : Option Verdict) (u : State) → WereMissing drained all xs s → Rests s → AuditsAll o xs s v u → Rests u
   audits_rest drained all _ s _ _ a r all_are_kept = r
@@ -89,7 +88,7 @@ module _ (m : Meaning) (o : Opening) where
 
   pub end_rests : (drained : State) (v : Option Verdict) (u : State) → IsDrained drained → Rests drained → EndsRound m o drained v u → Rests u
   end_rests d _ u i r (is_closed_by {outcome = outcome} {v = v} f c) = record { reaches = closes_on i f r.reaches c; none_out = close_out d u outcome v c ∙ r.none_out }
-  end_rests d v u i r (audits_missing {missing = xs} f a) = audits_rest d xs xs d v u (missing_first d xs i f) r a
+  end_rests d v u i r (audits_missing {missing = xs} f a) = audits_rest d xs xs d v u (missing_first d xs r.reaches i f) r a
 
   pub end_verdict : (drained : State) (v : Option Verdict) (u : State) → IsDrained drained → EndsRound m o drained v u → u.verdict ≡ v
   end_verdict d _ u i (is_closed_by {outcome = outcome} {v = v} f c) = close_verdict d u outcome v c

@@ -1,5 +1,6 @@
 -- The end of a round.
-use Rattle.std.proofs.Common.{◌≡◌, ℕ, List, Option, Some, sym, ◌∙◌, subst}
+use Rattle.std.proofs.Common.{◌≡◌, ℕ, ◌<◌, ◌^◌, List, Option, Result, Ok, Err, IfOk, Some, sym, ◌∙◌, subst}
+use Rattle.std.specs.Prelude.{OnOk}
 use Rattle.uc_order.specs.Laws.{Meaning}
 use Rattle.uc_term.specs.declared.equation.Equation.{Equation}
 use Rattle.uc_machine.specs.declared.event.Verdict.{Verdict}
@@ -12,7 +13,9 @@ use Rattle.uc_machine.specs.Runs.{Closes, IsDrained}
 use Rattle.uc_search.specs.declared.working.Ended.{Ended}
 use Rattle.uc_search.specs.declared.working.Ended.TheVariants.{Drained, Closed}
 use Rattle.uc_search.specs.Working.{WorksUntil, EndsAlone, drains, finds_closed}
-use Rattle.uc_search.specs.Searching.{EndsRound, is_closed_by, Rounds, gets_verdict, gets_drained}
+use Rattle.uc_search.specs.Searching.{EndsRound, is_closed_by, gets_verdict, gets_drained}
+use Rattle.uc_search.specs.Bounds.{CountedRound, counted_on}
+use Rattle.uc_search.proofs.Passes.{none_counted}
 use Rattle.uc_search.proofs.Turns.{leaves}
 use Rattle.uc_search.proofs.Counting.{close_commits}
 use Rattle.uc_search.proofs.Rests.{close_out, close_verdict}
@@ -53,12 +56,18 @@ module _ (m : Meaning) (o : Opening) (w : ℕ) where
   closed_of : (s u : State) → EndsAlone m o w s Closed u → (v : Verdict) × WorksUntil m o w s (IsClosedReply v) u
   closed_of s u (finds_closed {v = v} a) = (v, a)
 
-  -- the worker found a verdict
-  pub closed_round : (s : State) (why : Ended) (u : State) (r : Option Verdict) → why ≡ Closed → EndsAlone m o w s why u → r ≡ u.verdict → Rounds m o w s r u
-  closed_round s why u r e a is =
+  -- the worker found a verdict, and no final pass is made
+  pub closed_round : (s : State) (why : Ended) (u : State) (r : Option Verdict) (passes : ℕ) → why ≡ Closed → EndsAlone m o w s why u → r ≡ u.verdict → passes < 2 ^ 64 → CountedRound m o w s r u passes passes
+  closed_round s why u r passes e a is few =
       let x = closed_of s u (subst (λ y. EndsAlone m o w s y u) e a) in
       let v : u.verdict ≡ Some x.0 = (leaves o w x.1.last (IsClosedReply x.0) u x.1.draws).verdict in
-      subst (λ y. Rounds m o w s y u) (sym (is ∙ v)) (gets_verdict x.1)
+      subst (λ y. CountedRound m o w s y u passes passes) (sym (is ∙ v)) (record { round = gets_verdict x.1; passes = none_counted passes few })
 
-  pub drained_round : (s : State) (why : Ended) (d : State) (r : Option Verdict) (u : State) → why ≡ Drained → EndsAlone m o w s why d → EndsRound m o d r u → Rounds m o w s r u
-  drained_round s why d r u e a b = gets_drained (drained_alone s why d e a) b
+  -- it found nothing to do, and one final pass is made
+  pub drained_round : (s : State) (why : Ended) (d : State) (r : Option Verdict) (u : State) (old new : ℕ) → why ≡ Drained → EndsAlone m o w s why d → new ≡ counted_on old 1 → EndsRound m o d r u → CountedRound m o w s r u old new
+  drained_round s why d r u old new e a n b = record { round = gets_drained (drained_alone s why d e a) b; passes = n }
+
+-- what an answer is, and what holds where there is one
+pub both_of : {T E : Type 0} (P : T → Type 0) (Q : Type 0) (r : Result T E) → IfOk r P → OnOk r Q → IfOk r (λ x. P x × Q)
+both_of P Q (Ok x) p q = (p, q)
+both_of P Q (Err e) p q = p

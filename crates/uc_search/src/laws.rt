@@ -6,7 +6,7 @@ ghost use Rattle.uc_machine.specs.State.{Opening, State};
 ghost use Rattle.uc_machine.specs.Runs.{Reaches};
 ghost use Rattle.uc_search.specs.Searching.{IsSearched};
 ghost use Rattle.uc_search.specs.Causes.{HasCauseIfStopped};
-ghost use Rattle.uc_search.specs.Bounds.{rounds_in, IsBounded};
+ghost use Rattle.uc_search.specs.Bounds.{rounds_in, passes_in, IsBounded};
 
 use uc_order::Order;
 
@@ -27,8 +27,10 @@ pub fn limits_have_causes<O: Order>(order: &O)
     ensures { (o : Opening) (w : ℕ) (v : AnyVerdict) (s : State) → w < 65 → IsSearched (O.meaning order.now) o w v s → HasCauseIfStopped (O.meaning order.now) o s v }
 {}
 
-/// A search draws few tasks and keeps few audits for its budget, and makes at most one round more than it keeps audits.
+/// A search draws few tasks and keeps few audits for its budget, and makes at most one round more than it keeps audits: so at
+/// most one final pass more than its budget has units.
 pub fn searches_are_bounded<O: Order>(order: &O)
     ensures bounded { (o : Opening) (w : ℕ) (v : AnyVerdict) (s : State) → w < 65 → IsSearched (O.meaning order.now) o w v s → IsBounded o s }
     ensures rounds { (o : Opening) (w : ℕ) (v : AnyVerdict) (s : State) → w < 65 → (search : IsSearched (O.meaning order.now) o w v s) → rounds_in search.searches ≤ o.budget + 1 }
+    ensures passes { (o : Opening) (w : ℕ) (v : AnyVerdict) (s : State) → w < 65 → (search : IsSearched (O.meaning order.now) o w v s) → passes_in search.searches ≤ o.budget + 1 }
 {}

@@ -1,20 +1,21 @@
 //! The rounds of a search.
 
-ghost use Rattle.std.specs.Prelude.{◌≡◌, ℕ, [], Some, IfOk, IfErr};
+ghost use Rattle.std.specs.Prelude.{◌≡◌, ℕ, [], Some, IfOk, IfErr, OnOk};
 ghost use Rattle.uc_book.specs.Openings.{opening_of};
 ghost use Rattle.uc_book.specs.Answers.{IsSameBook, IsAnEnd};
 ghost use Rattle.uc_machine.specs.Events.{commits_by};
 ghost use Rattle.uc_machine.specs.Finals.{IsFinal};
-ghost use Rattle.uc_machine.specs.Runs.{IsDrained};
+ghost use Rattle.uc_machine.specs.Runs.{IsDrained, Reaches};
 ghost use Rattle.uc_machine.specs.declared.task.Outcome.TheVariants.{Missing as Lacks};
 ghost use Rattle.uc_search.specs.Working.{Counts, IsSamePass};
-ghost use Rattle.uc_search.specs.Searching.{AuditsAll, EndsRound, Rounds, Searches};
+ghost use Rattle.uc_search.specs.Searching.{AuditsAll, EndsRound, Searches};
+ghost use Rattle.uc_search.specs.Bounds.{CountedRound, CountedSearch, counted_on};
 
+use crate::counted::{FinalPasses, has_few_passes};
 use crate::working::{Ended, has_few_commits, work_alone};
 use std::alloc::{AllocError, Global};
 use std::sync::Wait;
 use uc_book::{Audited, Book, Pass};
-use uc_final::final_pass;
 use uc_machine::{Missing, Outcome, Verdict};
 use uc_order::Order;
 use uc_problem::Encoded;
@@ -44,10 +45,38 @@ pub fn search_alone<R: Wait, O: Order>(
     ensures pass { IsSamePass pass.old pass.new }
     ensures count { Counts pass.old pass.new book.old.state book.new.state }
 {
+    let mut passes = FinalPasses::none();
+    search_counting(rt, alloc, book, shelf, problem, order, pass, &mut passes)
+}
+
+/// Works on a book until it has a verdict, as `search_alone` does, and counts the final passes that are made.
+pub fn search_counting<R: Wait, O: Order>(
+    rt: &R,
+    alloc: Global,
+    book: &mut Book<O>,
+    shelf: &Shelf,
+    problem: &Encoded,
+    order: &O,
+    pass: &mut Pass,
+    passes: &mut FinalPasses,
+) -> Result<Verdict, AllocError>
+    requires pass { pass.old.opening ≡ book.old.opening }
+    requires problem { book.old.opening.problem ≡ problem.now }
+    requires shelf { book.old.opening.shelf ≡ shelf.now }
+    requires order { book.old.order ≡ order.now }
+    requires none_out { book.old.state.out ≡ [] }
+    ensures searched { IfOk result (λ verdict. CountedSearch (O.meaning book.old.order) (opening_of book.old.opening) pass.old.worker book.old.state verdict book.new.state passes.old passes.new) }
+    ensures verdict { IfOk result (λ verdict. book.new.state.verdict ≡ Some verdict) }
+    ensures none_out { book.new.state.out ≡ [] }
+    ensures book { IsSameBook book.old book.new }
+    ensures pass { IsSamePass pass.old pass.new }
+    ensures count { Counts pass.old pass.new book.old.state book.new.state }
+{
     has_few_commits(book, pass);
+    has_few_passes(passes);
     // Each round adds to the history, which no memory holds at so many rounds.
     for _ in 0..u64::MAX {
-        if let Some(verdict) = round(rt, alloc, book, shelf, problem, order, pass)? {
+        if let Some(verdict) = round(rt, alloc, book, shelf, problem, order, pass, passes)? {
             return Ok(verdict);
         }
     }
@@ -64,21 +93,23 @@ fn round<R: Wait, O: Order>(
     problem: &Encoded,
     order: &O,
     pass: &mut Pass,
+    passes: &mut FinalPasses,
 ) -> Result<Option<Verdict>, AllocError>
     requires pass { pass.old.opening ≡ book.old.opening }
     requires problem { book.old.opening.problem ≡ problem.now }
     requires shelf { book.old.opening.shelf ≡ shelf.now }
     requires order { book.old.order ≡ order.now }
     requires none_out { book.old.state.out ≡ [] }
-    ensures round { IfOk result (λ verdict. Rounds (O.meaning book.old.order) (opening_of book.old.opening) pass.old.worker book.old.state verdict book.new.state) }
+    ensures round { IfOk result (λ verdict. CountedRound (O.meaning book.old.order) (opening_of book.old.opening) pass.old.worker book.old.state verdict book.new.state passes.old passes.new) }
     ensures verdict { IfOk result (λ verdict. book.new.state.verdict ≡ verdict) }
     ensures none_out { book.new.state.out ≡ [] }
     ensures book { IsSameBook book.old book.new }
     ensures pass { IsSamePass pass.old pass.new }
     ensures count { Counts pass.old pass.new book.old.state book.new.state }
 {
+    has_few_passes(passes);
     match work_alone(rt, alloc, book, shelf, problem, order, pass) {
-        Ended::Drained => end_round(rt, alloc, book, shelf, order),
+        Ended::Drained => end_round(rt, alloc, book, shelf, order, passes),
         Ended::Closed => Ok(book.verdict().copied()),
         Ended::NoMemory => Err(AllocError),
     }
@@ -91,10 +122,12 @@ fn end_round<R: Wait, O: Order>(
     book: &mut Book<O>,
     shelf: &Shelf,
     order: &O,
+    passes: &mut FinalPasses,
 ) -> Result<Option<Verdict>, AllocError>
     requires shelf { book.old.opening.shelf ≡ shelf.now }
     requires order { book.old.order ≡ order.now }
     requires drained { IsDrained book.old.state }
+    ensures passes { OnOk result (passes.new ≡ counted_on passes.old 1) }
     ensures ends { IfOk result (λ verdict. EndsRound (O.meaning book.old.order) (opening_of book.old.opening) book.old.state verdict book.new.state) }
     ensures verdict { IfOk result (λ verdict. book.new.state.verdict ≡ verdict) }
     ensures out { book.new.state.out ≡ book.old.state.out }
@@ -104,7 +137,7 @@ fn end_round<R: Wait, O: Order>(
     let stages = book.stages(alloc)?;
     let front = book.front();
     let axioms = book.axioms();
-    let outcome = final_pass(alloc, shelf, front, axioms, stages.as_slice(), order)?;
+    let outcome = passes.make(alloc, shelf, front, axioms, stages.as_slice(), order)?;
     match missing_or_end(outcome) {
         Ok(all) => audit_all(rt, alloc, book, all),
         Err(end) => Ok(Some(book.close(&end))),
@@ -139,10 +172,18 @@ fn audit_all<R: Wait, O: Order>(
     ensures commits { (w : ℕ) → commits_by w book.new.state.history ≡ commits_by w book.old.state.history }
     ensures book { IsSameBook book.old book.new }
 {
+    is_reached(book);
     for missing in all.into_vec() {
         if let Audited::Closed(verdict) = book.audit(rt, alloc, missing)? {
             return Ok(Some(verdict));
         }
     }
     Ok(None)
+}
+
+/// A run leads to the book's state.
+fn is_reached<O: Order>(book: &Book<O>)
+    ensures { Reaches (O.meaning book.now.order) (opening_of book.now.opening) book.now.state }
+{
+    let _events = book.history();
 }

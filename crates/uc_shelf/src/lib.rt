@@ -20,6 +20,3 @@ mod view;
 pub use entry::Entry;
 pub use shelf::{Front, Shelf};
 pub use view::View;
-
-#[cfg(test)]
-mod tests;

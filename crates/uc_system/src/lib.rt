@@ -18,8 +18,6 @@ mod printing;
 mod reading;
 mod symbols;
 mod system;
-#[cfg(test)]
-mod tests;
 
 pub use fault::SystemFault;
 pub use laws::{one_system, system_stays};

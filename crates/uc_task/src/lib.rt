@@ -22,6 +22,3 @@ mod trial;
 pub use finding::finding_of;
 pub use live::{LiveFact, live_facts};
 pub use trial::{Tried, try_pair};
-
-#[cfg(test)]
-mod tests;

@@ -6,7 +6,7 @@ ghost use Rattle.uc_term.specs.Subst.{found, image, image_nodes};
 ghost use Rattle.uc_term.specs.Flat.{flat, tree_of, IsWhole};
 ghost use Rattle.uc_term.specs.Faults.{IsSizeFault};
 
-use crate::{MAX_NODES, Node, Term, TermFault};
+use crate::{MAX_INSTANCE, MAX_NODES, Node, Term, TermFault};
 use std::alloc::{AllocError, Global};
 use std::marker::Model;
 
@@ -61,11 +61,12 @@ impl Subst {
     }
 }
 
-/// The nodes of the pattern's instance, whatever its size.
+/// Returns the nodes of the pattern's instance, of which there are at most 16,777,216.
 pub fn instance(alloc: Global, pattern: &[Node], subst: &Subst) -> Result<Vec<Node>, AllocError>
     requires whole { IsWhole pattern.now }
     requires small { length pattern.now ≤ MAX_NODES }
-    ensures { IfOk result (λ v. v.items ≡ flat (apply (image subst.now) (tree_of pattern.now))) }
+    ensures nodes { IfOk result (λ v. v.items ≡ flat (apply (image subst.now) (tree_of pattern.now))) }
+    ensures small { IfOk result (λ v. length v.items ≤ MAX_INSTANCE) }
 {
     let mut all = Vec::new(alloc);
     for n in pattern {

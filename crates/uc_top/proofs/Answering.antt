@@ -33,23 +33,29 @@ use Rattle.uc_clause.specs.declared.fault.What.TheVariants as what
 use Rattle.uc_problem.specs.declared.fault.LoadFault.{LoadFault}
 use Rattle.uc_problem.specs.declared.fault.LoadFault.TheVariants as load
 use Rattle.uc_problem.specs.declared.problem.Problem.{Problem}
-use Rattle.uc_problem.specs.Holds.{Holds, Refuses, FailsAt, IsProblem, IsLoadFault}
+use Rattle.uc_problem.specs.Holds.{IsProblem, IsLoadFault}
+use Rattle.uc_problem.specs.Refusing.{Stops, IsRefused, IsStopped}
+use Rattle.uc_problem.specs.Refusing as stopped
 use Rattle.uc_problem.specs.Marks.{IsMarked, is_too_large}
 use Rattle.uc_problem.specs.declared.fault.EncodeFault.TheVariants.{GoalTooLarge}
 use Rattle.uc_problem.specs.Loading.{held}
-use Rattle.uc_problem.specs.Filling.{WhereTold}
+use Rattle.uc_problem.specs.Filling.{WhereTold, IsFilled, AddsMarks}
 use Rattle.uc_problem.proofs.Fetches.{no_text}
+use Rattle.uc_problem.proofs.AddedOnce.{distinct_earlier}
 use Rattle.uc_problem.proofs.Later.{Grows-refl}
+use Rattle.uc_problem.proofs.Shapes.{problem_shapes}
 use Rattle.uc_tstp.specs.declared.fault.ProofFault.{ProofFault}
 use Rattle.uc_tstp.specs.Framing.{max_proof}
 use Rattle.uc_tstp.specs.declared.fault.ProofFault.TheVariants.{Syntax, UnknownRule, UnknownName, Truncated, RepeatedName, Limit, NoMemory}
 use Rattle.uc_tstp.specs.Reading.{IsReading}
+use Rattle.uc_tstp.specs.Interning.{InternsProof}
 use Rattle.uc_check.specs.declared.proof.Proof.{Proof}
 use Rattle.uc_top.specs.declared.output.Answer.{Answer}
 use Rattle.uc_top.specs.Lines.{joined, load_line, proof_line}
 use Rattle.std.proofs.lemmas.Option.{slice_get_read}
 use Rattle.uc_top.specs.Answers.{IsBuilt, IsProofFetched, TextAnswers, is_not_read, is_checked, ProofAnswers, is_absent, isnt_fetched, is_found, ProblemAnswers, has_large_goal, is_marked, LoadAnswers, CheckAnswers, fetch_fails, is_refused, is_loaded}
 use Rattle.uc_top.specs.Refusals.{large_line, load_status}
+use Rattle.uc_top.specs.Loaded.{IsLoaded}
 
 -- A count that rose in a part of a call rose in the call.
 pub rose_before : (first before now : ℕ) → first ≤ before → Rose before now → Rose first now
@@ -86,16 +92,16 @@ module _ (text : List ℕ) (h : max_proof + 1 ≤ length text) where
   read_cut table (Err (Limit what.Symbols p)) r = isnt_short r.0
   read_cut table (Err NoMemory) r = tt
 
-reads_whole : (table : Table) (text : List ℕ) (r : Result Proof ProofFault) → IsReading table (take (max_proof + 1) text) r → IsReading table text r
-reads_whole table text r h = go (leb_tells (max_proof + 1) (length text))
-  where
-    go : ((nat_le (max_proof + 1) (length text) ≡ true) × (max_proof + 1 ≤ length text)) ⊎ ((nat_le (max_proof + 1) (length text) ≡ false) × (length text < max_proof + 1)) → IsReading table text r
-    go (inl p) = read_cut text p.1 table r h
-    go (inr p) = subst (λ t. IsReading table t r) (take_all (max_proof + 1) text (omega (arith, p.1))) h
+answers_cut : (table : Table) (clauses : List Sourced) (marks : Option Fresh) (name text : List ℕ) → max_proof + 1 ≤ length text → {status : ℕ} {answer : List ℕ} → TextAnswers table clauses marks name (take (max_proof + 1) text) status answer → TextAnswers table clauses marks name text status answer
+answers_cut table clauses marks name text h (is_not_read read {why = why} r n) = is_not_read read (read_cut text h read (Err why) r) n
+answers_cut table clauses marks name text h (is_checked i r c) = isnt_short text h r.0
 
 answers_whole : (table : Table) (clauses : List Sourced) (marks : Option Fresh) (name text : List ℕ) (status : ℕ) (answer : List ℕ) → TextAnswers table clauses marks name (take (max_proof + 1) text) status answer → TextAnswers table clauses marks name text status answer
-answers_whole table clauses marks name text status answer (is_not_read {why = why} r n) = is_not_read (reads_whole table text (Err why) r) n
-answers_whole table clauses marks name text status answer (is_checked {proof = proof} r c) = is_checked (reads_whole table text (Ok proof) r) c
+answers_whole table clauses marks name text status answer a = go (leb_tells (max_proof + 1) (length text))
+  where
+    go : ((nat_le (max_proof + 1) (length text) ≡ true) × (max_proof + 1 ≤ length text)) ⊎ ((nat_le (max_proof + 1) (length text) ≡ false) × (length text < max_proof + 1)) → TextAnswers table clauses marks name text status answer
+    go (inl p) = answers_cut table clauses marks name text p.1 a
+    go (inr p) = subst (λ (t : List ℕ). TextAnswers table clauses marks name t status answer) (take_all (max_proof + 1) text (omega (arith, p.1))) a
 
 -- what a fetch of the proof file answers
 pub not_utf8 : (holds : Option Files) (before now : ℕ) (name : List ℕ) → (IsUtf8 name → ⊥) → IsProofFetched holds before now name Absent
@@ -125,9 +131,9 @@ one_line (Ok answer) P status line h p = rw (h.0, h.1) p
 one_line (Err fault) P status line h p = tt
 
 -- the answer where the proof isn't read
-pub unread : (table : Table) (clauses : List Sourced) (marks : Option Fresh) (name text : List ℕ) (why : ProofFault) (r : Result Answer AllocError) → IsReading table text (Err why) → IfOk r (λ answer. (answer.status ≡ 3) × (joined answer.lines ≡ proof_line name why)) → IfOk r (λ _. why ≡ NoMemory → ⊥) → IfOk r (λ answer. TextAnswers table clauses marks name text answer.status (joined answer.lines))
-unread table clauses marks name text why (Ok answer) h line n = one_line (Ok answer) (TextAnswers table clauses marks name text) 3 (proof_line name why) line (is_not_read h n)
-unread table clauses marks name text why (Err fault) h line n = tt
+pub unread : (table read : Table) (clauses : List Sourced) (marks : Option Fresh) (name text : List ℕ) (why : ProofFault) (r : Result Answer AllocError) → IsReading read text (Err why) → IfOk r (λ answer. (answer.status ≡ 3) × (joined answer.lines ≡ proof_line name why)) → IfOk r (λ _. why ≡ NoMemory → ⊥) → IfOk r (λ answer. TextAnswers table clauses marks name text answer.status (joined answer.lines))
+unread table read clauses marks name text why (Ok answer) h line n = one_line (Ok answer) (TextAnswers table clauses marks name text) 3 (proof_line name why) line (is_not_read read h n)
+unread table read clauses marks name text why (Err fault) h line n = tt
 
 -- the answer to what was fetched
 pub found_answers : (table : Table) (holds : Option Files) (before now first last : ℕ) (clauses : List Sourced) (marks : Option Fresh) (name bytes : List ℕ) (status : ℕ) (answer : List ℕ) → IsProofFetched holds before now name (Found bytes) → TextAnswers table clauses marks name bytes status answer → ProofAnswers table holds first last clauses marks name status answer
@@ -144,74 +150,83 @@ earlier_proof table holds first before now clauses marks name status answer le (
 earlier_proof table holds first before now clauses marks name status answer le (isnt_fetched r) = isnt_fetched (rose_before first before now le r)
 earlier_proof table holds first before now clauses marks name status answer le (is_found h a) = is_found h a
 
-pub earlier_problem : (table : Table) (holds : Option Files) (first before now : ℕ) (problem : Problem) (proof : List ℕ) (status : ℕ) (answer : List ℕ) → first ≤ before → ProblemAnswers table holds before now problem proof status answer → ProblemAnswers table holds first now problem proof status answer
+pub earlier_problem : (table : Table) (holds : Option Files) (first before now : ℕ) (problem : Problem) (proof : List ℕ) (status : ℕ) (answer : List ℕ) → first ≤ before → ProblemAnswers holds before now proof table problem status answer → ProblemAnswers holds first now proof table problem status answer
 earlier_problem table holds first before now problem proof status answer le (has_large_goal m g) = has_large_goal m g
-earlier_problem table holds first before now problem proof status answer le (is_marked m a) = is_marked m (earlier_proof table holds first before now _ _ _ _ _ le a)
+earlier_problem table holds first before now problem proof status answer le (is_marked {table = marked} d i m a) = is_marked d i m (earlier_proof marked holds first before now _ _ _ _ _ le a)
 
 -- the goal that is too large
 pub large_within : (table : Table) (problem : Problem) (number : ℕ) → IsMarked table problem (Err (GoalTooLarge number)) → number < length problem.clauses
 large_within table problem number h = within is_too_large problem.clauses number (h table (Grows-refl table))
 
-pub large_goal : (table : Table) (holds : Option Files) (before now : ℕ) (problem : Problem) (proof : List ℕ) (number : ℕ) (goal : Sourced) (r : Result Answer AllocError) → IsMarked table problem (Err (GoalTooLarge number)) → goal ≡ get_or problem.clauses number goal → IfOk r (λ answer. (answer.status ≡ 3) × (joined answer.lines ≡ large_line goal)) → IfOk r (λ answer. ProblemAnswers table holds before now problem proof answer.status (joined answer.lines))
-large_goal table holds before now problem proof number goal r h at line = one_line r (ProblemAnswers table holds before now problem proof) 3 (large_line goal) line (has_large_goal (h table (Grows-refl table)) (slice_get_read problem.clauses (length problem.clauses) number goal refl (large_within table problem number h) at))
+pub large_goal : (old table : Table) (holds : Option Files) (before now : ℕ) (problem : Problem) (proof : List ℕ) (number : ℕ) (goal : Sourced) (r : Result Answer AllocError) → IsMarked table problem (Err (GoalTooLarge number)) → goal ≡ get_or problem.clauses number goal → IfOk r (λ answer. (answer.status ≡ 3) × (joined answer.lines ≡ large_line goal)) → IfOk r (λ answer. ProblemAnswers holds before now proof old problem answer.status (joined answer.lines))
+large_goal old table holds before now problem proof number goal r h at line = one_line r (ProblemAnswers holds before now proof old problem) 3 (large_line goal) line (has_large_goal (h table (Grows-refl table)) (slice_get_read problem.clauses (length problem.clauses) number goal refl (large_within table problem number h) at))
 
-pub marked_answers : (table later : Table) (holds : Option Files) (before now : ℕ) (problem : Problem) (marks : Option Fresh) (proof : List ℕ) (r : Result Answer AllocError) → IsMarked table problem (Ok marks) → Grows table later → IfOk r (λ answer. ProofAnswers later holds before now problem.clauses marks proof answer.status (joined answer.lines)) → IfOk r (λ answer. ProblemAnswers later holds before now problem proof answer.status (joined answer.lines))
-marked_answers table later holds before now problem marks proof (Ok answer) h g a = is_marked (h later g) a
-marked_answers table later holds before now problem marks proof (Err fault) h g a = tt
+pub marked_answers : (old table later : Table) (holds : Option Files) (before now : ℕ) (problem : Problem) (marks : Option Fresh) (proof : List ℕ) (r : Result Answer AllocError) → AddsMarks old table marks → IsMarked table problem (Ok marks) → Grows table later → IfOk r (λ answer. ProofAnswers table holds before now problem.clauses marks proof answer.status (joined answer.lines)) → IsDistinct later → IfOk r (λ answer. ProblemAnswers holds before now proof old problem answer.status (joined answer.lines))
+marked_answers old table later holds before now problem marks proof (Ok answer) i h g a = λ d. is_marked (distinct_earlier table later g d) i (h table (Grows-refl table)) a
+marked_answers old table later holds before now problem marks proof (Err fault) i h g a = λ d. tt
 
--- the problem that is loaded, in a later table
-pub held_problem : (table later : Table) (holds : Option Files) (root : Option (List ℕ)) (name : List ℕ) (problem : Problem) → Grows table later → IsProblem table holds root name problem → WhereTold holds (λ files. Holds later files root name problem)
-held_problem table later None root name problem g h = tt
-held_problem table later (Some files) root name problem g h = h later g
+-- the problem that is loaded, in the table that loading it leaves
+pub is_held : (empty table : Table) (holds : Option Files) (root : Option (List ℕ)) (name : List ℕ) (problem : Problem) → empty ≡ [] → WhereTold holds (λ files. IsFilled files root name empty table problem) → IsProblem table holds root name problem → WhereTold holds (λ files. IsLoaded files root name table problem)
+is_held empty table None root name problem none f h = tt
+is_held empty table (Some files) root name problem none f h = record { filled = subst (λ t. IsFilled files root name t table problem) none f; holds = h table (Grows-refl table) }
+
+-- why no problem is loaded
+module _ (root : Option (List ℕ)) (name : List ℕ) where
+  refusal : {files : Files} {why : LoadFault} → load_status why ≡ 3 → IsStopped files root name [] why → IsRefused files root name [] why
+  refusal e (stopped.fetch_fails x) = absurd (omega (arith, e))
+  refusal e (stopped.is_refused r) = r
+  refusal e stopped.wants_memory = absurd (omega (arith, e))
+
+  abbrev RefusedIn : Option Files → LoadFault → Type 0
+  RefusedIn holds why = WhereTold holds (λ files. IsRefused files root name [] why)
+
+  abbrev StopsAt : Option Files → List ℕ → Type 0
+  StopsAt holds file = WhereTold holds (λ files. Stops files (Some file) root name (load.ReadFault file))
+
+  refusal_told : (holds : Option Files) (why : LoadFault) → load_status why ≡ 3 → WhereTold holds (λ files. IsStopped files root name [] why) → RefusedIn holds why
+  refusal_told None why e s = tt
+  refusal_told (Some files) why e s = refusal e s
+
+  module _ (table : Table) (before now : ℕ) where
+    failure_told : (holds : Option Files) (file : List ℕ) → IsLoadFault table holds before now root name (load.ReadFault file) → StopsAt holds file
+    failure_told None file h = tt
+    failure_told (Some files) file h = problem_shapes table files (Some file) root name (h.1 table (Grows-refl table))
+
+    -- by the reason
+    module _ (holds : Option Files) (P : ℕ → LoadFault → Type 0) (fails : (file : List ℕ) → Rose before now → StopsAt holds file → P 5 (load.ReadFault file)) (refused : (why : LoadFault) → RefusedIn holds why → load_status why ≡ 3 → P 3 why) where
+      abbrev IsStopTold : LoadFault → Type 0
+      IsStopTold why = WhereTold holds (λ files. IsStopped files root name [] why)
+
+      refused_for : (why : LoadFault) → load_status why ≡ 3 → IsStopTold why → P 3 why
+      refused_for why e s = refused why (refusal_told holds why e s) e
+
+      refused_clause : (file : List ℕ) (why : ClauseFault) → (load_status (load.Clause file why) ≡ 7 → ⊥) → IsStopTold (load.Clause file why) → P (load_status (load.Clause file why)) (load.Clause file why)
+      refused_clause file (clause.Syntax p) n s = refused_for (load.Clause file (clause.Syntax p)) refl s
+      refused_clause file (clause.NotUnit p) n s = refused_for (load.Clause file (clause.NotUnit p)) refl s
+      refused_clause file (clause.NotEquality p) n s = refused_for (load.Clause file (clause.NotEquality p)) refl s
+      refused_clause file (clause.BadRole p w) n s = refused_for (load.Clause file (clause.BadRole p w)) refl s
+      refused_clause file (clause.Unsupported p w) n s = refused_for (load.Clause file (clause.Unsupported p w)) refl s
+      refused_clause file (clause.Limit p w) n s = refused_for (load.Clause file (clause.Limit p w)) refl s
+      refused_clause file clause.NoMemory n s = absurd (n refl)
+
+      pub not_loaded : (why : LoadFault) → (load_status why ≡ 7 → ⊥) → IsLoadFault table holds before now root name why → IsStopTold why → P (load_status why) why
+      not_loaded (load.Absent f from) n h s = refused_for (load.Absent f from) refl s
+      not_loaded (load.ReadFault f) n h s = fails f h.0 (failure_told holds f h)
+      not_loaded (load.TooDeep f p) n h s = refused_for (load.TooDeep f p) refl s
+      not_loaded (load.NoSuchName f p m) n h s = refused_for (load.NoSuchName f p m) refl s
+      not_loaded (load.ArityClash f p m a b) n h s = refused_for (load.ArityClash f p m a b) refl s
+      not_loaded (load.Limit f p w) n h s = refused_for (load.Limit f p w) refl s
+      not_loaded (load.Clause f w) n h s = refused_clause f w n s
+      not_loaded load.NoMemory n h s = absurd (n refl)
 
 -- the answer where no problem is loaded
-module _ (table : Table) (before now : ℕ) (AnswersFor : Problem → ℕ → List ℕ → Type 0) (root : Option (List ℕ)) (name : List ℕ) where
-  pub refuses : (files : Files) (why : LoadFault) → load_status why ≡ 3 → IsLoadFault table (Some files) before now root name why → Refuses table files root name why
-  refuses files (load.Absent f from) e h = h table (Grows-refl table)
-  refuses files (load.ReadFault f) e h = absurd (omega (arith, e))
-  refuses files (load.TooDeep f p) e h = h table (Grows-refl table)
-  refuses files (load.NoSuchName f p n) e h = h table (Grows-refl table)
-  refuses files (load.ArityClash f p n a b) e h = h table (Grows-refl table)
-  refuses files (load.Limit f p w) e h = h table (Grows-refl table)
-  refuses files (load.Clause f (clause.Syntax p)) e h = h table (Grows-refl table)
-  refuses files (load.Clause f (clause.NotUnit p)) e h = h table (Grows-refl table)
-  refuses files (load.Clause f (clause.NotEquality p)) e h = h table (Grows-refl table)
-  refuses files (load.Clause f (clause.BadRole p w)) e h = h table (Grows-refl table)
-  refuses files (load.Clause f (clause.Unsupported p w)) e h = h table (Grows-refl table)
-  refuses files (load.Clause f (clause.Limit p w)) e h = h table (Grows-refl table)
-  refuses files (load.Clause f clause.NoMemory) e h = absurd h
-  refuses files load.NoMemory e h = absurd (omega (arith, e))
-
-  pub fails : (holds : Option Files) (file : List ℕ) → IsLoadFault table holds before now root name (load.ReadFault file) → WhereTold holds (λ files. FailsAt table files root name file)
-  fails None file h = tt
-  fails (Some files) file h = h.1 table (Grows-refl table)
-
-  refused : (holds : Option Files) (why : LoadFault) → load_status why ≡ 3 → IsLoadFault table holds before now root name why → LoadAnswers table holds before now AnswersFor root name 3 (load_line why)
-  refused None why e h = is_refused why tt e
-  refused (Some files) why e h = is_refused why (refuses files why e h) e
-
-  refused_clause : (holds : Option Files) (file : List ℕ) (why : ClauseFault) → (load_status (load.Clause file why) ≡ 7 → ⊥) → IsLoadFault table holds before now root name (load.Clause file why) → LoadAnswers table holds before now AnswersFor root name (load_status (load.Clause file why)) (load_line (load.Clause file why))
-  refused_clause holds file (clause.Syntax p) n h = refused holds (load.Clause file (clause.Syntax p)) refl h
-  refused_clause holds file (clause.NotUnit p) n h = refused holds (load.Clause file (clause.NotUnit p)) refl h
-  refused_clause holds file (clause.NotEquality p) n h = refused holds (load.Clause file (clause.NotEquality p)) refl h
-  refused_clause holds file (clause.BadRole p w) n h = refused holds (load.Clause file (clause.BadRole p w)) refl h
-  refused_clause holds file (clause.Unsupported p w) n h = refused holds (load.Clause file (clause.Unsupported p w)) refl h
-  refused_clause holds file (clause.Limit p w) n h = refused holds (load.Clause file (clause.Limit p w)) refl h
-  refused_clause holds file clause.NoMemory n h = absurd (n refl)
-
-  pub not_loaded : (holds : Option Files) (why : LoadFault) → (load_status why ≡ 7 → ⊥) → IsLoadFault table holds before now root name why → LoadAnswers table holds before now AnswersFor root name (load_status why) (load_line why)
-  not_loaded holds (load.Absent f from) n h = refused holds (load.Absent f from) refl h
-  not_loaded holds (load.ReadFault f) n h = fetch_fails f h.0 (fails holds f h)
-  not_loaded holds (load.TooDeep f p) n h = refused holds (load.TooDeep f p) refl h
-  not_loaded holds (load.NoSuchName f p m) n h = refused holds (load.NoSuchName f p m) refl h
-  not_loaded holds (load.ArityClash f p m a b) n h = refused holds (load.ArityClash f p m a b) refl h
-  not_loaded holds (load.Limit f p w) n h = refused holds (load.Limit f p w) refl h
-  not_loaded holds (load.Clause f w) n h = refused_clause holds f w n h
-  not_loaded holds load.NoMemory n h = absurd (n refl)
-
-  pub refused_answers : (holds : Option Files) (why : LoadFault) (r : Result Answer AllocError) → IsLoadFault table holds before now root name why → IfOk r (λ answer. (answer.status ≡ load_status why) × (joined answer.lines ≡ load_line why)) → IfOk r (λ answer. answer.status ≡ 7 → ⊥) → IfOk r (λ answer. LoadAnswers table holds before now AnswersFor root name answer.status (joined answer.lines))
-  refused_answers holds why (Ok answer) h line n = one_line (Ok answer) (LoadAnswers table holds before now AnswersFor root name) (load_status why) (load_line why) line (not_loaded holds why (λ e. n (line.0 ∙ e)) h)
-  refused_answers holds why (Err fault) h line n = tt
+module _ (empty table : Table) (none : empty ≡ []) (before now : ℕ) (AnswersFor : Table → Problem → ℕ → List ℕ → Type 0) (root : Option (List ℕ)) (name : List ℕ) where
+  pub refused_answers : (holds : Option Files) (why : LoadFault) (r : Result Answer AllocError) → IsLoadFault table holds before now root name why → WhereTold holds (λ files. IsStopped files root name empty why) → IfOk r (λ answer. (answer.status ≡ load_status why) × (joined answer.lines ≡ load_line why)) → IfOk r (λ answer. answer.status ≡ 7 → ⊥) → IfOk r (λ answer. LoadAnswers holds before now AnswersFor root name answer.status (joined answer.lines))
+  refused_answers holds why (Ok answer) h s line n =
+      one_line (Ok answer) (LoadAnswers holds before now AnswersFor root name) (load_status why) (load_line why) line
+      (not_loaded root name table before now holds (λ status reason. LoadAnswers holds before now AnswersFor root name status (load_line reason)) (λ file r x. fetch_fails file r x) (λ reason x e. is_refused reason x e) why (λ e. n (line.0 ∙ e)) h
+      (subst (λ (t : Table). WhereTold holds (λ files. IsStopped files root name t why)) none s))
+  refused_answers holds why (Err fault) h s line n = tt
 
 isnt_done_clause : (file : List ℕ) (why : ClauseFault) → load_status (load.Clause file why) ≡ 0 → ⊥
 isnt_done_clause file (clause.Syntax p) e = omega (arith, e)
@@ -237,10 +252,10 @@ refused_not_done Q why (Ok answer) line = λ e. absurd (isnt_done why (sym line.
 refused_not_done Q why (Err fault) line = tt
 
 -- what stands behind an answer with status 0
-text_proof : (table : Table) (clauses : List Sourced) (marks : Option Fresh) (name text : List ℕ) (status : ℕ) (answer : List ℕ) → status ≡ 0 → TextAnswers table clauses marks name text status answer → (proof : Proof) × IsReading table text (Ok proof) × IsChecked clauses marks proof.lines Accepted
-text_proof table clauses marks name text status answer e (is_not_read r n) = absurd (omega (arith, e))
-text_proof table clauses marks name text status answer e (is_checked {proof = proof} {answer = Accepted} r c) = (proof, r, c)
-text_proof table clauses marks name text status answer e (is_checked {answer = Rejected line cause} r c) = absurd (omega (arith, e))
+text_proof : (table : Table) (clauses : List Sourced) (marks : Option Fresh) (name text : List ℕ) (status : ℕ) (answer : List ℕ) → status ≡ 0 → TextAnswers table clauses marks name text status answer → (read : Table) × InternsProof text table read × (proof : Proof) × IsReading read text (Ok proof) × IsChecked clauses marks proof.lines Accepted
+text_proof table clauses marks name text status answer e (is_not_read read r n) = absurd (omega (arith, e))
+text_proof table clauses marks name text status answer e (is_checked {read = read} {proof = proof} {answer = Accepted} i r c) = (read, i, proof, r, c)
+text_proof table clauses marks name text status answer e (is_checked {answer = Rejected line cause} i r c) = absurd (omega (arith, e))
 
 accepted_parts : (clauses : List Sourced) (marks : Option Fresh) (lines : List Line) (checked : Checked) → checked ≡ Accepted → IsChecked clauses marks lines checked → AreRightBefore clauses marks lines (length lines) × EndsInRefutation lines
 accepted_parts clauses marks lines checked e (accepted r f) = (r, f)
@@ -248,43 +263,50 @@ accepted_parts clauses marks lines checked e (rejected f) = absurd (cc e)
 accepted_parts clauses marks lines checked e (no_line f) = absurd (cc e)
 accepted_parts clauses marks lines checked e (no_refutation r l f) = absurd (cc e)
 
-proof_of : (table : Table) (files : Files) (before now : ℕ) (clauses : List Sourced) (marks : Option Fresh) (name : List ℕ) (status : ℕ) (answer : List ℕ) → status ≡ 0 → ProofAnswers table (Some files) before now clauses marks name status answer → (text : List ℕ) × (held files name ≡ Some text) × (proof : Proof) × IsReading table text (Ok proof) × IsChecked clauses marks proof.lines Accepted
+proof_of : (table : Table) (files : Files) (before now : ℕ) (clauses : List Sourced) (marks : Option Fresh) (name : List ℕ) (status : ℕ) (answer : List ℕ) → status ≡ 0 → ProofAnswers table (Some files) before now clauses marks name status answer → (text : List ℕ) × (held files name ≡ Some text) × (read : Table) × InternsProof text table read × (proof : Proof) × IsReading read text (Ok proof) × IsChecked clauses marks proof.lines Accepted
 proof_of table files before now clauses marks name status answer e (is_absent h) = absurd (omega (arith, e))
 proof_of table files before now clauses marks name status answer e (isnt_fetched r) = absurd (omega (arith, e))
-proof_of table files before now clauses marks name status answer e (is_found {text = text} h a) = let p = text_proof table clauses marks name text status answer e a in (text, h, p.0, p.1, p.2)
+proof_of table files before now clauses marks name status answer e (is_found {text = text} h a) = let p = text_proof table clauses marks name text status answer e a in (text, h, p.0, p.1, p.2, p.3, p.4)
 
-pub has_proof : (table : Table) (files : Files) (before now : ℕ) (root : Option (List ℕ)) (name proof : List ℕ) (problem : Problem) (status : ℕ) (answer : List ℕ) → status ≡ 0 → Holds table files root name problem → SomeFollows (axioms_of problem.clauses) (goals_of problem.clauses) → ProblemAnswers table (Some files) before now problem proof status answer → HasProof table files root name proof
-has_proof table files before now root name proof problem status answer e h f (has_large_goal m g) = absurd (omega (arith, e))
-has_proof table files before now root name proof problem status answer e h f (is_marked {marks = marks} m a) =
+pub has_proof : (loaded : Table) (files : Files) (before now : ℕ) (root : Option (List ℕ)) (name proof : List ℕ) (problem : Problem) (status : ℕ) (answer : List ℕ) → status ≡ 0 → IsDistinct loaded → IsLoaded files root name loaded problem → SomeFollows (axioms_of problem.clauses) (goals_of problem.clauses) → ProblemAnswers (Some files) before now proof loaded problem status answer → HasProof files root name proof
+has_proof loaded files before now root name proof problem status answer e d h f (has_large_goal m g) = absurd (omega (arith, e))
+has_proof loaded files before now root name proof problem status answer e d h f (is_marked {table = table} {marks = marks} k i m a) =
     let p = proof_of table files before now problem.clauses marks proof status answer e a in
-    let parts = accepted_parts problem.clauses marks p.2.lines Accepted refl p.4 in
+    let parts = accepted_parts problem.clauses marks p.4.lines Accepted refl p.6 in
     record {
+      loaded = loaded;
+      loaded_distinct = d;
       problem = problem;
-      holds = h;
+      is_loaded = h;
+      table = table;
+      distinct = k;
       marks = marks;
+      adds = i;
       marked = m;
       text = p.0;
       has_text = p.1;
-      proof = p.2;
-      reads = p.3.1;
+      read = p.2;
+      interns = p.3;
+      proof = p.4;
+      reads = p.5.1;
       are_right = parts.0;
       refutes = parts.1;
       follows = f;
     }
 
 -- the answer where a problem is loaded
-pub loaded : (table later : Table) (holds : Option Files) (before now : ℕ) (AnswersFor : Problem → ℕ → List ℕ → Type 0) (root : Option (List ℕ)) (name : List ℕ) (problem : Problem) (r : Result Answer AllocError) → Grows table later → IsProblem table holds root name problem → IfOk r (λ answer. AnswersFor problem answer.status (joined answer.lines)) → IfOk r (λ answer. LoadAnswers later holds before now AnswersFor root name answer.status (joined answer.lines))
-loaded table later holds before now AnswersFor root name problem (Ok answer) g h a = is_loaded (held_problem table later holds root name problem g h) a
-loaded table later holds before now AnswersFor root name problem (Err fault) g h a = tt
+pub loaded : (empty table : Table) (holds : Option Files) (before now : ℕ) (AnswersFor : Table → Problem → ℕ → List ℕ → Type 0) (root : Option (List ℕ)) (name : List ℕ) (problem : Problem) (r : Result Answer AllocError) → empty ≡ [] → IsDistinct table → WhereTold holds (λ files. IsFilled files root name empty table problem) → IsProblem table holds root name problem → IfOk r (λ answer. AnswersFor table problem answer.status (joined answer.lines)) → IfOk r (λ answer. LoadAnswers holds before now AnswersFor root name answer.status (joined answer.lines))
+loaded empty table holds before now AnswersFor root name problem (Ok answer) none d f h a = is_loaded d (is_held empty table holds root name problem none f h) a
+loaded empty table holds before now AnswersFor root name problem (Err fault) none d f h a = tt
 
-module _ (table later : Table) (holds mid : Option Files) (first before now : ℕ) (root : Option (List ℕ)) (name proof : List ℕ) (problem : Problem) where
-  pub loaded_answers : (r : Result Answer AllocError) → mid ≡ holds → first ≤ before → Grows table later → IsProblem table holds root name problem → IfOk r (λ answer. ProblemAnswers later mid before now problem proof answer.status (joined answer.lines)) → IfOk r (λ answer. CheckAnswers later holds first now root name proof answer.status (joined answer.lines))
-  loaded_answers (Ok answer) e le g h a = loaded table later holds first now (λ p. ProblemAnswers later holds first now p proof) root name problem (Ok answer) g h (earlier_problem later holds first before now problem proof answer.status (joined answer.lines) le (rw e at a))
-  loaded_answers (Err fault) e le g h a = tt
+module _ (empty table later : Table) (holds mid : Option Files) (first before now : ℕ) (root : Option (List ℕ)) (name proof : List ℕ) (problem : Problem) where
+  pub loaded_answers : (r : Result Answer AllocError) → empty ≡ [] → mid ≡ holds → first ≤ before → IsDistinct table → WhereTold holds (λ files. IsFilled files root name empty table problem) → IsProblem table holds root name problem → (IsDistinct later → IfOk r (λ answer. ProblemAnswers mid before now proof table problem answer.status (joined answer.lines))) → IsDistinct later → IfOk r (λ answer. CheckAnswers holds first now root name proof answer.status (joined answer.lines))
+  loaded_answers (Ok answer) none e le d f h a distinct = is_loaded d (is_held empty table holds root name problem none f h) (earlier_problem table holds first before now problem proof answer.status (joined answer.lines) le (subst (λ (o : Option Files). ProblemAnswers o before now proof table problem answer.status (joined answer.lines)) e (a distinct)))
+  loaded_answers (Err fault) none e le d f h a distinct = tt
 
-  pub loaded_certified : (r : Result Answer AllocError) → mid ≡ holds → Grows table later → IsProblem table holds root name problem → IfOk r (λ answer. ProblemAnswers later mid before now problem proof answer.status (joined answer.lines)) → IfOk r (λ answer. answer.status ≡ 0 → SomeFollows (axioms_of problem.clauses) (goals_of problem.clauses)) → IfOk r (λ answer. answer.status ≡ 0 → (files : Files) → holds ≡ Some files → HasProof later files root name proof)
-  loaded_certified (Ok answer) e g h a f = λ done files told. has_proof later files before now root name proof problem answer.status (joined answer.lines) done (subst (λ (o : Option Files). IsProblem table o root name problem) told h later g) (f done) (subst (λ (o : Option Files). ProblemAnswers later o before now problem proof answer.status (joined answer.lines)) (e ∙ told) a)
-  loaded_certified (Err fault) e g h a f = tt
+  pub loaded_certified : (r : Result Answer AllocError) → empty ≡ [] → mid ≡ holds → IsDistinct table → WhereTold holds (λ files. IsFilled files root name empty table problem) → IsProblem table holds root name problem → (IsDistinct later → IfOk r (λ answer. ProblemAnswers mid before now proof table problem answer.status (joined answer.lines))) → IfOk r (λ answer. answer.status ≡ 0 → SomeFollows (axioms_of problem.clauses) (goals_of problem.clauses)) → IsDistinct later → IfOk r (λ answer. answer.status ≡ 0 → (files : Files) → holds ≡ Some files → HasProof files root name proof)
+  loaded_certified (Ok answer) none e d f h a follows distinct = λ done files told. has_proof table files before now root name proof problem answer.status (joined answer.lines) done d (subst (λ (o : Option Files). WhereTold o (λ fs. IsLoaded fs root name table problem)) told (is_held empty table holds root name problem none f h)) (follows done) (subst (λ (o : Option Files). ProblemAnswers o before now proof table problem answer.status (joined answer.lines)) (e ∙ told) (a distinct))
+  loaded_certified (Err fault) none e d f h a follows distinct = tt
 
 -- two names
 pub two_names : (names : List (List ℕ)) (a b : List ℕ) → 2 ≤ length names → length names < 3 → a ≡ get_or names 0 a → b ≡ get_or names 1 b → names ≡ a ∷ b ∷ []
@@ -312,10 +334,6 @@ not_built verb.Decide n m o r p q d b = d refl
 not_built verb.Rewrite n m o r p q d b = r refl
 not_built verb.Pairs n m o r p q d b = p refl
 not_built verb.Gen n m o r p q d b = b
-
--- the empty table
-pub none_distinct : IsDistinct []
-none_distinct i j e p q = absurd (cc p)
 
 pub usage_not_done : (Q : Answer → Type 0) (r : Result Answer AllocError) (line : List ℕ) → IfOk r (λ answer. (answer.status ≡ 4) × (joined answer.lines ≡ line)) → IfOk r (λ answer. answer.status ≡ 0 → Q answer)
 usage_not_done Q (Ok answer) line h = λ e. absurd (omega (arith, h.0, e))

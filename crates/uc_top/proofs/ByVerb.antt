@@ -1,6 +1,5 @@
 -- An answer to words is the answer to the command that they are.
 use Rattle.std.proofs.Common.{◌⊎◌, inl, inr, ℕ, ◌≡◌, List, [], ◌∷◌, Option, refl, sym, subst}
-use Rattle.uc_term.specs.Table.{Table}
 use Rattle.uc_edge.specs.Files.{Files}
 use Rattle.uc_words.specs.declared.command.Command.{Command}
 use Rattle.uc_words.specs.declared.command.Verb.{Verb}
@@ -11,27 +10,27 @@ use Rattle.uc_top.specs.Lines.{usage_line}
 use Rattle.uc_top.specs.Answers.{IsBuilt, IsSearching, CheckAnswers, ShowAnswers, OrderAnswers, RewriteAnswers, PairsAnswers, DecideAnswers, Answers, has_no_reading, isnt_built, has_many_workers, checks, shows, orders, rewrites, pairs_up, proves, decides}
 use Rattle.uc_top.specs.ProveAnswers.{ProveAnswers}
 
-module _ (table : Table) (holds : Option Files) (before now : ℕ) where
+module _ (holds : Option Files) (before now : ℕ) where
   abbrev pub IsUsage : ℕ → List ℕ → Type 0
   IsUsage status text = (status ≡ 4) × (text ≡ usage_line)
 
   -- `prove` by one worker; by more it has no reading yet
   abbrev pub OfProve : Command → ℕ → List ℕ → Type 0
-  OfProve k status text = ((k.workers ≡ 1 → ⊥) × IsUsage status text) ⊎ ((k.workers ≡ 1) × (name : List ℕ) × (k.positionals ≡ name ∷ []) × ProveAnswers table k name holds before now status text)
+  OfProve k status text = ((k.workers ≡ 1 → ⊥) × IsUsage status text) ⊎ ((k.workers ≡ 1) × (name : List ℕ) × (k.positionals ≡ name ∷ []) × ProveAnswers k name holds before now status text)
 
   -- so too `decide`
   abbrev pub OfDecide : Command → ℕ → List ℕ → Type 0
-  OfDecide k status text = ((k.workers ≡ 1 → ⊥) × IsUsage status text) ⊎ ((k.workers ≡ 1) × (name : List ℕ) × (questions : List (List ℕ)) × (k.positionals ≡ name ∷ questions) × DecideAnswers table holds before now k name questions status text)
+  OfDecide k status text = ((k.workers ≡ 1 → ⊥) × IsUsage status text) ⊎ ((k.workers ≡ 1) × (name : List ℕ) × (questions : List (List ℕ)) × (k.positionals ≡ name ∷ questions) × DecideAnswers holds before now k name questions status text)
 
   -- the command's answer
   abbrev pub Of : Verb → Command → ℕ → List ℕ → Type 0
-  Of verb.Check k status text = (name : List ℕ) × (proof : List ℕ) × (k.positionals ≡ name ∷ proof ∷ []) × CheckAnswers table holds before now k.root name proof status text
-  Of verb.Show k status text = (name : List ℕ) × (k.positionals ≡ name ∷ []) × ShowAnswers table holds before now k.root name status text
-  Of verb.Order k status text = (name : List ℕ) × (k.positionals ≡ name ∷ []) × OrderAnswers table holds before now k.order k.root name status text
+  Of verb.Check k status text = (name : List ℕ) × (proof : List ℕ) × (k.positionals ≡ name ∷ proof ∷ []) × CheckAnswers holds before now k.root name proof status text
+  Of verb.Show k status text = (name : List ℕ) × (k.positionals ≡ name ∷ []) × ShowAnswers holds before now k.root name status text
+  Of verb.Order k status text = (name : List ℕ) × (k.positionals ≡ name ∷ []) × OrderAnswers holds before now k.order k.root name status text
   Of verb.Prove k status text = OfProve k status text
   Of verb.Decide k status text = OfDecide k status text
-  Of verb.Rewrite k status text = (name : List ℕ) × (word : List ℕ) × (k.positionals ≡ name ∷ word ∷ []) × RewriteAnswers table holds before now k.order k.limit word k.root name status text
-  Of verb.Pairs k status text = (name : List ℕ) × (k.positionals ≡ name ∷ []) × PairsAnswers table holds before now k.order k.root name status text
+  Of verb.Rewrite k status text = (name : List ℕ) × (word : List ℕ) × (k.positionals ≡ name ∷ word ∷ []) × RewriteAnswers holds before now k.order k.limit word k.root name status text
+  Of verb.Pairs k status text = (name : List ℕ) × (k.positionals ≡ name ∷ []) × PairsAnswers holds before now k.order k.root name status text
   Of verb.Gen k status text = IsUsage status text
 
   not_of : (v : Verb) (k : Command) → (IsBuilt v → ⊥) → Of v k 4 usage_line
@@ -60,7 +59,7 @@ module _ (table : Table) (holds : Option Files) (before now : ℕ) where
     of_other : {command other : Command} (v : Verb) (status : ℕ) (text : List ℕ) → Reads words command → Reads words other → other.verb ≡ v → Of v other status text → Of command.verb command status text
     of_other {command} {other} v status text x y e a = subst (λ (k : Command). Of k.verb k status text) (only words other command y x) (subst (λ w. Of w other status text) (sym e) a)
 
-    pub of_command : {command : Command} {status : ℕ} {text : List ℕ} → Reads words command → Answers table holds before now words status text → Of command.verb command status text
+    pub of_command : {command : Command} {status : ℕ} {text : List ℕ} → Reads words command → Answers holds before now words status text → Of command.verb command status text
     of_command {command} x (has_no_reading n) = absurd (n command x)
     of_command x (isnt_built {command = other} y n) = of_other other.verb 4 usage_line x y refl (not_of other.verb other n)
     of_command x (has_many_workers {command = other} y v n) = of_other other.verb 4 usage_line x y refl (of_many other.verb other v n)
@@ -73,11 +72,11 @@ module _ (table : Table) (holds : Option Files) (before now : ℕ) where
     of_command {status = status} {text = text} x (decides {name = name} {questions = questions} y v w p a) = of_other verb.Decide status text x y v (inr (w, name, questions, p, a))
 
     -- the same by the command's verb
-    pub of_verb : {command : Command} {status : ℕ} {text : List ℕ} (v : Verb) → command.verb ≡ v → Reads words command → Answers table holds before now words status text → Of v command status text
+    pub of_verb : {command : Command} {status : ℕ} {text : List ℕ} (v : Verb) → command.verb ≡ v → Reads words command → Answers holds before now words status text → Of v command status text
     of_verb {command} {status} {text} v e x a = subst (λ w. Of w command status text) e (of_command x a)
 
     -- whether the words are a command
-    pub read_or_not : (status : ℕ) (text : List ℕ) → Answers table holds before now words status text → ((command : Command) × Reads words command) ⊎ (((command : Command) → Reads words command → ⊥) × IsUsage status text)
+    pub read_or_not : (status : ℕ) (text : List ℕ) → Answers holds before now words status text → ((command : Command) × Reads words command) ⊎ (((command : Command) → Reads words command → ⊥) × IsUsage status text)
     read_or_not status text (has_no_reading n) = inr (n, (refl, refl))
     read_or_not status text (isnt_built {command = other} y n) = inl (other, y)
     read_or_not status text (has_many_workers {command = other} y v n) = inl (other, y)

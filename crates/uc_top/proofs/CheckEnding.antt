@@ -1,50 +1,44 @@
 -- How `check` ends.
-use Rattle.std.proofs.Common.{inl, inr, ℕ, zero, suc, ◌+◌, ◌≡◌, ◌||◌, Bool, true, false, cond, List, [], ◌∷◌, ◌++◌, codes, map, slice_get, get_or, unwrap_or, position, Option, Some, None, Result, Ok, Err, refl, sym, ap, ◌∙◌, subst}
+use Rattle.std.proofs.Common.{ℕ, ◌+◌, ◌≡◌, ◌||◌, ◌≤◌, Bool, true, false, cond, List, [], ◌∷◌, codes, slice_get, position, Option, Some, None, Result, Ok, Err, refl, sym, ap, ap₂, ◌∙◌, subst}
 use Rattle.std.specs.List.{list_any, position_from}
 use Rattle.std.specs.Io.KnownBytes.{Appends}
 use Rattle.std.proofs.lemmas.Iterator.Adapters.{position_from-zero}
-use Rattle.std.proofs.lemmas.Option.{slice_get-get_or}
-use Rattle.uc_term.specs.declared.node.Sym.{Sym}
 use Rattle.uc_term.specs.declared.fresh.Fresh.{Fresh}
-use Rattle.uc_term.specs.Table.{Table, Entry, entry_of, Has, IsDistinct}
+use Rattle.uc_term.specs.Table.{Table, IsDistinct}
 use Rattle.uc_edge.specs.Files.{Files}
 use Rattle.uc_edge.specs.Faults.{Rose}
 use Rattle.uc_clause.specs.declared.clause.Sourced.{Sourced}
 use Rattle.uc_problem.specs.declared.problem.Problem.{Problem}
 use Rattle.uc_problem.specs.declared.fault.EncodeFault.TheVariants.{GoalTooLarge}
+use Rattle.uc_problem.specs.Filling.{AddsMarks}
 use Rattle.uc_problem.specs.Loading.{held}
-use Rattle.uc_problem.specs.Holds.{Holds, Flattens}
 use Rattle.uc_problem.specs.Marks.{Marks, is_too_large}
-use Rattle.uc_problem.proofs.Outcomes.{some_once, some_or_none, ok_once, err_once, ok_or_err}
-use Rattle.uc_problem.proofs.HoldsOnce.{problem_is_once}
-use Rattle.uc_problem.proofs.MarksOnce.{marks_once, marked_or_large}
-use Rattle.uc_problem.proofs.FreshMarks.{signature_has, marks_later}
-use Rattle.uc_problem.proofs.Growth.{agrees_later}
+use Rattle.uc_problem.proofs.AddedOnce.{marks_add_once}
+use Rattle.uc_problem.proofs.Outcomes.{some_once, some_or_none}
+use Rattle.uc_problem.proofs.MarksOnce.{marks_once, marked_or_large, large_once}
+use Rattle.uc_problem.proofs.FreshMarks.{signature_has}
 use Rattle.uc_tstp.specs.declared.fault.ProofFault.{ProofFault}
 use Rattle.uc_tstp.specs.declared.fault.ProofFault.TheVariants.{NoMemory}
+use Rattle.uc_tstp.specs.Interning.{InternsProof}
 use Rattle.uc_tstp.specs.Reading.{IsReading}
-use Rattle.uc_tstp.proofs.ReadingGrows.{reading_grows}
 use Rattle.uc_check.specs.declared.proof.Proof.{Proof}
 use Rattle.uc_check.specs.declared.proof.Line.{Line}
 use Rattle.uc_check.specs.declared.checker.Checked.{Checked}
-use Rattle.uc_check.specs.declared.checker.Checked.TheVariants.{Accepted, Rejected}
 use Rattle.uc_check.specs.Checks.{IsChecked}
+use Rattle.uc_check.proofs.Once.{checked_once}
 use Rattle.uc_words.specs.declared.command.Command.{Command}
 use Rattle.uc_words.specs.declared.command.Verb.TheVariants as verb
 use Rattle.uc_words.specs.Reads.{Reads}
-use Rattle.uc_top.specs.Lines.{about_file, name_or_dash, cause_word, memory_line, checked_line, proof_line}
-use Rattle.uc_top.specs.Answers.{checked_status, TextAnswers, is_not_read, is_checked, is_absent, isnt_fetched, is_found, ProblemAnswers, has_large_goal, is_marked, CheckAnswers, fetch_fails, is_refused, is_loaded, Answers}
+use Rattle.uc_top.specs.Lines.{about_file, memory_line, checked_line, proof_line}
+use Rattle.uc_top.specs.Answers.{checked_status, TextAnswers, is_not_read, is_checked, is_absent, isnt_fetched, is_found, ProofAnswers, ProblemAnswers, has_large_goal, is_marked, CheckAnswers, Answers}
 use Rattle.uc_top.specs.Refusals.{large_line}
+use Rattle.uc_top.specs.Loaded.{IsLoaded}
 use Rattle.uc_top.specs.Runs.{MayAnswer, is_answer, wants_memory, IsRun, EndsWith, tells_all, tells_want, CheckEnds, tells_checked, checks_in_want, CheckCompletes, CompletesCheck}
-use Rattle.uc_top.proofs.AnswersOnce.{LongOrRead, long_or_read, either_once, not_memory, read_not_memory, first_name, second_name}
+use Rattle.uc_top.proofs.Positionals.{first_name, second_name}
+use Rattle.uc_top.proofs.ReadTexts.{one_proof, one_fault, fault_or_proof}
+use Rattle.uc_top.proofs.LoadedOnce.{answers_for}
 use Rattle.uc_top.proofs.ByVerb.{of_verb}
 use Rattle.uc_top.proofs.Completing.{told_whole}
-use Rattle.uc_top.proofs.Everywhere.{flat_sound, entry_moved, isnt_refused, unchanged, same_clauses}
-use Rattle.uc_top.proofs.Merged.{Merged, merged, moved, is_moved, placed, place_of, grown_at}
-use Rattle.uc_top.proofs.Renamed.{sourced_renamed, flattens_renamed}
-use Rattle.uc_top.proofs.CheckMoved.{got, line_moved, marks_moved, checked_there}
-use Rattle.uc_top.proofs.CheckRead.{answer_moved, read_there, read_is_over}
-use Rattle.uc_top.proofs.CheckHeld.{problem_moved, held_there, marked_there, marks_had, large_number_moved}
 
 none_passes : {X : Type 0} (p : X → Bool) (xs : List X) (n : ℕ) → list_any p xs ≡ false → position_from p n xs ≡ None
 none_passes p [] n e = refl
@@ -57,172 +51,142 @@ none_passes p (x ∷ xs) n e = go (p x) e (none_passes p xs (n + 1))
 none_first : (ss : List Sourced) (n : ℕ) → list_any is_too_large ss ≡ false → position is_too_large ss ≡ Some n → ⊥
 none_first ss n e at = some_or_none at (position_from-zero is_too_large ss ∙ none_passes is_too_large ss 0 e)
 
--- the lines' names are the same
-name_there : (ρ : Sym → Sym) (lines : List Line) (k : ℕ) → name_or_dash (slice_get (map (line_moved ρ) lines) k) ≡ name_or_dash (slice_get lines k)
-name_there ρ [] k = refl
-name_there ρ (l ∷ ls) zero = refl
-name_there ρ (l ∷ ls) (suc k) = name_there ρ ls k
-
-told_there : (ρ : Sym → Sym) (lines : List Line) (answer : Checked) → checked_line (map (line_moved ρ) lines) answer ≡ checked_line lines answer
-told_there ρ lines Accepted = refl
-told_there ρ lines (Rejected None why) = refl
-told_there ρ lines (Rejected (Some k) why) = ap (λ name. codes "rejected " ++ name ++ codes " " ++ cause_word why ++ codes "\n") (name_there ρ lines k)
-
 ends_so : {old new : Option (List ℕ)} {status result : ℕ} {text told : List ℕ} → text ≡ told → Appends old new text → result ≡ status → EndsWith status told old new result
 ends_so {old} {new} {status} {result} {text} {told} e written r = subst (EndsWith status told old new) (sym r) (tells_all (subst (Appends old new) e written))
 
 checked_so : {clauses : List Sourced} {marks : Option Fresh} {lines : List Line} {old new : Option (List ℕ)} {answer : Checked} {result : ℕ} {text : List ℕ} → text ≡ checked_line lines answer → IsChecked clauses marks lines answer → Appends old new text → result ≡ checked_status answer → CheckEnds clauses marks lines old new result
 checked_so {clauses} {marks} {lines} {old} {new} e checked written r = subst (CheckEnds clauses marks lines old new) (sym r) (tells_checked checked (subst (Appends old new) e written))
 
--- One table of symbols, in which the problem and the proof are given, and another in which the program has them. Both lie in a
--- third, where they are the same.
-module _ (given own : Table) (both : Merged given own) (distinct : IsDistinct own) where
-  abbrev there : Sym → Sym
-  there = moved own both.table
-
-  abbrev back : Sym → Sym
-  back = moved both.table own
-
-  from_given : (f : Sym) (e : Entry) → slice_get given f.0 ≡ Some e → slice_get both.table f.0 ≡ Some e
-  from_given f e at = grown_at given both.table both.grows f.0 e at
-
-  from_own : (f : Sym) (e : Entry) → slice_get own f.0 ≡ Some e → slice_get both.table (there f).0 ≡ Some e
-  from_own f e at = is_moved given own both f e at
-
-  undone : (f : Sym) → Has own f → back (there f) ≡ f
-  undone f h =
-      let none : Entry = record { name = []; arity = 0 } in
-      let at : slice_get own f.0 ≡ Some (get_or own f.0 none) = slice_get-get_or own f.0 none h in
-      let entry : entry_of own f ≡ get_or own f.0 none = ap (λ (o : Option Entry). unwrap_or o none) at in
-      let same : entry_of both.table (there f) ≡ get_or own f.0 none = entry_moved own both.table there from_own f h ∙ entry in
-      ap (λ (n : ℕ). let s : Sym = record { 0 = n } in s) (ap (λ e. place_of e own) same ∙ distinct (place_of (get_or own f.0 none) own) f.0 (get_or own f.0 none) (placed own (get_or own f.0 none) f.0 at) at)
-
-  -- a text is read alike
+-- the answers for a text, in one table
+module _ (table : Table) (distinct : IsDistinct table) (clauses : List Sourced) (marks : Option Fresh) (name : List ℕ) where
   module _ (text : List ℕ) where
-    reading_given : (r : Result Proof ProofFault) → LongOrRead given text r → LongOrRead both.table text r
-    reading_given r (inl p) = inl p
-    reading_given r (inr p) = inr (p.0, reading_grows given both.table both.grows text p.1)
+    unread_text : (read : Table) (why : ProofFault) {status : ℕ} {answer : List ℕ} → IsReading read text (Err why) → (why ≡ NoMemory → ⊥) → TextAnswers table clauses marks name text status answer → (status ≡ 3) × (answer ≡ proof_line name why)
+    unread_text read why h n (is_not_read other {why = own} r m) = (refl, ap (proof_line name) (one_fault text table distinct other read own why m n r h))
+    unread_text read why h n (is_checked {read = other} {proof = proof} i r c) = absurd (fault_or_proof text table other distinct i read why proof n h r)
 
-    reading_own : (r : Result Proof ProofFault) → LongOrRead own text r → LongOrRead both.table text (answer_moved there r)
-    reading_own r (inl p) = inl (p.0, ap (answer_moved there) p.1)
-    reading_own r (inr p) = inr (p.0, read_there own both.table there from_own text p.1)
+    checked_text : (read : Table) (proof : Proof) {status : ℕ} {answer : List ℕ} → InternsProof text table read → IsReading read text (Ok proof) → TextAnswers table clauses marks name text status answer → (checked : Checked) × IsChecked clauses marks proof.lines checked × (status ≡ checked_status checked) × (answer ≡ checked_line proof.lines checked)
+    checked_text read proof i h (is_not_read other {why = why} r n) = absurd (fault_or_proof text table read distinct i other why proof n r h)
+    checked_text read proof i h (is_checked {read = other} {proof = own} {answer = checked} j r c) =
+        let same : own ≡ proof = one_proof text table distinct other read own proof j i r h in
+        (checked, subst (λ (p : Proof). IsChecked clauses marks p.lines checked) same c, refl, ap (λ (p : Proof). checked_line p.lines checked) same)
 
-    read_alike : (a b : Result Proof ProofFault) → (a ≡ Err NoMemory → ⊥) → (b ≡ Err NoMemory → ⊥) → IsReading given text a → IsReading own text b → a ≡ answer_moved there b
-    read_alike a b m n x y = either_once both.table text both.distinct (reading_given a (long_or_read given text a m x)) (reading_own b (long_or_read own text b n y))
+    text_once : {s t : ℕ} {a b : List ℕ} → TextAnswers table clauses marks name text s a → TextAnswers table clauses marks name text t b → (s ≡ t) × (a ≡ b)
+    text_once (is_not_read read {why = why} h n) y = let q = unread_text read why h n y in (sym q.0, sym q.1)
+    text_once (is_checked {read = read} {proof = proof} {answer = checked} i h c) y =
+        let q = checked_text read proof i h y in
+        let same : checked ≡ q.0 = checked_once clauses marks proof.lines c q.1 in
+        (ap checked_status same ∙ sym q.2, ap (checked_line proof.lines) same ∙ sym q.3)
 
-  module _ (files : Files) (root : Option (List ℕ)) (name : List ℕ) (problem loaded : Problem) (held_given : Holds given files root name problem) (held_own : Holds own files root name loaded) where
-    held_grown : Holds both.table files root name problem
-    held_grown = record {
-      counts = held_given.counts;
-      flat = subst (λ (cs : List Sourced). Flattens both.table files root name (Ok (cs, held_given.counts))) (same_clauses problem.clauses) (flattens_renamed given both.table unchanged from_given files root name held_given.flat);
-      agrees = agrees_later given both.table both.grows problem held_given.agrees;
+  module _ (files : Files) (before now again later : ℕ) where
+    proof_once : {s t : ℕ} {a b : List ℕ} → (s ≡ 5 → Rose before now → ⊥) → (t ≡ 5 → Rose again later → ⊥) → ProofAnswers table (Some files) before now clauses marks name s a → ProofAnswers table (Some files) again later clauses marks name t b → (s ≡ t) × (a ≡ b)
+    proof_once v w (isnt_fetched r) y = absurd (v refl r)
+    proof_once v w (is_absent e) (isnt_fetched r) = absurd (w refl r)
+    proof_once v w (is_absent e) (is_absent f) = (refl, refl)
+    proof_once v w (is_absent e) (is_found f y) = absurd (some_or_none f e)
+    proof_once v w (is_found e x) (isnt_fetched r) = absurd (w refl r)
+    proof_once v w (is_found e x) (is_absent f) = absurd (some_or_none e f)
+    proof_once {t = t} {b = b} v w (is_found {text = text} e x) (is_found {text = other} f y) = text_once text x (subst (λ (bytes : List ℕ). TextAnswers table clauses marks name bytes t b) (some_once f e) y)
+
+-- the answers for a problem that is loaded
+module _ (files : Files) (root : Option (List ℕ)) (name : List ℕ) (loaded : Table) (problem : Problem) (is_held : IsLoaded files root name loaded problem) where
+  -- the encoding's symbols and their table are one
+  module _ (table other : Table) (distinct : IsDistinct table) (others : IsDistinct other) (marks own : Option Fresh) (adds : AddsMarks loaded table marks) (own_adds : AddsMarks loaded other own) (marked : Marks table problem (Ok marks)) (own_marked : Marks other problem (Ok own)) where
+    one_table : other ≡ table
+    one_table = marks_add_once problem loaded other table others distinct (signature_has loaded problem is_held.holds.agrees) own marks own_adds adds own_marked marked
+
+    one_mark : own ≡ marks
+    one_mark = marks_once table problem distinct own marks (subst (λ (t : Table). Marks t problem (Ok own)) one_table own_marked) marked
+
+    answers_there : (holds : Option Files) (before now : ℕ) (proof_name : List ℕ) {status : ℕ} {text : List ℕ} → ProofAnswers other holds before now problem.clauses own proof_name status text → ProofAnswers table holds before now problem.clauses marks proof_name status text
+    answers_there holds before now proof_name {status} {text} a = subst (λ (m : Option Fresh). ProofAnswers table holds before now problem.clauses m proof_name status text) one_mark (subst (λ (t : Table). ProofAnswers t holds before now problem.clauses own proof_name status text) one_table a)
+
+  -- so is the first goal that is too large
+  one_goal : (number other : ℕ) (goal shown : Sourced) → Marks loaded problem (Err (GoalTooLarge number)) → slice_get problem.clauses number ≡ Some goal → Marks loaded problem (Err (GoalTooLarge other)) → slice_get problem.clauses other ≡ Some shown → large_line shown ≡ large_line goal
+  one_goal number other goal shown m g k h =
+      let numbers : number ≡ other = large_once loaded problem number other m k in
+      ap large_line (some_once h (subst (λ (n : ℕ). slice_get problem.clauses n ≡ Some goal) numbers g))
+
+  pub check_answers_once : (before now again later : ℕ) (proof_name : List ℕ) {s t : ℕ} {a b : List ℕ} → (s ≡ 5 → Rose before now → ⊥) → (t ≡ 5 → Rose again later → ⊥) → ProblemAnswers (Some files) before now proof_name loaded problem s a → ProblemAnswers (Some files) again later proof_name loaded problem t b → (s ≡ t) × (a ≡ b)
+  check_answers_once before now again later proof_name v w (has_large_goal {number = number} {goal = goal} m g) (has_large_goal {number = other} {goal = shown} k h) = (refl, sym (one_goal number other goal shown m g k h))
+  check_answers_once before now again later proof_name v w (has_large_goal {number = number} m g) (is_marked {table = table} {marks = marks} d i k y) = absurd (marked_or_large table problem marks number k m)
+  check_answers_once before now again later proof_name v w (is_marked {table = table} {marks = marks} d i k x) (has_large_goal {number = number} m g) = absurd (marked_or_large table problem marks number k m)
+  check_answers_once before now again later proof_name v w (is_marked {table = table} {marks = marks} d i m x) (is_marked {table = other} {marks = own} e j k y) = proof_once table d problem.clauses marks proof_name files before now again later v w x (answers_there table other d e marks own i j m k (Some files) again later proof_name y)
+
+  -- the program's answer is told, and nothing failed
+  module _ (before now : ℕ) (well : Rose before now → ⊥) (proof_name : List ℕ) (old new : Option (List ℕ)) (result : ℕ) where
+    abbrev Answered : ℕ → List ℕ → Type 0
+    Answered status text = ProblemAnswers (Some files) before now proof_name loaded problem status text
+
+    large_ends : (number : ℕ) (goal : Sourced) → Marks loaded problem (Err (GoalTooLarge number)) → slice_get problem.clauses number ≡ Some goal → {status : ℕ} {text : List ℕ} → Answered status text → Appends old new text → result ≡ status → EndsWith 3 (large_line goal) old new result
+    large_ends number goal m g (has_large_goal {number = other} {goal = shown} k h) written e = ends_so (one_goal number other goal shown m g k h) written e
+    large_ends number goal m g (is_marked {table = table} {marks = marks} d i k a) written e = absurd (marked_or_large table problem marks number k m)
+
+    absent_ends : list_any is_too_large problem.clauses ≡ false → held files proof_name ≡ None → {status : ℕ} {text : List ℕ} → Answered status text → Appends old new text → result ≡ status → EndsWith 3 (about_file proof_name (codes "Absent")) old new result
+    absent_ends n h (has_large_goal {number = other} m g) written e = absurd (none_first problem.clauses other n m)
+    absent_ends n h (is_marked d i m (is_absent a)) written e = ends_so refl written e
+    absent_ends n h (is_marked d i m (isnt_fetched r)) written e = absurd (well r)
+    absent_ends n h (is_marked d i m (is_found a x)) written e = absurd (some_or_none a h)
+
+    text_unread : (table : Table) (distinct : IsDistinct table) (marks : Option Fresh) (text : List ℕ) (read : Table) (why : ProofFault) → IsReading read text (Err why) → (why ≡ NoMemory → ⊥) → {status : ℕ} {told : List ℕ} → TextAnswers table problem.clauses marks proof_name text status told → Appends old new told → result ≡ status → EndsWith 3 (proof_line proof_name why) old new result
+    text_unread table distinct marks text read why h n x written e =
+        let q = unread_text table distinct problem.clauses marks proof_name text read why h n x in
+        ends_so q.1 written (e ∙ q.0)
+
+    unread_ends : list_any is_too_large problem.clauses ≡ false → (read : Table) (text : List ℕ) (why : ProofFault) → held files proof_name ≡ Some text → IsReading read text (Err why) → (why ≡ NoMemory → ⊥) → {status : ℕ} {told : List ℕ} → Answered status told → Appends old new told → result ≡ status → EndsWith 3 (proof_line proof_name why) old new result
+    unread_ends n read text why h r m (has_large_goal {number = other} k g) written e = absurd (none_first problem.clauses other n k)
+    unread_ends n read text why h r m (is_marked d i k (is_absent a)) written e = absurd (some_or_none h a)
+    unread_ends n read text why h r m (is_marked d i k (isnt_fetched f)) written e = absurd (well f)
+    unread_ends n read text why h r m {status} {told} (is_marked {table = table} {marks = marks} d i k (is_found {text = found} a x)) written e = text_unread table d marks text read why r m (subst (λ (t : List ℕ). TextAnswers table problem.clauses marks proof_name t status told) (some_once a h) x) written e
+
+    module _ (table read : Table) (marks : Option Fresh) (distinct : IsDistinct table) (adds : AddsMarks loaded table marks) (marked : Marks table problem (Ok marks)) (text : List ℕ) (proof : Proof) (h : held files proof_name ≡ Some text) (interns : InternsProof text table read) (r : IsReading read text (Ok proof)) where
+      text_read : {status : ℕ} {told : List ℕ} → TextAnswers table problem.clauses marks proof_name text status told → Appends old new told → result ≡ status → CheckEnds problem.clauses marks proof.lines old new result
+      text_read x written e =
+          let q = checked_text table distinct problem.clauses marks proof_name text read proof interns r x in
+          checked_so q.3 q.1 written (e ∙ q.2)
+
+      proof_read : {status : ℕ} {told : List ℕ} → ProofAnswers table (Some files) before now problem.clauses marks proof_name status told → Appends old new told → result ≡ status → CheckEnds problem.clauses marks proof.lines old new result
+      proof_read (is_absent a) written e = absurd (some_or_none h a)
+      proof_read (isnt_fetched f) written e = absurd (well f)
+      proof_read {status} {told} (is_found {text = found} a x) written e = text_read (subst (λ (t : List ℕ). TextAnswers table problem.clauses marks proof_name t status told) (some_once a h) x) written e
+
+      read_ends : {status : ℕ} {told : List ℕ} → Answered status told → Appends old new told → result ≡ status → CheckEnds problem.clauses marks proof.lines old new result
+      read_ends (has_large_goal {number = other} k g) written e = absurd (marked_or_large table problem marks other marked k)
+      read_ends (is_marked {table = other} {marks = own} d i k a) written e = proof_read (answers_there table other distinct d marks own adds i marked k (Some files) before now proof_name a) written e
+
+    completes_so : {status : ℕ} {told : List ℕ} → Answered status told → Appends old new told → result ≡ status → CheckCompletes loaded files problem proof_name old new result
+    completes_so a written e = record {
+      large = λ number goal m g. large_ends number goal m g a written e;
+      absent = λ n h. absent_ends n h a written e;
+      unread = λ n read text why h r m. unread_ends n read text why h r m a written e;
+      read = λ table read marks d i m text proof h j r. read_ends table read marks d i m text proof h j r a written e;
     }
 
-    same_problem : problem ≡ problem_moved there loaded
-    same_problem = problem_is_once both.table both.distinct files root name problem (problem_moved there loaded) held_grown (held_there own both.table there from_own files root name loaded held_own)
-
-    same_list : problem.clauses ≡ map (sourced_renamed there) loaded.clauses
-    same_list = ap (λ (p : Problem). p.clauses) same_problem
-
-    marks_grown : (marks : Option Fresh) → Marks given problem (Ok marks) → Marks both.table problem (Ok marks)
-    marks_grown None m = m
-    marks_grown (Some marks) m = (m.0, m.1, marks_later given both.table problem marks both.grows (signature_has given problem held_given.agrees) m.2)
-
-    marked_own : (marks : Option Fresh) → Marks own loaded (Ok marks) → Marks both.table problem (Ok (marks_moved there marks))
-    marked_own marks m = subst (λ (p : Problem). Marks both.table p (Ok (marks_moved there marks))) (sym same_problem) (marked_there own both.table there from_own files root name loaded held_own marks m)
-
-    same_marks : (a b : Option Fresh) → Marks given problem (Ok a) → Marks own loaded (Ok b) → a ≡ marks_moved there b
-    same_marks a b x y = marks_once both.table problem both.distinct a (marks_moved there b) (marks_grown a x) (marked_own b y)
-
-    -- the first goal that is too large has the same number
-    large_own : (number : ℕ) → Marks own loaded (Err (GoalTooLarge number)) → position is_too_large problem.clauses ≡ Some number
-    large_own number m = ap (position is_too_large) same_list ∙ large_number_moved there loaded.clauses ∙ m
-
-    same_goal : (number other : ℕ) (goal shown : Sourced) → position is_too_large problem.clauses ≡ Some number → slice_get problem.clauses number ≡ Some goal → Marks own loaded (Err (GoalTooLarge other)) → slice_get loaded.clauses other ≡ Some shown → large_line shown ≡ large_line goal
-    same_goal number other goal shown p g m h =
-        let numbers : number ≡ other = some_once p (large_own other m) in
-        let at : slice_get problem.clauses other ≡ Some goal = subst (λ n. slice_get problem.clauses n ≡ Some goal) numbers g in
-        let moved_there : slice_get problem.clauses other ≡ Some (sourced_renamed there shown) = ap (λ cs. slice_get cs other) same_list ∙ got (sourced_renamed there) loaded.clauses other shown h in
-        ap large_line (some_once moved_there at)
-
-    -- the program's answer is told, and nothing failed
-    module _ (before now : ℕ) (well : Rose before now → ⊥) (proof_name : List ℕ) (old new : Option (List ℕ)) (result : ℕ) where
-      large_ends : (number : ℕ) (goal : Sourced) → position is_too_large problem.clauses ≡ Some number → slice_get problem.clauses number ≡ Some goal → {status : ℕ} {text : List ℕ} → ProblemAnswers own (Some files) before now loaded proof_name status text → Appends old new text → result ≡ status → EndsWith 3 (large_line goal) old new result
-      large_ends number goal p g (has_large_goal {number = other} {goal = shown} m h) written e = ends_so (same_goal number other goal shown p g m h) written e
-      large_ends number goal p g (is_marked {marks = marks} m a) written e = absurd (marked_or_large both.table problem (marks_moved there marks) number (marked_own marks m) p)
-
-      absent_ends : list_any is_too_large problem.clauses ≡ false → held files proof_name ≡ None → {status : ℕ} {text : List ℕ} → ProblemAnswers own (Some files) before now loaded proof_name status text → Appends old new text → result ≡ status → EndsWith 3 (about_file proof_name (codes "Absent")) old new result
-      absent_ends n h (has_large_goal {number = other} m g) written e = absurd (none_first problem.clauses other n (large_own other m))
-      absent_ends n h (is_marked m (is_absent a)) written e = ends_so refl written e
-      absent_ends n h (is_marked m (isnt_fetched r)) written e = absurd (well r)
-      absent_ends n h (is_marked m (is_found a x)) written e = absurd (some_or_none a h)
-
-      text_unread : (text : List ℕ) (why : ProofFault) → IsReading given text (Err why) → (why ≡ NoMemory → ⊥) → (marks : Option Fresh) {status : ℕ} {told : List ℕ} → TextAnswers own loaded.clauses marks proof_name text status told → Appends old new told → result ≡ status → EndsWith 3 (proof_line proof_name why) old new result
-      text_unread text why h n marks (is_not_read {why = own_why} r m) written e =
-          let same : why ≡ own_why = err_once (read_alike text (Err why) (Err own_why) (not_memory n) (not_memory m) h r) in
-          ends_so (ap (proof_line proof_name) (sym same)) written e
-      text_unread text why h n marks (is_checked {proof = proof} r c) written e = absurd (ok_or_err (sym (read_alike text (Err why) (Ok proof) (not_memory n) read_not_memory h r)))
-
-      unread_ends : list_any is_too_large problem.clauses ≡ false → (text : List ℕ) (why : ProofFault) → held files proof_name ≡ Some text → IsReading given text (Err why) → (why ≡ NoMemory → ⊥) → {status : ℕ} {told : List ℕ} → ProblemAnswers own (Some files) before now loaded proof_name status told → Appends old new told → result ≡ status → EndsWith 3 (proof_line proof_name why) old new result
-      unread_ends n text why h r m (has_large_goal {number = other} k g) written e = absurd (none_first problem.clauses other n (large_own other k))
-      unread_ends n text why h r m (is_marked k (is_absent a)) written e = absurd (some_or_none h a)
-      unread_ends n text why h r m (is_marked k (isnt_fetched f)) written e = absurd (well f)
-      unread_ends n text why h r m {status} {told} (is_marked {marks = marks} k (is_found {text = found} a x)) written e = text_unread text why r m marks (subst (λ t. TextAnswers own loaded.clauses marks proof_name t status told) (some_once a h) x) written e
-
-      text_read : (marks own_marks : Option Fresh) → Marks given problem (Ok marks) → Marks own loaded (Ok own_marks) → (text : List ℕ) (proof : Proof) → IsReading given text (Ok proof) → {status : ℕ} {told : List ℕ} → TextAnswers own loaded.clauses own_marks proof_name text status told → Appends old new told → result ≡ status → CheckEnds problem.clauses marks proof.lines old new result
-      text_read marks own_marks m k text proof h (is_not_read {why = why} r n) written e = absurd (ok_or_err (read_alike text (Ok proof) (Err why) read_not_memory (not_memory n) h r))
-      text_read marks own_marks m k text proof h (is_checked {proof = read} {answer = answer} r c) written e =
-          let lines : proof.lines ≡ map (line_moved there) read.lines = ap (λ (p : Proof). p.lines) (ok_once (read_alike text (Ok proof) (Ok read) read_not_memory read_not_memory h r)) in
-          let sound = flat_sound own files root name held_own.flat in
-          let checked = checked_there own there back undone loaded.clauses own_marks read.lines sound (marks_had own loaded own_marks k) (read_is_over own text read refl r.1) c in
-          checked_so (sym (ap (λ ls. checked_line ls answer) lines ∙ told_there there read.lines answer)) (rw (same_list, same_marks marks own_marks m k, lines) checked) written e
-
-      read_ends : (marks : Option Fresh) → Marks given problem (Ok marks) → (text : List ℕ) (proof : Proof) → held files proof_name ≡ Some text → IsReading given text (Ok proof) → {status : ℕ} {told : List ℕ} → ProblemAnswers own (Some files) before now loaded proof_name status told → Appends old new told → result ≡ status → CheckEnds problem.clauses marks proof.lines old new result
-      read_ends marks m text proof h r (has_large_goal {number = other} k g) written e = absurd (marked_or_large both.table problem marks other (marks_grown marks m) (large_own other k))
-      read_ends marks m text proof h r (is_marked k (is_absent a)) written e = absurd (some_or_none h a)
-      read_ends marks m text proof h r (is_marked k (isnt_fetched f)) written e = absurd (well f)
-      read_ends marks m text proof h r {status} {told} (is_marked {marks = own_marks} k (is_found {text = found} a x)) written e = text_read marks own_marks m k text proof r (subst (λ t. TextAnswers own loaded.clauses own_marks proof_name t status told) (some_once a h) x) written e
-
-      completes_so : {status : ℕ} {told : List ℕ} → ProblemAnswers own (Some files) before now loaded proof_name status told → Appends old new told → result ≡ status → CheckCompletes given files problem proof_name old new result
-      completes_so a written e = record {
-        large = λ number goal p g. large_ends number goal p g a written e;
-        absent = λ n h. absent_ends n h a written e;
-        unread = λ n text why h r m. unread_ends n text why h r m a written e;
-        read = λ marks m text proof h r. read_ends marks m text proof h r a written e;
-      }
-
 -- want of memory
-want_ends : (given : Table) (files : Files) (problem : Problem) (proof_name : List ℕ) (old new : Option (List ℕ)) → Appends old new memory_line → CheckCompletes given files problem proof_name old new 7
-want_ends given files problem proof_name old new written = record {
-  large = λ number goal p g. tells_want written;
+want_ends : (loaded : Table) (files : Files) (problem : Problem) (proof_name : List ℕ) (old new : Option (List ℕ)) → Appends old new memory_line → CheckCompletes loaded files problem proof_name old new 7
+want_ends loaded files problem proof_name old new written = record {
+  large = λ number goal m g. tells_want written;
   absent = λ n h. tells_want written;
-  unread = λ n text why h r m. tells_want written;
-  read = λ marks m text proof h r. checks_in_want written;
+  unread = λ n read text why h r m. tells_want written;
+  read = λ table read marks d i m text proof h j r. checks_in_want written;
 }
 
 module _ (files : Files) (before now : ℕ) (well : Rose before now → ⊥) (words : List (List ℕ)) (command : Command) (name proof_name : List ℕ) (reads : Reads words command) (is_check : command.verb ≡ verb.Check) (names : command.positionals ≡ name ∷ proof_name ∷ []) where
   -- the words' answer is that of `check`
-  answered : {own : Table} {status : ℕ} {text : List ℕ} → Answers own (Some files) before now words status text → CheckAnswers own (Some files) before now command.root name proof_name status text
-  answered {own} {status} {text} a =
-      let p = of_verb own (Some files) before now words verb.Check is_check reads a in
+  answered : {status : ℕ} {text : List ℕ} → Answers (Some files) before now words status text → CheckAnswers (Some files) before now command.root name proof_name status text
+  answered {status} {text} a =
+      let p = of_verb (Some files) before now words verb.Check is_check reads a in
       let names_are : p.0 ∷ p.1 ∷ [] ≡ name ∷ proof_name ∷ [] = sym p.2 ∙ names in
-      subst (λ n. CheckAnswers own (Some files) before now command.root n proof_name status text) (first_name names_are) (subst (λ n. CheckAnswers own (Some files) before now command.root p.0 n status text) (second_name names_are) p.3)
+      subst (λ n. CheckAnswers (Some files) before now command.root n proof_name status text) (first_name names_are) (subst (λ n. CheckAnswers (Some files) before now command.root p.0 n status text) (second_name names_are) p.3)
 
-  module _ (given : Table) (problem : Problem) (distinct : IsDistinct given) (held_given : Holds given files command.root name problem) (old new : Option (List ℕ)) where
-    loads_so : {own : Table} {status result : ℕ} {text : List ℕ} → IsDistinct own → CheckAnswers own (Some files) before now command.root name proof_name status text → Appends old new text → result ≡ status → CheckCompletes given files problem proof_name old new result
-    loads_so own_distinct (fetch_fails file rose f) written e = absurd (well rose)
-    loads_so {own = own} own_distinct (is_refused why h s) written e = absurd (isnt_refused own given own_distinct files command.root name problem held_given h)
-    loads_so {own = own} {result = result} own_distinct (is_loaded {problem = loaded} h a) written e = completes_so given own (merged given own distinct) own_distinct files command.root name problem loaded held_given h before now well proof_name old new result a written e
-
-    ends : {status result : ℕ} {text : List ℕ} → MayAnswer (Some files) before now words status text → Appends old new text → result ≡ status → CheckCompletes given files problem proof_name old new result
-    ends wants_memory written e = rw e (want_ends given files problem proof_name old new written)
-    ends (is_answer own_distinct a) written e = loads_so own_distinct (answered a) written e
+  ends : (loaded : Table) (problem : Problem) (distinct : IsDistinct loaded) (is_held : IsLoaded files command.root name loaded problem) (old new : Option (List ℕ)) {status result : ℕ} {text : List ℕ} → MayAnswer (Some files) before now words status text → Appends old new text → result ≡ status → CheckCompletes loaded files problem proof_name old new result
+  ends loaded problem distinct is_held old new wants_memory written e = rw e (want_ends loaded files problem proof_name old new written)
+  ends loaded problem distinct is_held old new {result = result} (is_answer a) written e =
+      let own = answers_for files command.root name loaded distinct problem is_held (ProblemAnswers (Some files) before now proof_name) before now (λ five rose. well rose) (answered a) in
+      completes_so files command.root name loaded problem is_held before now well proof_name old new result own written e
 
 -- the same where the library is said to tell these files
 pub completes_check : (holds : Option Files) (before now : ℕ) (words : List (List ℕ)) (old new : Option (List ℕ)) (write_before write_now result : ℕ) → IsRun holds before now words old new write_before write_now result → (files : Files) → holds ≡ Some files → (Rose before now → ⊥) → (Rose write_before write_now → ⊥) → CompletesCheck files words old new result
-completes_check holds before now words old new write_before write_now result run files tells well told_well = λ command name proof_name table problem reads is_check names distinct held_given. go command name proof_name table problem reads is_check names distinct held_given (subst (λ (o : Option Files). IsRun o before now words old new write_before write_now result) tells run)
-  where
-    go : (command : Command) (name proof_name : List ℕ) (table : Table) (problem : Problem) → Reads words command → command.verb ≡ verb.Check → command.positionals ≡ name ∷ proof_name ∷ [] → IsDistinct table → Holds table files command.root name problem → IsRun (Some files) before now words old new write_before write_now result → CheckCompletes table files problem proof_name old new result
-    go command name proof_name table problem reads is_check names distinct held_given run =
-        let t = told_whole told_well run.told in
-        ends files before now well words command name proof_name reads is_check names table problem distinct held_given old new run.answer t.0 t.1
+completes_check holds before now words old new write_before write_now result run files tells well told_well command name proof_name loaded problem reads is_check names distinct is_held =
+    let at = subst (λ (o : Option Files). IsRun o before now words old new write_before write_now result) tells run in
+    let t = told_whole told_well at.told in
+    ends files before now well words command name proof_name reads is_check names loaded problem distinct is_held old new at.answer t.0 t.1

@@ -5,8 +5,7 @@ use Rattle.uc_term.specs.declared.node.Node.{Node}
 use Rattle.uc_term.specs.declared.node.Node.TheVariants.{Var, App}
 use Rattle.uc_term.specs.Tree.{Tree}
 use Rattle.uc_term.specs.Table.{Table, IsDistinct, name_of}
-use Rattle.uc_edge.specs.Files.{Files}
-use Rattle.uc_edge.specs.Faults.{Rose}
+use Rattle.uc_term.specs.Gathering.{HasAll}
 use Rattle.uc_clause.specs.declared.token.Place.{Place}
 use Rattle.uc_clause.specs.declared.fault.ClauseFault.{ClauseFault}
 use Rattle.uc_clause.specs.declared.fault.ClauseFault.TheVariants.{Syntax}
@@ -17,10 +16,13 @@ use Rattle.uc_clause.specs.Parse.{Sides, leaves}
 use Rattle.uc_clause.specs.Items.{equals_alone}
 use Rattle.uc_clause.specs.Reading.{ReadsEquation, SaysSides, Refuses, isnt_tokens, isnt_read}
 use Rattle.uc_clause.proofs.Once.{tokens_once, tokens_or_stops, stops_once}
+use Rattle.uc_clause.specs.Interning.{InternsEquation}
 use Rattle.uc_clause.proofs.Alone.{equals_alone_once, says_sides_once}
+use Rattle.uc_clause.proofs.InternedOnce.{equation_interns_once}
 use Rattle.uc_problem.specs.declared.problem.Problem.{Problem}
 use Rattle.uc_problem.specs.Holds.{Agrees}
-use Rattle.uc_problem.proofs.HoldsOnce.{problem_is_once, refusal_is_once, held_or_refused}
+use Rattle.uc_problem.proofs.FreshMarks.{signature_has}
+use Rattle.uc_problem.proofs.Later.{Grows-refl}
 use Rattle.uc_order.specs.declared.spec.OrderSpec.{OrderSpec}
 use Rattle.uc_order.specs.Laws.{Meaning, Laws}
 use Rattle.uc_fact.specs.Live.{Live}
@@ -37,13 +39,13 @@ use Rattle.uc_ordering.proofs.Fitting.{fits}
 use Rattle.uc_ordering.proofs.Once.{order_once, refusal_once, chosen_or_refused}
 use Rattle.uc_top.specs.declared.term_word.WordFault.{WordFault}
 use Rattle.uc_top.specs.declared.term_word.WordFault.TheVariants.{Unread, UnknownSymbol, NotGround, NoMemory}
-use Rattle.uc_top.specs.Lines.{load_line}
 use Rattle.uc_top.specs.OrderAnswers.{choice_line}
 use Rattle.uc_top.specs.RewriteAnswers.{word_line}
 use Rattle.uc_top.specs.QuestionWords.{nodes_of, first_unfit, IsQuestionWord, HasUnfit, HasUnknown, HasVariable, IsQuestionFault, AreQuestions, no_question, one_question, IsFirstFault}
 use Rattle.uc_top.specs.ProveAnswers.{status_line, IsLimitLine}
 use Rattle.uc_top.specs.DecideAnswers.{replies_status, reply_lines, AreReplies, no_reply, one_reply, opening_of_axioms, facts_of, IsDecided, is_unordered, is_no_question, is_answered, is_out}
-use Rattle.uc_top.specs.Answers.{DecideAnswers, fetch_fails, is_refused, is_loaded}
+use Rattle.uc_top.proofs.InternedDistinct.{read_equation_distinct}
+use Rattle.uc_top.proofs.GroundQuestions.{question_keeps}
 use Rattle.uc_top.proofs.OrderedAnswers.{is_signature}
 use Rattle.uc_top.proofs.OrderLaws.{spec_laws}
 use Rattle.uc_top.proofs.SearchLaws.{OneSearch}
@@ -125,36 +127,57 @@ module _ (word : List ℕ) where
       fit_or_unfit : {s : Tree × Tree} {n : Node} {p : Place} → IsQuestionWord table known word s → HasUnfit table known word n p → ⊥
       fit_or_unfit k a = some_or_none a.is_first (ap (first_unfit known) (same_sides k.reads a.reads distinct) ∙ k.is_fit)
 
-      pub fault_once : (a b : WordFault) → (a ≡ NoMemory → ⊥) → (b ≡ NoMemory → ⊥) → IsQuestionFault table known word a → IsQuestionFault table known word b → a ≡ b
-      fault_once (Unread e) (Unread f) na nb x y = ap Unread (equation_refused_once x y)
-      fault_once (Unread e) (UnknownSymbol p m) na nb x y = absurd (equation_or_refused y.unfit.reads x)
-      fault_once (Unread e) (NotGround p) na nb x y = absurd (equation_or_refused y.unfit.reads x)
-      fault_once (UnknownSymbol p m) (Unread f) na nb x y = absurd (equation_or_refused x.unfit.reads y)
-      fault_once (UnknownSymbol p m) (UnknownSymbol q n) na nb x y = let s = unknown_once x y in ap₂ UnknownSymbol s.0 s.1
-      fault_once (UnknownSymbol p m) (NotGround q) na nb x y = absurd (unknown_or_variable x y)
-      fault_once (NotGround p) (Unread f) na nb x y = absurd (equation_or_refused x.unfit.reads y)
-      fault_once (NotGround p) (UnknownSymbol q n) na nb x y = absurd (unknown_or_variable y x)
-      fault_once (NotGround p) (NotGround q) na nb x y = ap NotGround (variable_once x y)
-      fault_once NoMemory b na nb x y = absurd (na refl)
-      fault_once a NoMemory na nb x y = absurd (nb refl)
-
-      pub question_or_fault : (e : WordFault) (s : Tree × Tree) → (e ≡ NoMemory → ⊥) → IsQuestionWord table known word s → IsQuestionFault table known word e → ⊥
-      question_or_fault (Unread why) s n k x = equation_or_refused k.reads x
-      question_or_fault (UnknownSymbol p m) s n k x = fit_or_unfit k x.unfit
-      question_or_fault (NotGround p) s n k x = fit_or_unfit k x.unfit
-      question_or_fault NoMemory s n k x = n refl
-
       pub question_once : (s t : Tree × Tree) → IsQuestionWord table known word s → IsQuestionWord table known word t → t ≡ s
       question_once s t k l = same_sides k.reads l.reads distinct
 
 -- WORDS
 
-module _ (table : Table) (distinct : IsDistinct table) (known : List Sym) where
+-- by the table before the words are read, which has the known symbols
+module _ (table : Table) (distinct : IsDistinct table) (known : List Sym) (has : HasAll table known) where
+  module _ (word : List ℕ) where
+    module _ {read other : Table} (i : InternsEquation word table read) (j : InternsEquation word table other) where
+      same_read_table : other ≡ read
+      same_read_table = equation_interns_once j i
+
+      unknown_there : {p q : Place} {m n : List ℕ} → HasUnknown read known word p m → HasUnknown other known word q n → (p ≡ q) × (m ≡ n)
+      unknown_there {q = q} {n = n} x y = unknown_once word read (read_equation_distinct word table read i distinct) known x (subst (λ (t : Table). HasUnknown t known word q n) same_read_table y)
+
+      variable_there : {p q : Place} → HasVariable read known word p → HasVariable other known word q → p ≡ q
+      variable_there {q = q} x y = variable_once word read (read_equation_distinct word table read i distinct) known x (subst (λ (t : Table). HasVariable t known word q) same_read_table y)
+
+      not_both_there : {p q : Place} {m : List ℕ} → HasUnknown read known word p m → HasVariable other known word q → ⊥
+      not_both_there {q = q} x y = unknown_or_variable word read (read_equation_distinct word table read i distinct) known x (subst (λ (t : Table). HasVariable t known word q) same_read_table y)
+
+    fault_once : (a b : WordFault) → (a ≡ NoMemory → ⊥) → (b ≡ NoMemory → ⊥) → IsQuestionFault table known word a → IsQuestionFault table known word b → a ≡ b
+    fault_once (Unread e) (Unread f) na nb x y = ap Unread (equation_refused_once word x y)
+    fault_once (Unread e) (UnknownSymbol p m) na nb x y = absurd (equation_or_refused word y.0 y.2.unfit.reads x)
+    fault_once (Unread e) (NotGround p) na nb x y = absurd (equation_or_refused word y.0 y.2.unfit.reads x)
+    fault_once (UnknownSymbol p m) (Unread f) na nb x y = absurd (equation_or_refused word x.0 x.2.unfit.reads y)
+    fault_once (UnknownSymbol p m) (UnknownSymbol q n) na nb x y = let s = unknown_there x.1 y.1 x.2 y.2 in ap₂ UnknownSymbol s.0 s.1
+    fault_once (UnknownSymbol p m) (NotGround q) na nb x y = absurd (not_both_there x.1 y.1 x.2 y.2)
+    fault_once (NotGround p) (Unread f) na nb x y = absurd (equation_or_refused word x.0 x.2.unfit.reads y)
+    fault_once (NotGround p) (UnknownSymbol q n) na nb x y = absurd (not_both_there y.1 x.1 y.2 x.2)
+    fault_once (NotGround p) (NotGround q) na nb x y = ap NotGround (variable_there x.1 y.1 x.2 y.2)
+    fault_once NoMemory b na nb x y = absurd (na refl)
+    fault_once a NoMemory na nb x y = absurd (nb refl)
+
+    -- a question has no such node, in the table that reading it leaves as it is
+    fit_there : {s : Tree × Tree} {node : Node} {p : Place} {read : Table} → IsQuestionWord table known word s → InternsEquation word table read → HasUnfit read known word node p → ⊥
+    fit_there {s} {node} {p} {read} k i a =
+        let same : read ≡ table = question_keeps table table known (Grows-refl table) has word s read i k in
+        fit_or_unfit word table distinct known k (subst (λ (t : Table). HasUnfit t known word node p) same a)
+
+    question_or_fault : (e : WordFault) (s : Tree × Tree) → (e ≡ NoMemory → ⊥) → IsQuestionWord table known word s → IsQuestionFault table known word e → ⊥
+    question_or_fault (Unread why) s n k x = equation_or_refused word table k.reads x
+    question_or_fault (UnknownSymbol p m) s n k x = fit_there k x.1 x.2.unfit
+    question_or_fault (NotGround p) s n k x = fit_there k x.1 x.2.unfit
+    question_or_fault NoMemory s n k x = n refl
+
   pub questions_once : {words : List (List ℕ)} {xs ys : List (Tree × Tree)} → AreQuestions table known words xs → AreQuestions table known words ys → ys ≡ xs
   questions_once no_question no_question = refl
   questions_once (one_question {word = word} {sides = s} q qs) (one_question {sides = t} r rs) = ap₂ (λ x xs. x ∷ xs) (question_once word table distinct known s t q r) (questions_once qs rs)
 
-  pub head_question : {word : List ℕ} {words : List (List ℕ)} {xs : List (Tree × Tree)} → AreQuestions table known (word ∷ words) xs → (s : Tree × Tree) × IsQuestionWord table known word s
+  head_question : {word : List ℕ} {words : List (List ℕ)} {xs : List (Tree × Tree)} → AreQuestions table known (word ∷ words) xs → (s : Tree × Tree) × IsQuestionWord table known word s
   head_question (one_question {sides = s} q qs) = (s, q)
 
   tail_questions : {word : List ℕ} {words : List (List ℕ)} {xs : List (Tree × Tree)} → AreQuestions table known (word ∷ words) xs → (others : List (Tree × Tree)) × AreQuestions table known words others
@@ -171,14 +194,14 @@ module _ (table : Table) (distinct : IsDistinct table) (known : List Sym) where
 
   pub questions_or_fault : (words : List (List ℕ)) (n : ℕ) (why : WordFault) (xs : List (Tree × Tree)) → (why ≡ NoMemory → ⊥) → AreQuestions table known words xs → IsFirstFault table known words n why → ⊥
   questions_or_fault [] n why xs some q f = absurd (let e = f.word_is in cc)
-  questions_or_fault (word ∷ words) zero why xs some q f = let first = head_question q in question_or_fault word table distinct known why first.0 some first.1 (here_fault f)
+  questions_or_fault (word ∷ words) zero why xs some q f = let first = head_question q in question_or_fault word why first.0 some first.1 (here_fault f)
   questions_or_fault (word ∷ words) (suc n) why xs some q f = let rest = tail_questions q in questions_or_fault words n why rest.0 some rest.1 (later_fault f)
 
   pub first_fault_once : (words : List (List ℕ)) (n m : ℕ) (a b : WordFault) → (a ≡ NoMemory → ⊥) → (b ≡ NoMemory → ⊥) → IsFirstFault table known words n a → IsFirstFault table known words m b → (n ≡ m) × (a ≡ b)
   first_fault_once [] n m a b na nb f g = absurd (let e = f.word_is in cc)
-  first_fault_once (word ∷ words) zero zero a b na nb f g = (refl, fault_once word table distinct known a b na nb (here_fault f) (here_fault g))
-  first_fault_once (word ∷ words) zero (suc m) a b na nb f g = let first = head_question g.are_questions in absurd (question_or_fault word table distinct known a first.0 na first.1 (here_fault f))
-  first_fault_once (word ∷ words) (suc n) zero a b na nb f g = let first = head_question f.are_questions in absurd (question_or_fault word table distinct known b first.0 nb first.1 (here_fault g))
+  first_fault_once (word ∷ words) zero zero a b na nb f g = (refl, fault_once word a b na nb (here_fault f) (here_fault g))
+  first_fault_once (word ∷ words) zero (suc m) a b na nb f g = let first = head_question g.are_questions in absurd (question_or_fault word a first.0 na first.1 (here_fault f))
+  first_fault_once (word ∷ words) (suc n) zero a b na nb f g = let first = head_question f.are_questions in absurd (question_or_fault word b first.0 nb first.1 (here_fault g))
   first_fault_once (word ∷ words) (suc n) (suc m) a b na nb f g = let rest = first_fault_once words n m a b na nb (later_fault f) (later_fault g) in (ap suc rest.0, rest.1)
 
 -- REPLIES
@@ -191,6 +214,9 @@ replies_once m facts steps (one_reply {sides = s} {reply = x} r rs) (one_reply {
 
 module _ (one_search : OneSearch) (table : Table) (distinct : IsDistinct table) (command : Command) (some : 1 ≤ command.order.w0) (most : command.order.w0 ≤ 1000000) (name : List ℕ) (words : List (List ℕ)) where
   module _ (problem : Problem) (agrees : Agrees table problem) where
+    has : HasAll table problem.signature.symbols
+    has = signature_has table problem agrees
+
     laws : (spec : OrderSpec) → IsChosen table problem.signature command.order None spec → Laws (meaning_of table spec)
     laws spec c = spec_laws table problem.signature.symbols spec (fits table problem.signature command.order some most (is_signature table problem agrees) None spec c tt)
 
@@ -205,41 +231,29 @@ module _ (one_search : OneSearch) (table : Table) (distinct : IsDistinct table) 
       answered_or_out : (v : Verdict) (s t : State) (line : List ℕ) → IsSearched (meaning_of table spec) (opening_of_axioms command problem) 0 Saturated s → IsSearched (meaning_of table other) (opening_of_axioms command problem) 0 v t → IsLimitLine command t v line → ⊥
       answered_or_out v s t line x y l = isnt_saturated command t (subst (λ (u : Verdict). IsLimitLine command t u line) (sym (searches Saturated v s t x y).0) l)
 
-    pub decided_once : {loaded later : Table} {s t : ℕ} {a b : List ℕ} → IsDecided table command name words loaded problem s a → IsDecided table command name words later problem t b → (s ≡ t) × (a ≡ b)
+    pub decided_once : {s t : ℕ} {a b : List ℕ} → IsDecided table command name words problem s a → IsDecided table command name words problem t b → (s ≡ t) × (a ≡ b)
     decided_once (is_unordered {why = why} x n) (is_unordered {why = other} y m) = (refl, ap choice_line (refusal_once table problem.signature command.order why other n m x y))
     decided_once (is_unordered {why = why} x n) (is_no_question {spec = spec} c f m) = absurd (chosen_or_refused table problem.signature command.order None spec why n c x)
-    decided_once (is_unordered {why = why} x n) (is_answered {spec = spec} c q j y r) = absurd (chosen_or_refused table problem.signature command.order None spec why n c x)
-    decided_once (is_unordered {why = why} x n) (is_out {spec = spec} c q j y l) = absurd (chosen_or_refused table problem.signature command.order None spec why n c x)
+    decided_once (is_unordered {why = why} x n) (is_answered {spec = spec} c q y r) = absurd (chosen_or_refused table problem.signature command.order None spec why n c x)
+    decided_once (is_unordered {why = why} x n) (is_out {spec = spec} c q y l) = absurd (chosen_or_refused table problem.signature command.order None spec why n c x)
     decided_once (is_no_question {spec = spec} c f m) (is_unordered {why = why} y n) = absurd (chosen_or_refused table problem.signature command.order None spec why n c y)
-    decided_once (is_answered {spec = spec} c q i x r) (is_unordered {why = why} y n) = absurd (chosen_or_refused table problem.signature command.order None spec why n c y)
-    decided_once (is_out {spec = spec} c q i x l) (is_unordered {why = why} y n) = absurd (chosen_or_refused table problem.signature command.order None spec why n c y)
-    decided_once (is_no_question {number = number} {why = why} c f m) (is_no_question {number = place} {why = other} k g n) = let one = first_fault_once table distinct problem.signature.symbols words number place why other m n f g in (refl, ap₂ word_line one.0 one.1)
-    decided_once (is_no_question {number = number} {why = why} c f m) (is_answered {questions = questions} k q j y r) = absurd (questions_or_fault table distinct problem.signature.symbols words number why questions m q f)
-    decided_once (is_no_question {number = number} {why = why} c f m) (is_out {questions = questions} k q j y l) = absurd (questions_or_fault table distinct problem.signature.symbols words number why questions m q f)
-    decided_once (is_answered {questions = questions} c q i x r) (is_no_question {number = number} {why = why} k f m) = absurd (questions_or_fault table distinct problem.signature.symbols words number why questions m q f)
-    decided_once (is_out {questions = questions} c q i x l) (is_no_question {number = number} {why = why} k f m) = absurd (questions_or_fault table distinct problem.signature.symbols words number why questions m q f)
-    decided_once (is_answered {spec = spec} {questions = questions} {s = s} {replies = replies} c q i x r) (is_answered {spec = other} {questions = asked} {s = t} {replies = told} k p j y d) =
+    decided_once (is_answered {spec = spec} c q x r) (is_unordered {why = why} y n) = absurd (chosen_or_refused table problem.signature command.order None spec why n c y)
+    decided_once (is_out {spec = spec} c q x l) (is_unordered {why = why} y n) = absurd (chosen_or_refused table problem.signature command.order None spec why n c y)
+    decided_once (is_no_question {number = number} {why = why} c f m) (is_no_question {number = place} {why = other} k g n) = let one = first_fault_once table distinct problem.signature.symbols has words number place why other m n f g in (refl, ap₂ word_line one.0 one.1)
+    decided_once (is_no_question {number = number} {why = why} c f m) (is_answered {questions = questions} k q y r) = absurd (questions_or_fault table distinct problem.signature.symbols has words number why questions m q f)
+    decided_once (is_no_question {number = number} {why = why} c f m) (is_out {questions = questions} k q y l) = absurd (questions_or_fault table distinct problem.signature.symbols has words number why questions m q f)
+    decided_once (is_answered {questions = questions} c q x r) (is_no_question {number = number} {why = why} k f m) = absurd (questions_or_fault table distinct problem.signature.symbols has words number why questions m q f)
+    decided_once (is_out {questions = questions} c q x l) (is_no_question {number = number} {why = why} k f m) = absurd (questions_or_fault table distinct problem.signature.symbols has words number why questions m q f)
+    decided_once (is_answered {spec = spec} {questions = questions} {s = s} {replies = replies} c q x r) (is_answered {spec = other} {questions = asked} {s = t} {replies = told} k p y d) =
         let by_order = subst (λ (o : OrderSpec). AreReplies (meaning_of table o) (facts_of t) command.steps asked told) (orders spec other c k) d in
         let by_state = subst (λ (u : State). AreReplies (meaning_of table spec) (facts_of u) command.steps asked told) (sym (searches spec other c k Saturated Saturated s t x y).1) by_order in
-        let by_questions = subst (λ (qs : List (Tree × Tree)). AreReplies (meaning_of table spec) (facts_of s) command.steps qs told) (questions_once table distinct problem.signature.symbols q p) by_state in
+        let by_questions = subst (λ (qs : List (Tree × Tree)). AreReplies (meaning_of table spec) (facts_of s) command.steps qs told) (questions_once table distinct problem.signature.symbols has q p) by_state in
         let same : replies ≡ told = replies_once (meaning_of table spec) (facts_of s) command.steps r by_questions in
         (ap replies_status same, ap (reply_lines table) same)
-    decided_once (is_answered {spec = spec} {s = s} c q i x r) (is_out {spec = other} {v = v} {s = t} {line = line} k p j y l) = absurd (answered_or_out spec other c k v s t line x y l)
-    decided_once (is_out {spec = spec} {v = v} {s = s} {line = line} c q i x l) (is_answered {spec = other} {s = t} k p j y r) = absurd (answered_or_out other spec k c v t s line y x l)
-    decided_once (is_out {spec = spec} {v = v} {s = s} {line = line} c q i x l) (is_out {spec = other} {v = w} {s = t} {line = told} k p j y d) =
+    decided_once (is_answered {spec = spec} {s = s} c q x r) (is_out {spec = other} {v = v} {s = t} {line = line} k p y l) = absurd (answered_or_out spec other c k v s t line x y l)
+    decided_once (is_out {spec = spec} {v = v} {s = s} {line = line} c q x l) (is_answered {spec = other} {s = t} k p y r) = absurd (answered_or_out other spec k c v t s line y x l)
+    decided_once (is_out {spec = spec} {v = v} {s = s} {line = line} c q x l) (is_out {spec = other} {v = w} {s = t} {line = told} k p y d) =
         let once = searches spec other c k v w s t x y in
         let by_verdict = subst (λ (u : Verdict). IsLimitLine command t u told) (sym once.0) d in
         let by_state = subst (λ (u : State). IsLimitLine command u v told) (sym once.1) by_verdict in
         (refl, ap (λ z. status_line (codes "ResourceOut") name ++ z) (limit_once command s l by_state))
-
-  -- the same from the files on
-  pub decide_answers_once : (files : Files) (before now : ℕ) → (Rose before now → ⊥) → {s t : ℕ} {a b : List ℕ} → DecideAnswers table (Some files) before now command name words s a → DecideAnswers table (Some files) before now command name words t b → (s ≡ t) × (a ≡ b)
-  decide_answers_once files before now well (fetch_fails file r f) y = absurd (well r)
-  decide_answers_once files before now well (is_refused why x e) (fetch_fails file r f) = absurd (well r)
-  decide_answers_once files before now well (is_refused why x e) (is_refused other y f) = (refl, ap load_line (refusal_is_once table distinct files command.root name x y))
-  decide_answers_once files before now well (is_refused why x e) (is_loaded y p) = absurd (held_or_refused table distinct files command.root name y x)
-  decide_answers_once files before now well (is_loaded x p) (fetch_fails file r f) = absurd (well r)
-  decide_answers_once files before now well (is_loaded x p) (is_refused why y e) = absurd (held_or_refused table distinct files command.root name x y)
-  decide_answers_once files before now well {t = t} {b = b} (is_loaded {problem = problem} x p) (is_loaded {problem = other} y q) =
-      let same : other ≡ problem = problem_is_once table distinct files command.root name other problem y x in
-      decided_once problem x.agrees p.decided (subst (λ (held : Problem). IsDecided table command name words q.loaded held t b) same q.decided)

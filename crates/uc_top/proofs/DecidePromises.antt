@@ -11,7 +11,7 @@ use Rattle.uc_top.specs.declared.output.Answer.{Answer}
 use Rattle.uc_top.specs.Lines.{joined}
 use Rattle.uc_top.specs.Told.{IsTold, told, cut_short}
 use Rattle.uc_top.specs.DecideRuns.{KeepsDecision, KeepsDecideCommand, KeepsDecideWord}
-use Rattle.uc_top.proofs.AnswersOnce.{head_name, tail_names}
+use Rattle.uc_top.proofs.Positionals.{head_name, tail_names}
 
 -- a run that tells an answer that keeps its promise keeps its word
 pub keeps_decide_word : (files : Files) (all : List (List ℕ)) (old new : Option (List ℕ)) (before now : ℕ) (text : List ℕ) (status result : ℕ) → IsTold old new before now text status result → (status ≤ 2 → (command : Command) → Reads all command → command.verb ≡ verb.Decide → KeepsDecideCommand files command status text) → KeepsDecideWord files all old new result

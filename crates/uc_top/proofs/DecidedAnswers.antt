@@ -4,7 +4,7 @@ use Rattle.std.specs.Result.{IfOk}
 use Rattle.std.specs.declared.alloc.AllocError.{AllocError}
 use Rattle.uc_term.specs.declared.equation.Equation.{Equation}
 use Rattle.uc_term.specs.Tree.{Tree}
-use Rattle.uc_term.specs.Table.{Table, Grows, Has}
+use Rattle.uc_term.specs.Table.{Table, Has, IsDistinct}
 use Rattle.uc_edge.specs.Files.{Files}
 use Rattle.uc_check.specs.Clauses.{axioms_of}
 use Rattle.uc_problem.specs.declared.problem.Problem.{Problem}
@@ -43,10 +43,10 @@ use Rattle.uc_top.specs.RewriteAnswers.{word_line}
 use Rattle.uc_top.specs.QuestionWords.{AreQuestions, IsFirstFault}
 use Rattle.uc_top.specs.ProveAnswers.{status_line, opening_for, verdict_status, IsLimitLine, budget_is_spent, limit_is_passed, pair_is_large, step_is_large}
 use Rattle.uc_top.specs.DecideAnswers.{AreReplies, IsReplyOf, AreRepliesOf, replies_status, reply_lines, opening_of_axioms, IsDecided, is_unordered, is_no_question, is_answered, is_out}
-use Rattle.uc_top.specs.Answers.{DecideAnswers, is_loaded}
-use Rattle.uc_top.specs.DecideRuns.{AreGroundQuestions, AreRight, none_is_wrong, one_is_right, IsAnswered, IsOut, Decided, IsDecidedBy}
+use Rattle.uc_top.specs.Loaded.{IsLoaded}
+use Rattle.uc_top.specs.DecideRuns.{AreGroundQuestions, AreRight, none_is_wrong, one_is_right, IsAnswered, IsOut, Decided, KeepsDecision}
 use Rattle.uc_top.specs.DecideTold.{without_goals, AreGroundOfTable, TellsEnd, tells_replies, tells_limit, IsToldBySearch}
-use Rattle.uc_top.proofs.Answering.{one_line, held_problem}
+use Rattle.uc_top.proofs.Answering.{one_line, is_held}
 use Rattle.uc_top.proofs.OverSignature.{own_axioms_over}
 use Rattle.uc_top.proofs.ProveKeeping.{out_status}
 use Rattle.uc_top.proofs.ProvedAnswers.{no_promise}
@@ -121,25 +121,29 @@ module _ (table : Table) (problem : Problem) (spec : OrderSpec) (fits : Fits tab
 
 -- THE ANSWERS
 
-module _ (table : Table) (command : Command) (name : List ℕ) (words : List (List ℕ)) (loaded : Table) (problem : Problem) where
+module _ (table : Table) (command : Command) (name : List ℕ) (words : List (List ℕ)) (problem : Problem) where
   abbrev Answers : Result Answer AllocError → Type 0
-  Answers r = IfOk r (λ answer. IsDecided table command name words loaded problem answer.status (joined answer.lines))
+  Answers r = IfOk r (λ answer. IsDecided table command name words problem answer.status (joined answer.lines))
 
   abbrev Promises : Result Answer AllocError → Type 0
   Promises r = IfOk r (λ answer. answer.status ≤ 2 → Decided table command name words problem answer.status (joined answer.lines))
 
   pub unordered : (why : ChoiceFault) (r : Result Answer AllocError) → IsChoiceFault table problem.signature command.order why → IfOk r (λ answer. (answer.status ≡ 4) × (joined answer.lines ≡ choice_line why)) → IfOk r (λ _. why ≡ choice.NoMemory → ⊥) → Answers r
-  unordered why (Ok answer) h line n = one_line (Ok answer) (IsDecided table command name words loaded problem) 4 (choice_line why) line (is_unordered h n)
+  unordered why (Ok answer) h line n = one_line (Ok answer) (IsDecided table command name words problem) 4 (choice_line why) line (is_unordered h n)
   unordered why (Err fault) h line n = tt
 
   pub misread : (spec : OrderSpec) (number : ℕ) (why : WordFault) (r : Result Answer AllocError) → IsChosen table problem.signature command.order None spec → IsFirstFault table problem.signature.symbols words number why → IfOk r (λ answer. (answer.status ≡ 3) × (joined answer.lines ≡ word_line number why)) → IfOk r (λ _. why ≡ NoMemory → ⊥) → Answers r
-  misread spec number why (Ok answer) chosen fault line n = one_line (Ok answer) (IsDecided table command name words loaded problem) 3 (word_line number why) line (is_no_question chosen fault n)
+  misread spec number why (Ok answer) chosen fault line n = one_line (Ok answer) (IsDecided table command name words problem) 3 (word_line number why) line (is_no_question chosen fault n)
   misread spec number why (Err e) chosen fault line n = tt
 
   pub refused_promises : (status : ℕ) (line : List ℕ) (r : Result Answer AllocError) → 3 ≤ status → IfOk r (λ answer. (answer.status ≡ status) × (joined answer.lines ≡ line)) → Promises r
   refused_promises status line r high h = no_promise (λ (answer : Answer). Decided table command name words problem answer.status (joined answer.lines)) status line r (omega (arith, high)) h
 
-  module _ (spec : OrderSpec) (questions : List (Tree × Tree)) (chosen : IsChosen table problem.signature command.order None spec) (are : AreQuestions table problem.signature.symbols words questions) (kept : table ≡ loaded) where
+  -- the table in which the questions are read is still the one before
+  module _ (read : Table) (kept : read ≡ table) (spec : OrderSpec) (questions : List (Tree × Tree)) (chosen : IsChosen table problem.signature command.order None spec) (read_so : AreQuestions read problem.signature.symbols words questions) where
+    are : AreQuestions table problem.signature.symbols words questions
+    are = subst (λ (t : Table). AreQuestions t problem.signature.symbols words questions) kept read_so
+
     abbrev m : Meaning
     m = meaning_of table spec
 
@@ -149,9 +153,9 @@ module _ (table : Table) (command : Command) (name : List ℕ) (words : List (Li
     abbrev Told : State → Verdict → ℕ → List ℕ → Type 0
     Told = TellsEnd table m command name (axioms_of problem.clauses) questions
 
-    answer_of : (s : State) (v : Verdict) (status : ℕ) (answer : List ℕ) → IsSearched m o 0 v s → Told s v status answer → IsDecided table command name words loaded problem status answer
-    answer_of s _ _ _ searched (tells_replies d replies right) = is_answered chosen are kept searched replies
-    answer_of s v _ _ searched (tells_limit is) = is_out chosen are kept searched is
+    answer_of : (s : State) (v : Verdict) (status : ℕ) (answer : List ℕ) → IsSearched m o 0 v s → Told s v status answer → IsDecided table command name words problem status answer
+    answer_of s _ _ _ searched (tells_replies d replies right) = is_answered chosen are searched replies
+    answer_of s v _ _ searched (tells_limit is) = is_out chosen are searched is
 
     cause_of : (s : State) (v : Verdict) (line : List ℕ) → IsLimitLine command s v line → HasCauseIfStopped m o s v → HasCause m o s v
     cause_of s _ _ budget_is_spent h = h
@@ -180,42 +184,24 @@ module _ (table : Table) (command : Command) (name : List ℕ) (words : List (Li
       answer_is = refl;
     })
 
-    abbrev IsSearchTold : Answer → Type 0
-    IsSearchTold answer = IsToldBySearch table m command name (axioms_of problem.clauses) questions o answer.status (joined answer.lines)
+    abbrev IsSearchTold : Table → Answer → Type 0
+    IsSearchTold t answer = IsToldBySearch t (meaning_of t spec) command name (axioms_of problem.clauses) questions o answer.status (joined answer.lines)
 
-    pub told_answers : (r : Result Answer AllocError) → IfOk r IsSearchTold → Answers r
-    told_answers (Ok answer) t = answer_of t.state t.verdict answer.status (joined answer.lines) t.searched t.told
+    told_here : (answer : Answer) → IsSearchTold read answer → IsSearchTold table answer
+    told_here answer t = subst (λ (u : Table). IsSearchTold u answer) kept t
+
+    pub told_answers : (r : Result Answer AllocError) → IfOk r (IsSearchTold read) → Answers r
+    told_answers (Ok answer) t = let h = told_here answer t in answer_of h.state h.verdict answer.status (joined answer.lines) h.searched h.told
     told_answers (Err fault) t = tt
 
-    pub told_promises : (r : Result Answer AllocError) → IfOk r IsSearchTold → Promises r
-    told_promises (Ok answer) t = λ few. record { spec = spec; chosen = chosen; questions = questions; are_questions = are; told = promise_of t.state t.verdict answer.status (joined answer.lines) t.searched t.told }
+    pub told_promises : (r : Result Answer AllocError) → IfOk r (IsSearchTold read) → Promises r
+    told_promises (Ok answer) t = λ few. let h = told_here answer t in record { spec = spec; chosen = chosen; questions = questions; are_questions = are; told = promise_of h.state h.verdict answer.status (joined answer.lines) h.searched h.told }
     told_promises (Err fault) t = tt
-
--- what is promised of a table holds of it alone
-pub kept_by : (table : Table) (r : Result Answer AllocError) (loaded : Table) → table ≡ loaded → IfOk r (λ answer. answer.status ≤ 2 → table ≡ loaded)
-kept_by table (Ok answer) loaded e = λ few. e
-kept_by table (Err fault) loaded e = tt
-
-pub kept_high : (table loaded : Table) (status : ℕ) (line : List ℕ) (r : Result Answer AllocError) → 3 ≤ status → IfOk r (λ answer. (answer.status ≡ status) × (joined answer.lines ≡ line)) → IfOk r (λ answer. answer.status ≤ 2 → table ≡ loaded)
-kept_high table loaded status line r high h = no_promise (λ _. table ≡ loaded) status line r (omega (arith, high)) h
 
 -- A PROBLEM THAT IS LOADED
 
-pub loaded_answers : (empty table later : Table) (command : Command) (name : List ℕ) (words : List (List ℕ)) (holds : Option Files) (before now : ℕ) (problem : Problem) (r : Result Answer AllocError) → empty ≡ [] → Grows table later → WhereTold holds (λ files. IsFilled files command.root name empty table problem) → IsProblem table holds command.root name problem → IfOk r (λ answer. IsDecided later command name words table problem answer.status (joined answer.lines)) → IfOk r (λ answer. DecideAnswers later holds before now command name words answer.status (joined answer.lines))
-loaded_answers empty table later command name words holds before now problem (Ok answer) none g f h a = is_loaded (held_problem table later holds command.root name problem g h) (record {
-  loaded = table;
-  filled = subst (λ (t : Table). WhereTold holds (λ files. IsFilled files command.root name t table problem)) none f;
-  decided = a;
-})
-loaded_answers empty table later command name words holds before now problem (Err fault) none g f h a = tt
-
-pub loaded_decided : (empty table later : Table) (command : Command) (name : List ℕ) (words : List (List ℕ)) (holds : Option Files) (problem : Problem) (r : Result Answer AllocError) → empty ≡ [] → Grows table later → WhereTold holds (λ files. IsFilled files command.root name empty table problem) → IsProblem table holds command.root name problem → IfOk r (λ answer. answer.status ≤ 2 → later ≡ table) → IfOk r (λ answer. answer.status ≤ 2 → Decided later command name words problem answer.status (joined answer.lines)) → IfOk r (λ answer. answer.status ≤ 2 → (files : Files) → holds ≡ Some files → IsDecidedBy later files command name words answer.status (joined answer.lines))
-loaded_decided empty table later command name words holds problem (Ok answer) none g f h same k = λ few files told.
-    let filled = subst (λ (o : Option Files). WhereTold o (λ files. IsFilled files command.root name [] table problem)) told (subst (λ (t : Table). WhereTold holds (λ files. IsFilled files command.root name t table problem)) none f) in
-    record {
-      problem = problem;
-      filled = subst (λ (t : Table). IsFilled files command.root name [] t problem) (sym (same few)) filled;
-      holds = subst (λ (o : Option Files). IsProblem table o command.root name problem) told h later g;
-      decided = k few;
-    }
-loaded_decided empty table later command name words holds problem (Err fault) none g f h same k = tt
+pub loaded_decided : (empty table : Table) (command : Command) (name : List ℕ) (words : List (List ℕ)) (holds : Option Files) (problem : Problem) (r : Result Answer AllocError) → empty ≡ [] → IsDistinct table → WhereTold holds (λ files. IsFilled files command.root name empty table problem) → IsProblem table holds command.root name problem → IfOk r (λ answer. answer.status ≤ 2 → Decided table command name words problem answer.status (joined answer.lines)) → IfOk r (λ answer. answer.status ≤ 2 → (files : Files) → holds ≡ Some files → KeepsDecision files command name words answer.status (joined answer.lines))
+loaded_decided empty table command name words holds problem (Ok answer) none d f h k = λ few files told.
+    let l = subst (λ (o : Option Files). WhereTold o (λ files. IsLoaded files command.root name table problem)) told (is_held empty table holds command.root name problem none f h) in
+    record { table = table; distinct = d; is_decided = record { problem = problem; filled = l.filled; holds = l.holds; decided = k few } }
+loaded_decided empty table command name words holds problem (Err fault) none d f h k = tt

@@ -1,4 +1,4 @@
--- The least constant of an order that fits a signature is a constant of the table; among renamed symbols it is the renamed one.
+-- The least constant of an order that fits a signature is a constant of the table.
 use Rattle.std.proofs.Common.{◌⊎◌, inl, inr, ℕ, ◌≡◌, ◌==◌, nat_lt, Bool, true, false, List, [], ◌∷◌, length, map, option_map, slice_get, Option, Some, None, if◌then◌else◌, refl, sym, ap, ap₂, ◌∙◌, subst, arith}
 use Rattle.std.proofs.lemmas.Bool.{eqb-true, eq-eqb}
 use Rattle.uc_term.specs.declared.node.Sym.{Sym}
@@ -13,9 +13,6 @@ use Rattle.uc_kbo.specs.Faults.{weighed}
 use Rattle.uc_kbo.specs.Weights.{lighter_of, least_constant, symbol_or}
 use Rattle.uc_ordering.specs.Fits.{Fits}
 use Rattle.uc_ordering.specs.Meaning.{or_first, meaning_of}
-use Rattle.uc_top.proofs.Everywhere.{entry_moved}
-use Rattle.uc_top.proofs.MovedOrders.{spec_moved}
-use Rattle.uc_top.proofs.MovedMeanings.{PrecedenceHas}
 
 each_of : (P : Sym → Type 0) (fs : List Sym) (f : Sym) → Each P fs → In fs f → P f
 each_of P [] f h i = elim i [ ]
@@ -118,45 +115,3 @@ module _ (table : Table) where
     least_of (Lpo precedence) fits =
         let p = has_least (Lpo precedence) fits in
         subst (λ o. IsOf table (app (or_first o) none)) (sym p.1) (of_table precedence p.0 fits.of_table fits.total.0 (first_is precedence p.0 p.1))
-
--- The other table has each entry of the one at the number that its symbol is renamed to, and the one has no entry twice.
-module _ (t u : Table) (ρ : Sym → Sym) (moves : (f : Sym) (e : Entry) → slice_get t f.0 ≡ Some e → slice_get u (ρ f).0 ≡ Some e) (distinct : IsDistinct t) where
-  arity_moved : (f : Sym) → Has t f → arity_of u (ρ f) ≡ arity_of t f
-  arity_moved f h = ap (λ (e : Entry). e.arity) (entry_moved t u ρ moves f h)
-
-  first_moved : (fs : List Sym) → Each (Has t) fs → first_constant u (map ρ fs) ≡ option_map ρ (first_constant t fs)
-  first_moved [] h = refl
-  first_moved (f ∷ fs) h = ap₂ (λ n o. if n == 0 then Some (ρ f) else o) (arity_moved f h.0) (first_moved fs h.1) ∙ go (arity_of t f == 0) (first_constant t fs)
-    where
-      go : (b : Bool) (o : Option Sym) → (if b then Some (ρ f) else option_map ρ o) ≡ option_map ρ (if b then Some f else o)
-      go true o = refl
-      go false o = refl
-
-  abbrev entry_renamed : Weighed → Weighed
-  entry_renamed e = record { symbol = ρ e.symbol; arity = e.arity; weight = e.weight }
-
-  weighed_moved : (fs : List Sym) (ws : List ℕ) → Each (Has t) fs → weighed u (map ρ fs) ws ≡ map entry_renamed (weighed t fs ws)
-  weighed_moved [] ws h = refl
-  weighed_moved (f ∷ fs) [] h = refl
-  weighed_moved (f ∷ fs) (w ∷ ws) h = ap₂ (λ n es. record { symbol = ρ f; arity = n; weight = w } ∷ es) (arity_moved f h.0) (weighed_moved fs ws h.1)
-
-  lighter_moved : (b : Bool) (e : Weighed) (o : Option Weighed) → (if b then lighter_of (entry_renamed e) (option_map entry_renamed o) else option_map entry_renamed o) ≡ option_map entry_renamed (if b then lighter_of e o else o)
-  lighter_moved false e o = refl
-  lighter_moved true e None = refl
-  lighter_moved true e (Some d) = go (nat_lt d.weight e.weight)
-    where
-      go : (b : Bool) → (if b then Some (entry_renamed d) else Some (entry_renamed e)) ≡ option_map entry_renamed (if b then Some d else Some e)
-      go true = refl
-      go false = refl
-
-  lightest_moved : (es : List Weighed) → least_constant (map entry_renamed es) ≡ option_map entry_renamed (least_constant es)
-  lightest_moved [] = refl
-  lightest_moved (e ∷ es) = ap (λ o. if e.arity == 0 then lighter_of (entry_renamed e) o else o) (lightest_moved es) ∙ lighter_moved (e.arity == 0) e (least_constant es)
-
-  pub least_moved : (signature : List Sym) (spec : OrderSpec) → PrecedenceHas t u ρ moves distinct spec → Fits t signature spec → (meaning_of u (spec_moved ρ spec)).least ≡ ρ (meaning_of t spec).least
-  least_moved signature (Kbo w0 weights precedence) has fits =
-      let p = has_least t signature (Kbo w0 weights precedence) fits in
-      ap (λ es. symbol_or (least_constant es)) (weighed_moved precedence weights has) ∙ ap symbol_or (lightest_moved (weighed t precedence weights)) ∙ ap (λ o. symbol_or (option_map entry_renamed o)) p.1 ∙ sym (ap (λ o. ρ (symbol_or o)) p.1)
-  least_moved signature (Lpo precedence) has fits =
-      let p = has_least t signature (Lpo precedence) fits in
-      ap or_first (first_moved precedence has) ∙ ap (λ o. or_first (option_map ρ o)) p.1 ∙ sym (ap (λ o. ρ (or_first o)) p.1)

@@ -31,7 +31,7 @@ use Rattle.uc_top.proofs.OrderLaws.{spec_laws}
 use Rattle.uc_top.proofs.OrderedAnswers.{is_signature}
 use Rattle.uc_top.proofs.ProveOnce.{chosen_fits}
 use Rattle.uc_top.proofs.SearchLaws.{OneSearch}
-use Rattle.uc_top.proofs.SearchEverywhere.{marks_grow}
+use Rattle.uc_top.proofs.EncodedTables.{marks_grow}
 
 module _ (one_search : OneSearch) (files : Files) (command : Command) (some : 1 ≤ command.order.w0) (most : command.order.w0 ≤ 1000000) (name : List ℕ) where
   -- by one table, problem and encoding

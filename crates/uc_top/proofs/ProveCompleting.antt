@@ -1,5 +1,5 @@
 -- How `prove` ends.
-use Rattle.std.proofs.Common.{inl, inr, ℕ, ◌≡◌, ◌≤◌, List, position, Option, Some, None, Result, Ok, Err, refl, sym, ap, ◌∙◌, subst, arith}
+use Rattle.std.proofs.Common.{inl, inr, ℕ, ◌≡◌, ◌≤◌, List, [], Option, Some, Result, Ok, Err, refl, sym, ap, ◌∙◌, subst, arith}
 use Rattle.std.specs.Result.{IfOk}
 use Rattle.std.specs.declared.alloc.AllocError.{AllocError}
 use Rattle.std.specs.Io.KnownBytes.{Appends}
@@ -9,52 +9,48 @@ use Rattle.uc_edge.specs.Faults.{Rose}
 use Rattle.uc_problem.specs.declared.problem.Problem.{Problem}
 use Rattle.uc_problem.specs.declared.problem.Encoded.{Encoded}
 use Rattle.uc_problem.specs.Holds.{Holds}
-use Rattle.uc_problem.specs.Marks.{is_too_large}
 use Rattle.uc_problem.specs.Encodes.{Encodes}
+use Rattle.uc_problem.specs.Filling.{AddsMarks}
+use Rattle.uc_problem.proofs.FreshMarks.{signature_has}
+use Rattle.uc_problem.proofs.AddedOnce.{distinct_earlier, marks_add_once}
 use Rattle.uc_problem.proofs.MarksOnce.{marked_or_large}
+use Rattle.uc_problem.proofs.RefusedOnce.{filled_or_refused}
 use Rattle.uc_order.specs.declared.spec.OrderSpec.{OrderSpec}
 use Rattle.uc_words.specs.declared.command.Command.{Command}
 use Rattle.uc_words.specs.declared.command.Verb.TheVariants as verb
 use Rattle.uc_words.specs.Reads.{Reads}
 use Rattle.uc_words.proofs.Only.{only}
-use Rattle.uc_ordering.specs.Choice.{IsChosen, chosen}
+use Rattle.uc_ordering.specs.Choice.{IsChosen, IsChoiceFault}
+use Rattle.uc_ordering.proofs.Once.{chosen_or_refused}
 use Rattle.uc_top.specs.declared.output.Answer.{Answer}
 use Rattle.uc_top.specs.Lines.{joined}
+use Rattle.uc_top.specs.Loaded.{IsLoaded}
 use Rattle.uc_top.specs.Told.{IsTold, told, cut_short}
-use Rattle.uc_top.specs.ProveAnswers.{is_unordered, is_searched, has_large_goal, ProveAnswers, fetch_fails, is_refused, is_loaded}
+use Rattle.uc_top.specs.ProveAnswers.{IsProveAnswer, is_unordered, is_searched, has_large_goal, ProveAnswers, fetch_fails, is_refused, is_loaded}
 use Rattle.uc_top.specs.Runs.{MayAnswer, is_answer, wants_memory, IsRun}
 use Rattle.uc_top.specs.ProveRuns.{KeepsCommand, KeepsWord, IsHeldAnswer, ProveEnds, tells_verdict, lacks_memory, CompletesProve}
-use Rattle.uc_top.proofs.AnswersOnce.{only_name}
+use Rattle.uc_top.proofs.Positionals.{only_name}
 use Rattle.uc_top.proofs.ByVerb.{OfProve, of_verb}
 use Rattle.uc_top.proofs.Completing.{told_whole}
-use Rattle.uc_top.proofs.Everywhere.{unchanged, isnt_refused}
-use Rattle.uc_top.proofs.CheckHeld.{large_number_moved}
-use Rattle.uc_top.proofs.OrderEverywhere.{into, same}
-use Rattle.uc_top.proofs.PairsCompleting.{isnt_unordered}
+use Rattle.uc_top.proofs.LoadedOnce.{loaded_once}
+use Rattle.uc_top.proofs.EncodedTables.{marks_grow}
 
-module _ (files : Files) (before now : ℕ) (well : Rose before now → ⊥) (table : Table) (apart : IsDistinct table) (command : Command) (name : List ℕ) (problem : Problem) (encoded : Encoded) (spec : OrderSpec) (held : Holds table files command.root name problem) (encodes : Encodes table problem (Ok encoded)) (is_chosen : IsChosen table problem.signature command.order encoded.fresh spec) where
-  -- the order without the encoding's symbols
-  plain : IsChosen table problem.signature command.order None (chosen table problem.signature command.order None)
-  plain = record { known = is_chosen.known; once = is_chosen.once; fit = is_chosen.fit; is = refl }
-
-  -- what is answered
-  prove_ends : {own : Table} {status : ℕ} {text : List ℕ} → IsDistinct own → ProveAnswers own command name (Some files) before now status text → IsHeldAnswer files command name status text
-  prove_ends distinct (fetch_fails file rose fails) = absurd (well rose)
-  prove_ends {own = own} distinct (is_refused why h e) = absurd (isnt_refused own table distinct files command.root name problem held h)
-  prove_ends {own = own} distinct (is_loaded {problem = loaded} f h (has_large_goal {number = number} m g)) =
-      let move = into own table distinct apart files command.root name command.order loaded problem h held in
-      let lists = ap (λ (p : Problem). position is_too_large p.clauses) (same own table distinct apart files command.root name command.order loaded problem h held) in
-      let there : position is_too_large problem.clauses ≡ Some number = sym (large_number_moved move problem.clauses) ∙ sym lists ∙ large_number_moved unchanged loaded.clauses ∙ m in
-      absurd (marked_or_large table problem encoded.fresh number encodes.0 there)
-  prove_ends {own = own} distinct (is_loaded {problem = loaded} f h (is_unordered {why = why} i e x n)) = absurd (isnt_unordered own table distinct apart files command.root name command.order loaded problem h held (chosen table problem.signature command.order None) plain why n x)
-  prove_ends {own = own} distinct (is_loaded {loaded = before_marks} {problem = loaded} f h (is_searched {encoded = own_encoded} {spec = own_spec} {v = v} {s = s} {text = told_text} i e c x a)) = record {
+-- The encoding makes this table of the one that loading leaves, and the words name an order.
+module _ (files : Files) (loaded table : Table) (distinct : IsDistinct table) (command : Command) (name : List ℕ) (problem : Problem) (encoded : Encoded) (spec : OrderSpec) (held : IsLoaded files command.root name loaded problem) (adds : AddsMarks loaded table encoded.fresh) (encodes : Encodes table problem (Ok encoded)) (is_chosen : IsChosen table problem.signature command.order encoded.fresh spec) where
+  -- what is answered for the problem
+  answer_ends : {own : Table} {status : ℕ} {text : List ℕ} → IsDistinct own → Holds own files command.root name problem → IsProveAnswer own command name loaded problem status text → IsHeldAnswer files command name status text
+  answer_ends d h (has_large_goal {number = number} m g) = absurd (marked_or_large table problem encoded.fresh number encodes.0 m)
+  answer_ends {own = own} d h (is_unordered {encoded = other} {why = why} i e x n) =
+      let same : own ≡ table = marks_add_once problem loaded own table d distinct (signature_has loaded problem held.holds.agrees) other.fresh encoded.fresh i adds e.0 encodes.0 in
+      absurd (chosen_or_refused table problem.signature command.order encoded.fresh spec why n is_chosen (subst (λ (t : Table). IsChoiceFault t problem.signature command.order why) same x))
+  answer_ends {own = own} d h (is_searched {encoded = other} {spec = own_spec} {v = v} {s = s} {text = told_text} i e c x a) = record {
     table = own;
-    distinct = distinct;
-    loaded = before_marks;
-    problem = loaded;
-    filled = f;
+    distinct = d;
+    loaded = loaded;
+    problem = problem;
+    filled = held.filled;
     holds = h;
-    encoded = own_encoded;
+    encoded = other;
     adds = i;
     encodes = e;
     spec = own_spec;
@@ -68,16 +64,25 @@ module _ (files : Files) (before now : ℕ) (well : Rose before now → ⊥) (ta
     answer_is = refl;
   }
 
+  prove_ends : (before now : ℕ) → (Rose before now → ⊥) → {status : ℕ} {text : List ℕ} → ProveAnswers command name (Some files) before now status text → IsHeldAnswer files command name status text
+  prove_ends before now well (fetch_fails file rose stops) = absurd (well rose)
+  prove_ends before now well (is_refused why r e) = absurd (filled_or_refused files command.root name [] loaded problem held.filled r)
+  prove_ends before now well {status} {text} (is_loaded {loaded = flat} {table = own} {problem = other} c l d h a) =
+      let first = distinct_earlier loaded table (marks_grow loaded table encoded.fresh adds) distinct in
+      let one = loaded_once files command.root name loaded first problem held c l in
+      answer_ends d (subst (λ (p : Problem). Holds own files command.root name p) one.1 h)
+      (subst (λ (p : Problem). IsProveAnswer own command name loaded p status text) one.1 (subst (λ (t : Table). IsProveAnswer own command name t other status text) one.0 a))
+
 module _ (files : Files) (before now : ℕ) (well : Rose before now → ⊥) (words : List (List ℕ)) (old new : Option (List ℕ)) where
   whole : {status result : ℕ} {text : List ℕ} → MayAnswer (Some files) before now words status text → Appends old new text → result ≡ status → CompletesProve files words old new result
-  whole wants_memory written e command name table problem encoded spec reads is_prove one names apart held encodes is_chosen = rw e (lacks_memory written)
-  whole {status} {result} {text} (is_answer {table = own} distinct a) written e command name table problem encoded spec reads is_prove one names apart held encodes is_chosen = go (of_verb own (Some files) before now words verb.Prove is_prove reads a)
+  whole wants_memory written e command name loaded table problem encoded spec reads is_prove one names distinct held adds encodes is_chosen = rw e (lacks_memory written)
+  whole {status} {result} {text} (is_answer a) written e command name loaded table problem encoded spec reads is_prove one names distinct held adds encodes is_chosen = go (of_verb (Some files) before now words verb.Prove is_prove reads a)
     where
-      go : OfProve own (Some files) before now command status text → ProveEnds files command name old new result
+      go : OfProve (Some files) before now command status text → ProveEnds files command name old new result
       go (inl many) = absurd (many.0 one)
       go (inr p) =
-          let answer : ProveAnswers own command name (Some files) before now status text = subst (λ n. ProveAnswers own command n (Some files) before now status text) (only_name (sym p.2 ∙ names)) p.3 in
-          rw e (tells_verdict (prove_ends files before now well table apart command name problem encoded spec held encodes is_chosen distinct answer) written)
+          let answer : ProveAnswers command name (Some files) before now status text = subst (λ n. ProveAnswers command n (Some files) before now status text) (only_name (sym p.2 ∙ names)) p.3 in
+          rw e (tells_verdict (prove_ends files loaded table distinct command name problem encoded spec held adds encodes is_chosen before now well answer) written)
 
 pub prove_completes : (holds : Option Files) (before now : ℕ) (words : List (List ℕ)) (old new : Option (List ℕ)) (write_before write_now result : ℕ) → IsRun holds before now words old new write_before write_now result → (files : Files) → holds ≡ Some files → (Rose before now → ⊥) → (Rose write_before write_now → ⊥) → CompletesProve files words old new result
 prove_completes holds before now words old new write_before write_now result run files tells well told_well =

@@ -1,9 +1,10 @@
 -- A problem and the words of `prove` have one answer.
-use Rattle.std.proofs.Common.{ℕ, ◌≡◌, ◌≤◌, List, ◌++◌, codes, slice_get, Option, Some, None, Ok, refl, sym, ap, ap₂, ◌∙◌, subst}
+use Rattle.std.proofs.Common.{ℕ, ◌≡◌, ◌≤◌, List, [], ◌++◌, codes, slice_get, Option, Some, None, Ok, refl, sym, ap, ap₂, ◌∙◌, subst}
 use Rattle.uc_term.specs.declared.fresh.Fresh.{Fresh}
 use Rattle.uc_term.specs.Equations.{side_of}
 use Rattle.uc_term.specs.Positions.{IsPlaceOf}
 use Rattle.uc_term.specs.Table.{Table, IsDistinct}
+use Rattle.uc_term.specs.Gathering.{HasAll}
 use Rattle.uc_edge.specs.Files.{Files}
 use Rattle.uc_edge.specs.Faults.{Rose}
 use Rattle.uc_tstp.specs.Printing.{proof_text}
@@ -13,7 +14,10 @@ use Rattle.uc_problem.specs.Holds.{Agrees}
 use Rattle.uc_problem.specs.Marks.{Marks}
 use Rattle.uc_problem.specs.Encodes.{Encodes}
 use Rattle.uc_problem.proofs.Outcomes.{some_once}
-use Rattle.uc_problem.proofs.HoldsOnce.{problem_is_once, refusal_is_once, held_or_refused}
+use Rattle.uc_problem.specs.Filling.{AddsMarks}
+use Rattle.uc_problem.proofs.FreshMarks.{signature_has}
+use Rattle.uc_problem.proofs.AddedOnce.{marks_add_once}
+use Rattle.uc_problem.proofs.RefusedOnce.{refused_for_once, filled_or_refused}
 use Rattle.uc_problem.proofs.MarksOnce.{large_once, marked_or_large}
 use Rattle.uc_problem.proofs.EncodedOnce.{encoding_once}
 use Rattle.uc_order.specs.declared.spec.OrderSpec.{OrderSpec}
@@ -38,6 +42,7 @@ use Rattle.uc_top.specs.Lines.{load_line}
 use Rattle.uc_top.specs.Refusals.{large_line}
 use Rattle.uc_top.specs.OrderAnswers.{choice_line}
 use Rattle.uc_top.specs.ProveAnswers.{status_line, unloaded_word, overlap_line, IsLimitLine, budget_is_spent, limit_is_passed, pair_is_large, step_is_large, trace_if, opening_for, verdict_status, IsProofText, VerdictAnswers, is_proved, is_saturated, is_out, IsProveAnswer, has_large_goal, is_unordered, is_searched, ProveAnswers, fetch_fails, is_refused, is_loaded}
+use Rattle.uc_top.proofs.LoadedOnce.{loaded_once}
 use Rattle.uc_top.proofs.OnePath.{one_path}
 use Rattle.uc_top.proofs.OrderedAnswers.{is_signature}
 use Rattle.uc_top.proofs.OrderLaws.{spec_laws}
@@ -110,14 +115,36 @@ module _ (one_search : OneSearch) (table : Table) (distinct : IsDistinct table) 
         let by_state = subst (λ (u : State). VerdictAnswers table command name problem encoded spec u v told) (sym once.1) by_verdict in
         (ap verdict_status once.0, ap₂ (λ l u. l ++ trace_if command u) (verdict_once encoded e spec s a by_state) once.1)
 
+-- Two encodings make one table of the one that loading leaves.
+module _ (one_search : OneSearch) (command : Command) (some : 1 ≤ command.order.w0) (most : command.order.w0 ≤ 1000000) (name : List ℕ) where
+  module _ (loaded table other : Table) (distinct : IsDistinct table) (apart : IsDistinct other) (problem : Problem) (has : HasAll loaded problem.signature.symbols) (agrees : Agrees table problem) where
+    in_one : (fresh again : Option Fresh) {s t : ℕ} {a b : List ℕ} → AddsMarks loaded table fresh → Marks table problem (Ok fresh) → AddsMarks loaded other again → Marks other problem (Ok again) → IsProveAnswer table command name loaded problem s a → IsProveAnswer other command name loaded problem t b → (s ≡ t) × (a ≡ b)
+    in_one fresh again {t = t} {b = b} i m j n x y =
+        let same : other ≡ table = marks_add_once problem loaded other table apart distinct has again fresh j i n m in
+        prove_once one_search table distinct command some most name problem agrees x (subst (λ (u : Table). IsProveAnswer u command name loaded problem t b) same y)
+
+    prove_alike : {s t : ℕ} {a b : List ℕ} → IsProveAnswer table command name loaded problem s a → IsProveAnswer other command name loaded problem t b → (s ≡ t) × (a ≡ b)
+    prove_alike (has_large_goal {number = number} m g) (has_large_goal {number = place} n h) =
+        let numbers : place ≡ number = large_once table problem place number n m in
+        (refl, ap (λ goal. status_line (codes "InputError") name ++ large_line goal) (some_once g (ap (slice_get problem.clauses) (sym numbers) ∙ h)))
+    prove_alike (has_large_goal {number = number} m g) (is_unordered {encoded = encoded} i e x n) = absurd (marked_or_large other problem encoded.fresh number e.0 m)
+    prove_alike (has_large_goal {number = number} m g) (is_searched {encoded = encoded} i e c x v) = absurd (marked_or_large other problem encoded.fresh number e.0 m)
+    prove_alike (is_unordered {encoded = encoded} i e x n) (has_large_goal {number = number} m g) = absurd (marked_or_large table problem encoded.fresh number e.0 m)
+    prove_alike (is_searched {encoded = encoded} i e c x v) (has_large_goal {number = number} m g) = absurd (marked_or_large table problem encoded.fresh number e.0 m)
+    prove_alike (is_unordered {encoded = encoded} i e x n) (is_unordered {encoded = again} j d y m) = in_one encoded.fresh again.fresh i e.0 j d.0 (is_unordered i e x n) (is_unordered j d y m)
+    prove_alike (is_unordered {encoded = encoded} i e x n) (is_searched {encoded = again} j d k y b) = in_one encoded.fresh again.fresh i e.0 j d.0 (is_unordered i e x n) (is_searched j d k y b)
+    prove_alike (is_searched {encoded = encoded} i e c x a) (is_unordered {encoded = again} j d y m) = in_one encoded.fresh again.fresh i e.0 j d.0 (is_searched i e c x a) (is_unordered j d y m)
+    prove_alike (is_searched {encoded = encoded} i e c x a) (is_searched {encoded = again} j d k y b) = in_one encoded.fresh again.fresh i e.0 j d.0 (is_searched i e c x a) (is_searched j d k y b)
+
   -- the same from the files on
-  pub prove_answers_once : (files : Files) (before now : ℕ) → (Rose before now → ⊥) → {s t : ℕ} {a b : List ℕ} → ProveAnswers table command name (Some files) before now s a → ProveAnswers table command name (Some files) before now t b → (s ≡ t) × (a ≡ b)
-  prove_answers_once files before now well (fetch_fails file r f) y = absurd (well r)
-  prove_answers_once files before now well (is_refused why x e) (fetch_fails file r f) = absurd (well r)
-  prove_answers_once files before now well (is_refused why x e) (is_refused other y f) = (refl, ap (λ w. status_line (unloaded_word w) name ++ load_line w) (refusal_is_once table distinct files command.root name x y))
-  prove_answers_once files before now well (is_refused why x e) (is_loaded m y p) = absurd (held_or_refused table distinct files command.root name y x)
-  prove_answers_once files before now well (is_loaded l x p) (fetch_fails file r f) = absurd (well r)
-  prove_answers_once files before now well (is_loaded l x p) (is_refused why y e) = absurd (held_or_refused table distinct files command.root name x y)
-  prove_answers_once files before now well {t = t} {b = b} (is_loaded {problem = problem} l x p) (is_loaded {loaded = loaded} {problem = other} m y q) =
-      let same : other ≡ problem = problem_is_once table distinct files command.root name other problem y x in
-      prove_once problem x.agrees p (subst (λ (held : Problem). IsProveAnswer table command name loaded held t b) same q)
+  pub prove_answers_once : (files : Files) (before now again later : ℕ) {s t : ℕ} {a b : List ℕ} → (s ≡ 5 → Rose before now → ⊥) → (t ≡ 5 → Rose again later → ⊥) → ProveAnswers command name (Some files) before now s a → ProveAnswers command name (Some files) again later t b → (s ≡ t) × (a ≡ b)
+  prove_answers_once files before now again later v w (fetch_fails file rose stops) y = absurd (v refl rose)
+  prove_answers_once files before now again later v w (is_refused why x e) (fetch_fails file rose stops) = absurd (w refl rose)
+  prove_answers_once files before now again later v w (is_refused why x e) (is_refused other y f) = (refl, ap (λ u. status_line (unloaded_word u) name ++ load_line u) (refused_for_once files command.root name [] x y))
+  prove_answers_once files before now again later v w (is_refused why x e) (is_loaded {loaded = loaded} {problem = problem} d l c h p) = absurd (filled_or_refused files command.root name [] loaded problem l.filled x)
+  prove_answers_once files before now again later v w (is_loaded d l c h p) (fetch_fails file rose stops) = absurd (w refl rose)
+  prove_answers_once files before now again later v w (is_loaded {loaded = loaded} {problem = problem} d l c h p) (is_refused why y e) = absurd (filled_or_refused files command.root name [] loaded problem l.filled y)
+  prove_answers_once files before now again later {t = t} {b = b} v w (is_loaded {loaded = loaded} {table = table} {problem = problem} d l c h p) (is_loaded {loaded = flat} {table = other} {problem = held} e k f g q) =
+      let one = loaded_once files command.root name loaded d problem l e k in
+      let there = subst (λ (r : Problem). IsProveAnswer other command name loaded r t b) one.1 (subst (λ (u : Table). IsProveAnswer other command name u held t b) one.0 q) in
+      prove_alike loaded table other c f problem (signature_has loaded problem l.holds.agrees) h.agrees p there

@@ -20,6 +20,7 @@ use Rattle.uc_problem.specs.declared.problem.Encoded.{Encoded}
 use Rattle.uc_problem.specs.Holds.{Agrees, Holds, IsProblem, IsLoadFault}
 use Rattle.uc_problem.specs.Encodes.{Encodes, IsEncoded}
 use Rattle.uc_problem.specs.Filling.{WhereTold, IsFilled, AddsMarks}
+use Rattle.uc_problem.specs.Refusing.{IsStopped}
 use Rattle.uc_problem.specs.Marks.{Marks}
 use Rattle.uc_problem.proofs.MarksOnce.{marks_once}
 use Rattle.uc_term.specs.declared.fresh.Fresh.{Fresh}
@@ -44,7 +45,7 @@ use Rattle.uc_top.specs.Refusals.{load_status, large_line}
 use Rattle.uc_top.specs.PrintableProblems.{are_seen, IsRootSeen, CanBePrinted}
 use Rattle.uc_top.specs.ProveAnswers.{status_line, unloaded_word, verdict_status, trace_if, opening_for, HasEnded, VerdictAnswers, IsProveAnswer, has_large_goal, is_unordered, is_searched, ProveAnswers, fetch_fails, is_refused, is_loaded}
 use Rattle.uc_top.specs.ProveRuns.{Keeps, IsKept}
-use Rattle.uc_top.proofs.Answering.{one_line, refuses, fails, held_problem, large_within}
+use Rattle.uc_top.proofs.Answering.{one_line, not_loaded, is_held, large_within}
 use Rattle.uc_top.proofs.PrintableFiles.{held_printable}
 
 -- A STATUS ABOVE 2
@@ -75,39 +76,24 @@ high_status load.NoMemory = omega arith
 
 -- A PROBLEM THAT ISN'T LOADED
 
-module _ (table : Table) (command : Command) (name : List ℕ) (holds : Option Files) (before now : ℕ) where
-  refused : (o : Option Files) (why : LoadFault) → load_status why ≡ 3 → IsLoadFault table o before now command.root name why → ProveAnswers table command name o before now 3 (status_line (unloaded_word why) name ++ load_line why)
-  refused None why e h = is_refused why tt e
-  refused (Some files) why e h = is_refused why (refuses table before now (λ _ _ _. Unit {0}) command.root name files why e h) e
-
-  refused_clause : (file : List ℕ) (why : ClauseFault) → (load_status (load.Clause file why) ≡ 7 → ⊥) → IsLoadFault table holds before now command.root name (load.Clause file why) → ProveAnswers table command name holds before now (load_status (load.Clause file why)) (status_line (unloaded_word (load.Clause file why)) name ++ load_line (load.Clause file why))
-  refused_clause file (clause.Syntax p) n h = refused holds (load.Clause file (clause.Syntax p)) refl h
-  refused_clause file (clause.NotUnit p) n h = refused holds (load.Clause file (clause.NotUnit p)) refl h
-  refused_clause file (clause.NotEquality p) n h = refused holds (load.Clause file (clause.NotEquality p)) refl h
-  refused_clause file (clause.BadRole p w) n h = refused holds (load.Clause file (clause.BadRole p w)) refl h
-  refused_clause file (clause.Unsupported p w) n h = refused holds (load.Clause file (clause.Unsupported p w)) refl h
-  refused_clause file (clause.Limit p w) n h = refused holds (load.Clause file (clause.Limit p w)) refl h
-  refused_clause file clause.NoMemory n h = absurd (n refl)
-
-  not_loaded : (why : LoadFault) → (load_status why ≡ 7 → ⊥) → IsLoadFault table holds before now command.root name why → ProveAnswers table command name holds before now (load_status why) (status_line (unloaded_word why) name ++ load_line why)
-  not_loaded (load.Absent f from) n h = refused holds (load.Absent f from) refl h
-  not_loaded (load.ReadFault f) n h = fetch_fails f h.0 (fails table before now (λ _ _ _. Unit {0}) command.root name holds f h)
-  not_loaded (load.TooDeep f p) n h = refused holds (load.TooDeep f p) refl h
-  not_loaded (load.NoSuchName f p m) n h = refused holds (load.NoSuchName f p m) refl h
-  not_loaded (load.ArityClash f p m a b) n h = refused holds (load.ArityClash f p m a b) refl h
-  not_loaded (load.Limit f p w) n h = refused holds (load.Limit f p w) refl h
-  not_loaded (load.Clause f w) n h = refused_clause f w n h
-  not_loaded load.NoMemory n h = absurd (n refl)
-
-  pub unloaded : (why : LoadFault) (r : Result Answer AllocError) → IsLoadFault table holds before now command.root name why → IfOk r (λ answer. (answer.status ≡ load_status why) × (joined answer.lines ≡ status_line (unloaded_word why) name ++ load_line why)) → IfOk r (λ answer. answer.status ≡ 7 → ⊥) → IfOk r (λ answer. ProveAnswers table command name holds before now answer.status (joined answer.lines))
-  unloaded why (Ok answer) h line n = one_line (Ok answer) (ProveAnswers table command name holds before now) (load_status why) (status_line (unloaded_word why) name ++ load_line why) line (not_loaded why (λ e. n (line.0 ∙ e)) h)
-  unloaded why (Err fault) h line n = tt
+module _ (empty table : Table) (none : empty ≡ []) (command : Command) (name : List ℕ) (holds : Option Files) (before now : ℕ) where
+  pub unloaded : (why : LoadFault) (r : Result Answer AllocError) → IsLoadFault table holds before now command.root name why → WhereTold holds (λ files. IsStopped files command.root name empty why) → IfOk r (λ answer. (answer.status ≡ load_status why) × (joined answer.lines ≡ status_line (unloaded_word why) name ++ load_line why)) → IfOk r (λ answer. answer.status ≡ 7 → ⊥) → IfOk r (λ answer. ProveAnswers command name holds before now answer.status (joined answer.lines))
+  unloaded why (Ok answer) h s line n =
+      one_line (Ok answer) (ProveAnswers command name holds before now) (load_status why) (status_line (unloaded_word why) name ++ load_line why) line
+      (not_loaded command.root name table before now holds (λ status reason. ProveAnswers command name holds before now status (status_line (unloaded_word reason) name ++ load_line reason)) (λ file r x. fetch_fails file r x) (λ reason x e. is_refused reason x e) why (λ e. n (line.0 ∙ e)) h
+      (subst (λ (t : Table). WhereTold holds (λ files. IsStopped files command.root name t why)) none s))
+  unloaded why (Err fault) h s line n = tt
 
 -- A PROBLEM THAT IS LOADED
 
-pub loaded : (empty table later : Table) (command : Command) (name : List ℕ) (holds : Option Files) (before now : ℕ) (problem : Problem) (r : Result Answer AllocError) → empty ≡ [] → Grows table later → WhereTold holds (λ files. IsFilled files command.root name empty table problem) → IsProblem table holds command.root name problem → IfOk r (λ answer. IsProveAnswer later command name table problem answer.status (joined answer.lines)) → IfOk r (λ answer. ProveAnswers later command name holds before now answer.status (joined answer.lines))
-loaded empty table later command name holds before now problem (Ok answer) none g f h a = is_loaded (subst (λ (t : Table). WhereTold holds (λ files. IsFilled files command.root name t table problem)) none f) (held_problem table later holds command.root name problem g h) a
-loaded empty table later command name holds before now problem (Err fault) none g f h a = tt
+-- the problem, in a later table
+held_problem : (table later : Table) (holds : Option Files) (root : Option (List ℕ)) (name : List ℕ) (problem : Problem) → Grows table later → IsProblem table holds root name problem → WhereTold holds (λ files. Holds later files root name problem)
+held_problem table later None root name problem g h = tt
+held_problem table later (Some files) root name problem g h = h later g
+
+pub loaded : (empty table later : Table) (command : Command) (name : List ℕ) (holds : Option Files) (before now : ℕ) (problem : Problem) (r : Result Answer AllocError) → empty ≡ [] → Grows table later → IsDistinct table → WhereTold holds (λ files. IsFilled files command.root name empty table problem) → IsProblem table holds command.root name problem → IfOk r (λ answer. IsProveAnswer later command name table problem answer.status (joined answer.lines)) → IsDistinct later → IfOk r (λ answer. ProveAnswers command name holds before now answer.status (joined answer.lines))
+loaded empty table later command name holds before now problem (Ok answer) none g d f h a distinct = is_loaded d (is_held empty table holds command.root name problem none f h) distinct (held_problem table later holds command.root name problem g h) a
+loaded empty table later command name holds before now problem (Err fault) none g d f h a distinct = tt
 
 -- visible bytes and spaces end no line
 byte_in_line : (b : ℕ) → 32 ≤ b → in_line b ≡ true

@@ -137,10 +137,10 @@ short_at (w ∷ ws) zero word h at short = subst (λ (x : List ℕ). length x < 
 short_at (w ∷ ws) (suc i) word h at short = short_at ws i word (omega (arith, h)) at short.1
 
 module _ (known : List Sym) (words : List (List ℕ)) (number : ℕ) (word : List ℕ) (questions : List (Tree × Tree)) where
-  pub first_fault : (old new : Table) (why : WordFault) → number < length words → word ≡ get_or words number word → Grows old new → AreQuestions old known (take number words) questions → IsQuestionFault new known word why → IsFirstFault new known words number why
-  first_fault old new why h at g qs fault = record {
+  pub first_fault : (table : Table) (why : WordFault) → number < length words → word ≡ get_or words number word → AreQuestions table known (take number words) questions → IsQuestionFault table known word why → IsFirstFault table known words number why
+  first_fault table why h at qs fault = record {
     before = questions;
-    are_questions = questions_later old new known g qs;
+    are_questions = qs;
     word = word;
     word_is = slice_get-get_or words number word h ∙ ap Some (sym at);
     fault = fault;

@@ -6,6 +6,7 @@ use Rattle.uc_term.specs.declared.node.Node.TheVariants.{App}
 use Rattle.uc_term.specs.Tree.{Tree}
 use Rattle.uc_term.specs.Flat.{flat}
 use Rattle.uc_term.specs.Table.{Table, IsDistinct, name_of}
+use Rattle.uc_term.specs.Gathering.{HasAll}
 use Rattle.uc_clause.specs.declared.token.Place.{Place}
 use Rattle.uc_clause.specs.declared.fault.ClauseFault.{ClauseFault}
 use Rattle.uc_clause.specs.declared.fault.ClauseFault.TheVariants.{Syntax}
@@ -17,6 +18,8 @@ use Rattle.uc_clause.specs.Items.{term_alone}
 use Rattle.uc_clause.specs.Reading.{ReadsTerm, SaysTerm, Refuses, isnt_tokens, isnt_read}
 use Rattle.uc_clause.proofs.Once.{tokens_once, tokens_or_stops, stops_once}
 use Rattle.uc_clause.proofs.Alone.{term_alone_once, says_term_once}
+use Rattle.uc_clause.proofs.InternedOnce.{term_interns_once}
+use Rattle.uc_problem.proofs.Later.{Grows-refl}
 use Rattle.uc_check.specs.Clauses.{axioms_of}
 use Rattle.uc_problem.specs.declared.problem.Problem.{Problem}
 use Rattle.uc_fact.specs.declared.chain.Step.{Step}
@@ -33,6 +36,8 @@ use Rattle.uc_top.specs.TermWords.{first_foreign, IsTermWord, HasForeign, IsWord
 use Rattle.uc_top.specs.OrderAnswers.{choice_line}
 use Rattle.uc_top.specs.RewriteAnswers.{word_line, term_line, step_line, stop_line, stop_status, AreChained, no_step, one_step, AreNormalLines, IsNormalFor, IsRewritten, is_unordered, is_no_term, is_normalised}
 use Rattle.uc_top.proofs.OnePath.{one_path}
+use Rattle.uc_top.proofs.InternedDistinct.{read_term_distinct}
+use Rattle.uc_top.proofs.GroundQuestions.{word_keeps}
 
 same_stop : {why other : Why} {k l : ℕ} → Path (Outcome Parse) (stop why k) (stop other l) → (why ≡ other) × (k ≡ l)
 same_stop e = (cc, cc)
@@ -94,24 +99,31 @@ module _ (word : List ℕ) where
       known_or_foreign : {t : Tree} {p : Place} {m : List ℕ} → IsTermWord table known word t → HasForeign table known word p m → ⊥
       known_or_foreign k a = some_or_none a.is_first (ap (first_foreign known) (same_term k.reads a.reads distinct) ∙ k.is_known)
 
-      pub fault_once : (a b : WordFault) → (a ≡ NoMemory → ⊥) → (b ≡ NoMemory → ⊥) → IsWordFault table known word a → IsWordFault table known word b → a ≡ b
-      fault_once (Unread e) (Unread f) na nb x y = ap Unread (term_refused_once x y)
-      fault_once (Unread e) (UnknownSymbol p m) na nb x y = absurd (term_or_refused y.reads x)
-      fault_once (UnknownSymbol p m) (Unread f) na nb x y = absurd (term_or_refused x.reads y)
-      fault_once (UnknownSymbol p m) (UnknownSymbol q n) na nb x y = let s = foreign_once x y in ap₂ UnknownSymbol s.0 s.1
-      fault_once (NotGround p) b na nb x y = absurd x
-      fault_once a (NotGround q) na nb x y = absurd y
-      fault_once NoMemory b na nb x y = absurd (na refl)
-      fault_once a NoMemory na nb x y = absurd (nb refl)
-
-      pub term_or_fault : (e : WordFault) (t : Tree) → (e ≡ NoMemory → ⊥) → IsTermWord table known word t → IsWordFault table known word e → ⊥
-      term_or_fault (Unread why) t n k x = term_or_refused k.reads x
-      term_or_fault (UnknownSymbol p m) t n k x = known_or_foreign k x
-      term_or_fault (NotGround p) t n k x = x
-      term_or_fault NoMemory t n k x = n refl
-
       pub term_once : (t u : Tree) → IsTermWord table known word t → IsTermWord table known word u → u ≡ t
       term_once t u k l = same_term k.reads l.reads distinct
+
+-- by the table before the word is read, which has the known symbols
+module _ (word : List ℕ) (table : Table) (distinct : IsDistinct table) (known : List Sym) (has : HasAll table known) where
+  fault_once : (a b : WordFault) → (a ≡ NoMemory → ⊥) → (b ≡ NoMemory → ⊥) → IsWordFault table known word a → IsWordFault table known word b → a ≡ b
+  fault_once (Unread e) (Unread f) na nb x y = ap Unread (term_refused_once word x y)
+  fault_once (Unread e) (UnknownSymbol p m) na nb x y = absurd (term_or_refused word y.0 y.2.reads x)
+  fault_once (UnknownSymbol p m) (Unread f) na nb x y = absurd (term_or_refused word x.0 x.2.reads y)
+  fault_once (UnknownSymbol p m) (UnknownSymbol q n) na nb x y =
+      let same : y.0 ≡ x.0 = term_interns_once y.1 x.1 in
+      let s = foreign_once word x.0 (read_term_distinct word table x.0 x.1 distinct) known x.2 (subst (λ (t : Table). HasForeign t known word q n) same y.2) in
+      ap₂ UnknownSymbol s.0 s.1
+  fault_once (NotGround p) b na nb x y = absurd x
+  fault_once a (NotGround q) na nb x y = absurd y
+  fault_once NoMemory b na nb x y = absurd (na refl)
+  fault_once a NoMemory na nb x y = absurd (nb refl)
+
+  term_or_fault : (e : WordFault) (t : Tree) → (e ≡ NoMemory → ⊥) → IsTermWord table known word t → IsWordFault table known word e → ⊥
+  term_or_fault (Unread why) t n k x = term_or_refused word table k.reads x
+  term_or_fault (UnknownSymbol p m) t n k x =
+      let same : x.0 ≡ table = word_keeps table table known (Grows-refl table) has word t x.0 x.1 k in
+      known_or_foreign word table distinct known k (subst (λ (u : Table). HasForeign u known word p m) same x.2)
+  term_or_fault (NotGround p) t n k x = x
+  term_or_fault NoMemory t n k x = n refl
 
 module _ (table : Table) where
   pub chained_once : {t : Tree} {steps : List Step} {a b : List ℕ} → AreChained table t steps a → AreChained table t steps b → a ≡ b
@@ -121,16 +133,22 @@ module _ (table : Table) where
   lines_once : (normal : Normal) {a b : List ℕ} → AreNormalLines table normal a → AreNormalLines table normal b → a ≡ b
   lines_once normal x y = x.2 ∙ ap (λ lines. term_line table normal.chain.start ++ lines ++ stop_line normal.stop) (chained_once x.1 y.1) ∙ sym y.2
 
-  module _ (distinct : IsDistinct table) (words : OrderWords) (limit : ℕ) (word : List ℕ) (problem : Problem) where
+  module _ (distinct : IsDistinct table) (words : OrderWords) (limit : ℕ) (word : List ℕ) (problem : Problem) (has : HasAll table problem.signature.symbols) where
+    pub no_term_once : (why other : WordFault) → (why ≡ NoMemory → ⊥) → (other ≡ NoMemory → ⊥) → IsWordFault table problem.signature.symbols word why → IsWordFault table problem.signature.symbols word other → why ≡ other
+    no_term_once why other n m x y = fault_once word table distinct problem.signature.symbols has why other n m x y
+
+    pub isnt_both : (why : WordFault) (t : Tree) → (why ≡ NoMemory → ⊥) → IsTermWord table problem.signature.symbols word t → IsWordFault table problem.signature.symbols word why → ⊥
+    isnt_both why t n k x = term_or_fault word table distinct problem.signature.symbols has why t n k x
+
     pub rewritten_once : {s t : ℕ} {a b : List ℕ} → IsRewritten table words limit word problem s a → IsRewritten table words limit word problem t b → (s ≡ t) × (a ≡ b)
     rewritten_once (is_unordered {why = why} x n) (is_unordered {why = other} y m) = (refl, ap choice_line (refusal_once table problem.signature words why other n m x y))
     rewritten_once (is_unordered {why = why} x n) (is_no_term spec y k m) = absurd (chosen_or_refused table problem.signature words None spec why n y x)
     rewritten_once (is_unordered {why = why} x n) (is_normalised spec normal y k m l) = absurd (chosen_or_refused table problem.signature words None spec why n y x)
     rewritten_once (is_no_term spec x k m) (is_unordered {why = why} y n) = absurd (chosen_or_refused table problem.signature words None spec why n x y)
     rewritten_once (is_normalised spec normal x k m l) (is_unordered {why = why} y n) = absurd (chosen_or_refused table problem.signature words None spec why n x y)
-    rewritten_once (is_no_term {why = why} spec x k m) (is_no_term {why = other} spec' y l n) = (refl, ap (word_line 0) (fault_once word table distinct problem.signature.symbols why other m n k l))
-    rewritten_once (is_no_term {why = why} spec x k m) (is_normalised {t = t} other normal y l p q) = absurd (term_or_fault word table distinct problem.signature.symbols why t m l k)
-    rewritten_once (is_normalised {t = t} spec normal x l p q) (is_no_term {why = why} other y k m) = absurd (term_or_fault word table distinct problem.signature.symbols why t m l k)
+    rewritten_once (is_no_term {why = why} spec x k m) (is_no_term {why = other} spec' y l n) = (refl, ap (word_line 0) (no_term_once why other m n k l))
+    rewritten_once (is_no_term {why = why} spec x k m) (is_normalised {t = t} other normal y l p q) = absurd (isnt_both why t m l k)
+    rewritten_once (is_normalised {t = t} spec normal x l p q) (is_no_term {why = why} other y k m) = absurd (isnt_both why t m l k)
     rewritten_once {b = b} (is_normalised {t = t} spec normal x k n l) (is_normalised {t = u} other normal' y k' n' l') =
         let specs : other ≡ spec = order_once table problem.signature words None other spec y x in
         let terms : u ≡ t = term_once word table distinct problem.signature.symbols t u k k' in

@@ -44,9 +44,13 @@ module _ (table : Table) (spec : OrderSpec) where
       subst (λ (u : Tree). IsOf table u × ArePrintable table u normal.chain.steps) (sym n.start) (is_of, steps)
 
 module _ (table : Table) (words : OrderWords) (limit : ℕ) (word : List ℕ) (problem : Problem) where
-  pub rewritten : (spec : OrderSpec) (t : Tree) (r : Result Answer AllocError) → IsChosen table problem.signature words None spec → IsTermWord table problem.signature.symbols word t → IfOk r (λ answer. (normal : Normal) × IsNormalFor table spec limit problem t normal × (answer.status ≡ stop_status normal.stop) × AreNormalLines table normal (joined answer.lines)) → IfOk r (λ answer. IsRewritten table words limit word problem answer.status (joined answer.lines))
-  rewritten spec t (Ok answer) chosen is_term h = rw h.2 (is_normalised spec h.0 chosen is_term h.1 h.3)
-  rewritten spec t (Err fault) chosen is_term h = tt
+  -- the table in which the word is read is still the one before
+  pub rewritten : (read : Table) → read ≡ table → (spec : OrderSpec) (t : Tree) (r : Result Answer AllocError) → IsChosen table problem.signature words None spec → IsTermWord read problem.signature.symbols word t → IfOk r (λ answer. (normal : Normal) × IsNormalFor read spec limit problem t normal × (answer.status ≡ stop_status normal.stop) × AreNormalLines read normal (joined answer.lines)) → IfOk r (λ answer. IsRewritten table words limit word problem answer.status (joined answer.lines))
+  rewritten read kept spec t (Ok answer) chosen is_term h =
+      let known = subst (λ (u : Table). IsTermWord u problem.signature.symbols word t) kept is_term in
+      let k = subst (λ (u : Table). (normal : Normal) × IsNormalFor u spec limit problem t normal × (answer.status ≡ stop_status normal.stop) × AreNormalLines u normal (joined answer.lines)) kept h in
+      rw k.2 (is_normalised spec k.0 chosen known k.1 k.3)
+  rewritten read kept spec t (Err fault) chosen is_term h = tt
 
   pub no_term : (spec : OrderSpec) (why : WordFault) (r : Result Answer AllocError) → IsChosen table problem.signature words None spec → IsWordFault table problem.signature.symbols word why → IfOk r (λ answer. (answer.status ≡ 3) × (joined answer.lines ≡ word_line 0 why)) → IfOk r (λ _. why ≡ NoMemory → ⊥) → IfOk r (λ answer. IsRewritten table words limit word problem answer.status (joined answer.lines))
   no_term spec why (Ok answer) chosen fault line n = one_line (Ok answer) (IsRewritten table words limit word problem) 3 (word_line 0 why) line (is_no_term spec chosen fault n)

@@ -1,23 +1,25 @@
 -- What the program answers: its status and its text, for the words of the command line and the files of a library.
 use Rattle.std.specs.Prelude.{ℕ, ◌≡◌, ◌+◌, List, [], ◌∷◌, take, codes, slice_get, Option, Some, None, Ok, Err}
 use Rattle.uc_term.specs.declared.fresh.Fresh.{Fresh}
-use Rattle.uc_term.specs.Table.{Table}
+use Rattle.uc_term.specs.Table.{Table, IsDistinct}
 use Rattle.uc_edge.specs.Files.{Files}
 use Rattle.uc_edge.specs.Faults.{Rose}
 use Rattle.uc_edge.specs.declared.library.Fetched.{Fetched}
 use Rattle.uc_edge.specs.declared.library.Fetched.TheVariants.{Found, Absent, Failed}
 use Rattle.uc_clause.specs.declared.clause.Sourced.{Sourced}
 use Rattle.uc_problem.specs.declared.fault.LoadFault.{LoadFault}
+use Rattle.uc_problem.specs.declared.fault.LoadFault.TheVariants as load
 use Rattle.uc_problem.specs.declared.fault.EncodeFault.TheVariants.{GoalTooLarge}
 use Rattle.uc_problem.specs.declared.problem.Problem.{Problem}
 use Rattle.uc_problem.specs.Loading.{held}
-use Rattle.uc_problem.specs.Holds.{Holds, Refuses, FailsAt}
+use Rattle.uc_problem.specs.Refusing.{Stops, IsRefused}
 use Rattle.uc_problem.specs.Marks.{Marks}
-use Rattle.uc_problem.specs.Filling.{WhereTold, IsFilled}
+use Rattle.uc_problem.specs.Filling.{WhereTold, AddsMarks}
 use Rattle.uc_tstp.specs.declared.fault.ProofFault.{ProofFault}
 use Rattle.uc_tstp.specs.Framing.{max_proof}
 use Rattle.uc_tstp.specs.declared.fault.ProofFault.TheVariants.{NoMemory}
 use Rattle.uc_tstp.specs.Reading.{IsReading}
+use Rattle.uc_tstp.specs.Interning.{InternsProof}
 use Rattle.uc_check.specs.declared.checker.Checked.{Checked}
 use Rattle.uc_check.specs.declared.checker.Checked.TheVariants.{Accepted, Rejected}
 use Rattle.uc_check.specs.declared.proof.Proof.{Proof}
@@ -29,6 +31,7 @@ use Rattle.uc_words.specs.declared.command.Verb.TheVariants as verb
 use Rattle.uc_words.specs.Reads.{Reads}
 use Rattle.uc_top.specs.Lines.{about_file, load_line, proof_line, checked_line, shown_lines, usage_line}
 use Rattle.uc_top.specs.Refusals.{load_status, large_line}
+use Rattle.uc_top.specs.Loaded.{IsLoaded}
 use Rattle.uc_top.specs.OrderAnswers.{IsOrdered}
 use Rattle.uc_top.specs.RewriteAnswers.{IsRewritten}
 use Rattle.uc_top.specs.PairsAnswers.{IsPaired}
@@ -65,11 +68,12 @@ IsSearching other = ⊥
 
 -- Symbols are those of this table.
 module _ (table : Table) where
-  -- the answer to `check` for the clauses and the encoding's symbols of a problem and for the text of a proof file of this name
+  -- The answer to `check` for the clauses and the encoding's symbols of a problem and for the text of a proof file of this name. A
+  -- proof is read in the table that its text makes of this one; why a text is none doesn't depend on the table.
   module _ (clauses : List Sourced) (marks : Option Fresh) (name text : List ℕ) where
     pub data TextAnswers : ℕ → List ℕ → Type 0 where
-      is_not_read : {why : ProofFault} → IsReading table text (Err why) → (why ≡ NoMemory → ⊥) → TextAnswers 3 (proof_line name why)
-      is_checked : {proof : Proof} {answer : Checked} → IsReading table text (Ok proof) → IsChecked clauses marks proof.lines answer → TextAnswers (checked_status answer) (checked_line proof.lines answer)
+      is_not_read : (read : Table) {why : ProofFault} → IsReading read text (Err why) → (why ≡ NoMemory → ⊥) → TextAnswers 3 (proof_line name why)
+      is_checked : {read : Table} {proof : Proof} {answer : Checked} → InternsProof text table read → IsReading read text (Ok proof) → IsChecked clauses marks proof.lines answer → TextAnswers (checked_status answer) (checked_line proof.lines answer)
 
   -- the answer to `show` for a problem: all its clauses, each on a line
   abbrev pub IsShown : Problem → ℕ → List ℕ → Type 0
@@ -84,60 +88,58 @@ module _ (table : Table) where
         isnt_fetched : Rose before now → ProofAnswers 5 (about_file name (codes "ReadFault"))
         is_found : {text : List ℕ} {status : ℕ} {answer : List ℕ} → WhereTold holds (λ files. held files name ≡ Some text) → TextAnswers clauses marks name text status answer → ProofAnswers status answer
 
-    -- the answer for a problem and the proof file of this name
-    module _ (problem : Problem) (proof : List ℕ) where
-      pub data ProblemAnswers : ℕ → List ℕ → Type 0 where
-        has_large_goal : {number : ℕ} {goal : Sourced} → Marks table problem (Err (GoalTooLarge number)) → slice_get problem.clauses number ≡ Some goal → ProblemAnswers 3 (large_line goal)
-        is_marked : {marks : Option Fresh} {status : ℕ} {answer : List ℕ} → Marks table problem (Ok marks) → ProofAnswers problem.clauses marks proof status answer → ProblemAnswers status answer
+-- The library's files are these, where it tells them, and its count of faults was and is this.
+module _ (holds : Option Files) (before now : ℕ) where
+  -- The answer to `check` for a proof file of this name and a problem, whose symbols are those of the table that loading it leaves.
+  -- The encoding's symbols make a table of that.
+  module _ (proof : List ℕ) (loaded : Table) (problem : Problem) where
+    pub data ProblemAnswers : ℕ → List ℕ → Type 0 where
+      has_large_goal : {number : ℕ} {goal : Sourced} → Marks loaded problem (Err (GoalTooLarge number)) → slice_get problem.clauses number ≡ Some goal → ProblemAnswers 3 (large_line goal)
+      is_marked : {table : Table} {marks : Option Fresh} {status : ℕ} {answer : List ℕ} → IsDistinct table → AddsMarks loaded table marks → Marks table problem (Ok marks) → ProofAnswers table holds before now problem.clauses marks proof status answer → ProblemAnswers status answer
 
-    -- the answer to a command that loads the problem file of this name, with this root, and answers so for the problem
-    module _ (AnswersFor : Problem → ℕ → List ℕ → Type 0) (root : Option (List ℕ)) (name : List ℕ) where
-      pub data LoadAnswers : ℕ → List ℕ → Type 0 where
-        fetch_fails : (file : List ℕ) → Rose before now → WhereTold holds (λ files. FailsAt table files root name file) → LoadAnswers 5 (about_file file (codes "ReadFault"))
-        is_refused : (why : LoadFault) → WhereTold holds (λ files. Refuses table files root name why) → load_status why ≡ 3 → LoadAnswers 3 (load_line why)
-        is_loaded : {problem : Problem} {status : ℕ} {answer : List ℕ} → WhereTold holds (λ files. Holds table files root name problem) → AnswersFor problem status answer → LoadAnswers status answer
+  -- The answer to a command that loads the problem file of this name, with this root, and answers so for the problem, whose symbols
+  -- are those of the table that loading it leaves.
+  module _ (AnswersFor : Table → Problem → ℕ → List ℕ → Type 0) (root : Option (List ℕ)) (name : List ℕ) where
+    pub data LoadAnswers : ℕ → List ℕ → Type 0 where
+      fetch_fails : (file : List ℕ) → Rose before now → WhereTold holds (λ files. Stops files (Some file) root name (load.ReadFault file)) → LoadAnswers 5 (about_file file (codes "ReadFault"))
+      is_refused : (why : LoadFault) → WhereTold holds (λ files. IsRefused files root name [] why) → load_status why ≡ 3 → LoadAnswers 3 (load_line why)
+      is_loaded : {table : Table} {problem : Problem} {status : ℕ} {answer : List ℕ} → IsDistinct table → WhereTold holds (λ files. IsLoaded files root name table problem) → AnswersFor table problem status answer → LoadAnswers status answer
 
-    -- the answer to `check` for the problem file and the proof file of these names, with this root
-    abbrev pub CheckAnswers : Option (List ℕ) → List ℕ → List ℕ → ℕ → List ℕ → Type 0
-    CheckAnswers root name proof = LoadAnswers (λ problem. ProblemAnswers problem proof) root name
+  -- the answer to `check` for the problem file and the proof file of these names, with this root
+  abbrev pub CheckAnswers : Option (List ℕ) → List ℕ → List ℕ → ℕ → List ℕ → Type 0
+  CheckAnswers root name proof = LoadAnswers (ProblemAnswers proof) root name
 
-    -- the answer to `show` for the problem file of this name, with this root
-    abbrev pub ShowAnswers : Option (List ℕ) → List ℕ → ℕ → List ℕ → Type 0
-    ShowAnswers root name = LoadAnswers IsShown root name
+  -- the answer to `show` for the problem file of this name, with this root
+  abbrev pub ShowAnswers : Option (List ℕ) → List ℕ → ℕ → List ℕ → Type 0
+  ShowAnswers root name = LoadAnswers IsShown root name
 
-    -- the answer to `order` for the problem file of this name, by the order that these words name, with this root
-    abbrev pub OrderAnswers : OrderWords → Option (List ℕ) → List ℕ → ℕ → List ℕ → Type 0
-    OrderAnswers order root name = LoadAnswers (IsOrdered table order) root name
+  -- the answer to `order` for the problem file of this name, by the order that these words name, with this root
+  abbrev pub OrderAnswers : OrderWords → Option (List ℕ) → List ℕ → ℕ → List ℕ → Type 0
+  OrderAnswers order root name = LoadAnswers (λ table. IsOrdered table order) root name
 
-    -- the answer to `rewrite` for the problem file of this name and this word, by the order that these words name and with this
-    -- limit on the steps, with this root
-    abbrev pub RewriteAnswers : OrderWords → ℕ → List ℕ → Option (List ℕ) → List ℕ → ℕ → List ℕ → Type 0
-    RewriteAnswers order limit word root name = LoadAnswers (IsRewritten table order limit word) root name
+  -- the answer to `rewrite` for the problem file of this name and this word, by the order that these words name and with this
+  -- limit on the steps, with this root
+  abbrev pub RewriteAnswers : OrderWords → ℕ → List ℕ → Option (List ℕ) → List ℕ → ℕ → List ℕ → Type 0
+  RewriteAnswers order limit word root name = LoadAnswers (λ table. IsRewritten table order limit word) root name
 
-    -- the answer to `pairs` for the problem file of this name, by the order that these words name, with this root
-    abbrev pub PairsAnswers : OrderWords → Option (List ℕ) → List ℕ → ℕ → List ℕ → Type 0
-    PairsAnswers order root name = LoadAnswers (IsPaired table order) root name
+  -- the answer to `pairs` for the problem file of this name, by the order that these words name, with this root
+  abbrev pub PairsAnswers : OrderWords → Option (List ℕ) → List ℕ → ℕ → List ℕ → Type 0
+  PairsAnswers order root name = LoadAnswers (λ table. IsPaired table order) root name
 
-    -- the answer to `decide` for a problem that is loaded, by the table that loading leaves
-    pub record IsDecidedLoaded (command : Command) (name : List ℕ) (questions : List (List ℕ)) (problem : Problem) (status : ℕ) (answer : List ℕ) : Type 0 where
-      pub loaded : Table
-      pub filled : WhereTold holds (λ files. IsFilled files command.root name [] loaded problem)
-      pub decided : IsDecided table command name questions loaded problem status answer
+  -- the answer to `decide` for the problem file of this name and these questions, by one worker
+  abbrev pub DecideAnswers : Command → List ℕ → List (List ℕ) → ℕ → List ℕ → Type 0
+  DecideAnswers command name questions = LoadAnswers (λ table. IsDecided table command name questions) command.root name
 
-    -- the answer to `decide` for the problem file of this name and these questions, by one worker
-    abbrev pub DecideAnswers : Command → List ℕ → List (List ℕ) → ℕ → List ℕ → Type 0
-    DecideAnswers command name questions = LoadAnswers (IsDecidedLoaded command name questions) command.root name
-
-    -- the answer to the words of a command line; each command that is built has a case
-    module _ (words : List (List ℕ)) where
-      pub data Answers : ℕ → List ℕ → Type 0 where
-        has_no_reading : ((command : Command) → Reads words command → ⊥) → Answers 4 usage_line
-        isnt_built : {command : Command} → Reads words command → (IsBuilt command.verb → ⊥) → Answers 4 usage_line
-        has_many_workers : {command : Command} → Reads words command → IsSearching command.verb → (command.workers ≡ 1 → ⊥) → Answers 4 usage_line
-        checks : {command : Command} {name proof : List ℕ} {status : ℕ} {answer : List ℕ} → Reads words command → command.verb ≡ verb.Check → command.positionals ≡ name ∷ proof ∷ [] → CheckAnswers command.root name proof status answer → Answers status answer
-        shows : {command : Command} {name : List ℕ} {status : ℕ} {answer : List ℕ} → Reads words command → command.verb ≡ verb.Show → command.positionals ≡ name ∷ [] → ShowAnswers command.root name status answer → Answers status answer
-        orders : {command : Command} {name : List ℕ} {status : ℕ} {answer : List ℕ} → Reads words command → command.verb ≡ verb.Order → command.positionals ≡ name ∷ [] → OrderAnswers command.order command.root name status answer → Answers status answer
-        rewrites : {command : Command} {name word : List ℕ} {status : ℕ} {answer : List ℕ} → Reads words command → command.verb ≡ verb.Rewrite → command.positionals ≡ name ∷ word ∷ [] → RewriteAnswers command.order command.limit word command.root name status answer → Answers status answer
-        pairs_up : {command : Command} {name : List ℕ} {status : ℕ} {answer : List ℕ} → Reads words command → command.verb ≡ verb.Pairs → command.positionals ≡ name ∷ [] → PairsAnswers command.order command.root name status answer → Answers status answer
-        proves : {command : Command} {name : List ℕ} {status : ℕ} {answer : List ℕ} → Reads words command → command.verb ≡ verb.Prove → command.workers ≡ 1 → command.positionals ≡ name ∷ [] → ProveAnswers table command name holds before now status answer → Answers status answer
-        decides : {command : Command} {name : List ℕ} {questions : List (List ℕ)} {status : ℕ} {answer : List ℕ} → Reads words command → command.verb ≡ verb.Decide → command.workers ≡ 1 → command.positionals ≡ name ∷ questions → DecideAnswers command name questions status answer → Answers status answer
+  -- the answer to the words of a command line; each command that is built has a case
+  module _ (words : List (List ℕ)) where
+    pub data Answers : ℕ → List ℕ → Type 0 where
+      has_no_reading : ((command : Command) → Reads words command → ⊥) → Answers 4 usage_line
+      isnt_built : {command : Command} → Reads words command → (IsBuilt command.verb → ⊥) → Answers 4 usage_line
+      has_many_workers : {command : Command} → Reads words command → IsSearching command.verb → (command.workers ≡ 1 → ⊥) → Answers 4 usage_line
+      checks : {command : Command} {name proof : List ℕ} {status : ℕ} {answer : List ℕ} → Reads words command → command.verb ≡ verb.Check → command.positionals ≡ name ∷ proof ∷ [] → CheckAnswers command.root name proof status answer → Answers status answer
+      shows : {command : Command} {name : List ℕ} {status : ℕ} {answer : List ℕ} → Reads words command → command.verb ≡ verb.Show → command.positionals ≡ name ∷ [] → ShowAnswers command.root name status answer → Answers status answer
+      orders : {command : Command} {name : List ℕ} {status : ℕ} {answer : List ℕ} → Reads words command → command.verb ≡ verb.Order → command.positionals ≡ name ∷ [] → OrderAnswers command.order command.root name status answer → Answers status answer
+      rewrites : {command : Command} {name word : List ℕ} {status : ℕ} {answer : List ℕ} → Reads words command → command.verb ≡ verb.Rewrite → command.positionals ≡ name ∷ word ∷ [] → RewriteAnswers command.order command.limit word command.root name status answer → Answers status answer
+      pairs_up : {command : Command} {name : List ℕ} {status : ℕ} {answer : List ℕ} → Reads words command → command.verb ≡ verb.Pairs → command.positionals ≡ name ∷ [] → PairsAnswers command.order command.root name status answer → Answers status answer
+      proves : {command : Command} {name : List ℕ} {status : ℕ} {answer : List ℕ} → Reads words command → command.verb ≡ verb.Prove → command.workers ≡ 1 → command.positionals ≡ name ∷ [] → ProveAnswers command name holds before now status answer → Answers status answer
+      decides : {command : Command} {name : List ℕ} {questions : List (List ℕ)} {status : ℕ} {answer : List ℕ} → Reads words command → command.verb ≡ verb.Decide → command.workers ≡ 1 → command.positionals ≡ name ∷ questions → DecideAnswers command name questions status answer → Answers status answer

@@ -28,6 +28,7 @@ use Rattle.uc_ordering.specs.Choice.{IsChosen}
 use Rattle.uc_ordering.specs.Meaning.{meaning_of}
 use Rattle.uc_top.specs.declared.term_word.WordFault.{WordFault}
 use Rattle.uc_top.specs.declared.term_word.WordFault.TheVariants.{NoMemory}
+use Rattle.uc_top.specs.Loaded.{IsLoaded}
 use Rattle.uc_top.specs.Lines.{memory_line}
 use Rattle.uc_top.specs.RewriteAnswers.{word_line}
 use Rattle.uc_top.specs.QuestionWords.{AreQuestions, IsFirstFault}
@@ -145,14 +146,14 @@ pub data QuestionsEnd (files : Files) (command : Command) (name : List ℕ) (wor
   tells_answer : {status : ℕ} {answer : List ℕ} → IsHeldDecision files command name words status answer → Appends old new answer → QuestionsEnd files command name words old new status
   lacks_memory : Appends old new memory_line → QuestionsEnd files command name words old new 7
 
--- How `decide` ends for a problem and words, by what the words are in one table.
+-- How `decide` ends for a problem and words, by what the words are.
 pub record DecideEnds (table : Table) (files : Files) (command : Command) (name : List ℕ) (problem : Problem) (words : List (List ℕ)) (old new : Option (List ℕ)) (result : ℕ) : Type 0 where
   -- they are questions over the problem's signature
   pub asked : (questions : List (Tree × Tree)) → AreQuestions table problem.signature.symbols words questions → QuestionsEnd files command name words old new result
   -- one is none
   pub no_question : (number : ℕ) (why : WordFault) → IsFirstFault table problem.signature.symbols words number why → (why ≡ NoMemory → ⊥) → EndsWith 3 (word_line number why) old new result
 
--- Where the words of `decide`, with one worker, name an order for a problem that the files hold, in whatever table without an entry
--- twice its symbols and those of the questions stand, `decide` ends so.
+-- Where the words of `decide`, with one worker, name an order for a problem that the files hold, `decide` ends so, with the problem's
+-- symbols in the table that loading it leaves.
 abbrev pub CompletesDecide : Files → List (List ℕ) → Option (List ℕ) → Option (List ℕ) → ℕ → Type 0
-CompletesDecide files all old new result = (command : Command) (name : List ℕ) (words : List (List ℕ)) (table : Table) (problem : Problem) (spec : OrderSpec) → Reads all command → command.verb ≡ Decide → command.workers ≡ 1 → command.positionals ≡ name ∷ words → IsDistinct table → Holds table files command.root name problem → IsChosen table problem.signature command.order None spec → DecideEnds table files command name problem words old new result
+CompletesDecide files all old new result = (command : Command) (name : List ℕ) (words : List (List ℕ)) (table : Table) (problem : Problem) (spec : OrderSpec) → Reads all command → command.verb ≡ Decide → command.workers ≡ 1 → command.positionals ≡ name ∷ words → IsDistinct table → IsLoaded files command.root name table problem → IsChosen table problem.signature command.order None spec → DecideEnds table files command name problem words old new result

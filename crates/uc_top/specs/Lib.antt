@@ -1,6 +1,7 @@
 pub mod Lines
 pub mod Refusals
 pub mod Axioms
+pub mod Loaded
 pub mod Directions
 pub mod OrderAnswers
 pub mod TermWords

@@ -25,7 +25,7 @@ choice_line (BadWeight name weight) = about_order (codes "BadWeight") name (spac
 choice_line NoMemory = []
 
 -- The order that the words and the defaults name for the problem as it is, without an encoding, directs each axiom; or it is
--- refused. The symbols are those of this table.
+-- refused. The symbols are those of the table that loading the problem leaves.
 pub data IsOrdered (table : Table) (words : OrderWords) (problem : Problem) : ℕ → List ℕ → Type 0 where
   is_unordered : {why : ChoiceFault} → IsChoiceFault table problem.signature words why → (why ≡ NoMemory → ⊥) → IsOrdered table words problem 4 (choice_line why)
   is_ordered : {lines : List ℕ} (spec : OrderSpec) → IsChosen table problem.signature words None spec → AreDirected table (meaning_of table spec) 0 (axioms_of problem.clauses) lines → IsOrdered table words problem 0 lines

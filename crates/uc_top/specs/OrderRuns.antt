@@ -12,6 +12,7 @@ use Rattle.uc_words.specs.declared.command.Verb.TheVariants.{Order}
 use Rattle.uc_words.specs.Reads.{Reads}
 use Rattle.uc_ordering.specs.Choice.{IsChosen}
 use Rattle.uc_ordering.specs.Meaning.{meaning_of}
+use Rattle.uc_top.specs.Loaded.{IsLoaded}
 use Rattle.uc_top.specs.Lines.{memory_line}
 use Rattle.uc_top.specs.Directions.{AreDirected}
 
@@ -20,7 +21,7 @@ pub data OrderEnds (table : Table) (spec : OrderSpec) (problem : Problem) (old n
   directs_all : {lines : List ℕ} → AreDirected table (meaning_of table spec) 0 (axioms_of problem.clauses) lines → Appends old new lines → OrderEnds table spec problem old new 0
   lacks_memory : Appends old new memory_line → OrderEnds table spec problem old new 7
 
--- Where the words of `order` name an order for a problem that the files hold, in whatever table without an entry twice its symbols
--- stand, `order` ends so.
+-- Where the words of `order` name an order for a problem that the files hold, `order` ends so, with the problem's symbols in the
+-- table that loading it leaves.
 abbrev pub CompletesOrder : Files → List (List ℕ) → Option (List ℕ) → Option (List ℕ) → ℕ → Type 0
-CompletesOrder files words old new result = (command : Command) (name : List ℕ) (table : Table) (problem : Problem) (spec : OrderSpec) → Reads words command → command.verb ≡ Order → command.positionals ≡ name ∷ [] → IsDistinct table → Holds table files command.root name problem → IsChosen table problem.signature command.order None spec → OrderEnds table spec problem old new result
+CompletesOrder files words old new result = (command : Command) (name : List ℕ) (table : Table) (problem : Problem) (spec : OrderSpec) → Reads words command → command.verb ≡ Order → command.positionals ≡ name ∷ [] → IsDistinct table → IsLoaded files command.root name table problem → IsChosen table problem.signature command.order None spec → OrderEnds table spec problem old new result

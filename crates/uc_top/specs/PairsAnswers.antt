@@ -80,7 +80,7 @@ abbrev pub ArePairsFor : Table → OrderSpec → Problem → List ℕ → Type 0
 ArePairsFor table spec problem lines = AreOuterLines table (meaning_of table spec) (axioms_of problem.clauses) 0 (axioms_of problem.clauses) lines
 
 -- The order that the words and the defaults name for the problem as it is, without an encoding, orients the overlaps of each
--- outer axiom with each inner one; or it is refused. The symbols are those of this table.
+-- outer axiom with each inner one; or it is refused. The symbols are those of the table that loading the problem leaves.
 pub data IsPaired (table : Table) (words : OrderWords) (problem : Problem) : ℕ → List ℕ → Type 0 where
   is_unordered : {why : ChoiceFault} → IsChoiceFault table problem.signature words why → (why ≡ NoMemory → ⊥) → IsPaired table words problem 4 (choice_line why)
   is_paired : {lines : List ℕ} (spec : OrderSpec) → IsChosen table problem.signature words None spec → ArePairsFor table spec problem lines → IsPaired table words problem 0 lines

@@ -1,6 +1,6 @@
 -- What `prove` answers for a problem, by one worker.
 use Rattle.std.specs.Prelude.{ℕ, ◌≡◌, Bool, true, false, List, [], ◌++◌, codes, decimal, cond, slice_get, Option, Some, Ok, Err}
-use Rattle.uc_term.specs.Table.{Table}
+use Rattle.uc_term.specs.Table.{Table, IsDistinct}
 use Rattle.uc_term.specs.Equations.{side_of}
 use Rattle.uc_term.specs.Positions.{IsPlaceOf}
 use Rattle.uc_edge.specs.Files.{Files}
@@ -14,9 +14,10 @@ use Rattle.uc_problem.specs.declared.fault.LoadFault.TheVariants as load
 use Rattle.uc_problem.specs.declared.fault.EncodeFault.TheVariants.{GoalTooLarge}
 use Rattle.uc_problem.specs.declared.problem.Problem.{Problem}
 use Rattle.uc_problem.specs.declared.problem.Encoded.{Encoded}
-use Rattle.uc_problem.specs.Holds.{Agrees, Holds, Refuses, FailsAt}
+use Rattle.uc_problem.specs.Holds.{Agrees, Holds}
+use Rattle.uc_problem.specs.Refusing.{Stops, IsRefused}
 use Rattle.uc_problem.specs.Encodes.{Encodes}
-use Rattle.uc_problem.specs.Filling.{WhereTold, IsFilled, AddsMarks}
+use Rattle.uc_problem.specs.Filling.{WhereTold, AddsMarks}
 use Rattle.uc_order.specs.declared.spec.OrderSpec.{OrderSpec}
 use Rattle.uc_fact.specs.declared.fact.Fact.{Fact}
 use Rattle.uc_fact.specs.declared.fact.Overlap.{Overlap}
@@ -39,6 +40,7 @@ use Rattle.uc_top.specs.OrderAnswers.{choice_line}
 use Rattle.uc_top.specs.PairsAnswers.{side_letter}
 use Rattle.uc_top.specs.TraceLines.{trace_text}
 use Rattle.uc_top.specs.Refusals.{load_status, large_line}
+use Rattle.uc_top.specs.Loaded.{IsLoaded}
 
 -- THE STATUS LINES
 
@@ -138,10 +140,10 @@ module _ (table : Table) (command : Command) (name : List ℕ) where
     is_unordered : {encoded : Encoded} {why : ChoiceFault} → AddsMarks loaded table encoded.fresh → Encodes table problem (Ok encoded) → IsChoiceFault table problem.signature command.order why → (why ≡ NoMemory → ⊥) → IsProveAnswer loaded problem 4 (choice_line why)
     is_searched : {encoded : Encoded} {spec : OrderSpec} {v : Verdict} {s : State} {text : List ℕ} → AddsMarks loaded table encoded.fresh → Encodes table problem (Ok encoded) → IsChosen table problem.signature command.order encoded.fresh spec → IsSearched (meaning_of table spec) (opening_for command encoded) 0 v s → VerdictAnswers problem encoded spec s v text → IsProveAnswer loaded problem (verdict_status v) (text ++ trace_if command s)
 
-  -- The library's files are these, where it tells them, and its count of faults was and is this.
-  module _ (holds : Option Files) (before now : ℕ) where
-    -- A refusal of the problem file has a status line before its own.
-    pub data ProveAnswers : ℕ → List ℕ → Type 0 where
-      fetch_fails : (file : List ℕ) → Rose before now → WhereTold holds (λ files. FailsAt table files command.root name file) → ProveAnswers 5 (status_line (codes "InputError") name ++ about_file file (codes "ReadFault"))
-      is_refused : (why : LoadFault) → WhereTold holds (λ files. Refuses table files command.root name why) → load_status why ≡ 3 → ProveAnswers 3 (status_line (unloaded_word why) name ++ load_line why)
-      is_loaded : {loaded : Table} {problem : Problem} {status : ℕ} {answer : List ℕ} → WhereTold holds (λ files. IsFilled files command.root name [] loaded problem) → WhereTold holds (λ files. Holds table files command.root name problem) → IsProveAnswer loaded problem status answer → ProveAnswers status answer
+-- The library's files are these, where it tells them, and its count of faults was and is this.
+module _ (command : Command) (name : List ℕ) (holds : Option Files) (before now : ℕ) where
+  -- A refusal of the problem file has a status line before its own. Encoding makes a table of the one that loading leaves.
+  pub data ProveAnswers : ℕ → List ℕ → Type 0 where
+    fetch_fails : (file : List ℕ) → Rose before now → WhereTold holds (λ files. Stops files (Some file) command.root name (load.ReadFault file)) → ProveAnswers 5 (status_line (codes "InputError") name ++ about_file file (codes "ReadFault"))
+    is_refused : (why : LoadFault) → WhereTold holds (λ files. IsRefused files command.root name [] why) → load_status why ≡ 3 → ProveAnswers 3 (status_line (unloaded_word why) name ++ load_line why)
+    is_loaded : {loaded table : Table} {problem : Problem} {status : ℕ} {answer : List ℕ} → IsDistinct loaded → WhereTold holds (λ files. IsLoaded files command.root name loaded problem) → IsDistinct table → WhereTold holds (λ files. Holds table files command.root name problem) → IsProveAnswer table command name loaded problem status answer → ProveAnswers status answer

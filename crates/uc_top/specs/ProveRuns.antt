@@ -32,6 +32,7 @@ use Rattle.uc_words.specs.declared.command.Verb.TheVariants.{Prove}
 use Rattle.uc_words.specs.Reads.{Reads}
 use Rattle.uc_ordering.specs.Choice.{IsChosen}
 use Rattle.uc_ordering.specs.Meaning.{meaning_of}
+use Rattle.uc_top.specs.Loaded.{IsLoaded}
 use Rattle.uc_top.specs.Lines.{memory_line}
 use Rattle.uc_top.specs.ProveAnswers.{opening_for, verdict_status, status_line, line_for, VerdictAnswers, trace_if, IsLimitLine}
 
@@ -163,6 +164,7 @@ pub data ProveEnds (files : Files) (command : Command) (name : List ℕ) (old ne
   lacks_memory : Appends old new memory_line → ProveEnds files command name old new 7
 
 -- Where the words of `prove`, with one worker, name an order for a problem that the files hold, none of whose goals is too large to
--- be encoded, in whatever table without an entry twice its symbols stand, `prove` ends so: with a proof, a system, or a limit.
+-- be encoded, `prove` ends so: with a proof, a system, or a limit. The problem's symbols stand in the table that loading and encoding
+-- it leave.
 abbrev pub CompletesProve : Files → List (List ℕ) → Option (List ℕ) → Option (List ℕ) → ℕ → Type 0
-CompletesProve files words old new result = (command : Command) (name : List ℕ) (table : Table) (problem : Problem) (encoded : Encoded) (spec : OrderSpec) → Reads words command → command.verb ≡ Prove → command.workers ≡ 1 → command.positionals ≡ name ∷ [] → IsDistinct table → Holds table files command.root name problem → Encodes table problem (Ok encoded) → IsChosen table problem.signature command.order encoded.fresh spec → ProveEnds files command name old new result
+CompletesProve files words old new result = (command : Command) (name : List ℕ) (loaded table : Table) (problem : Problem) (encoded : Encoded) (spec : OrderSpec) → Reads words command → command.verb ≡ Prove → command.workers ≡ 1 → command.positionals ≡ name ∷ [] → IsDistinct table → IsLoaded files command.root name loaded problem → AddsMarks loaded table encoded.fresh → Encodes table problem (Ok encoded) → IsChosen table problem.signature command.order encoded.fresh spec → ProveEnds files command name old new result

@@ -13,6 +13,7 @@ use Rattle.uc_clause.specs.Parse.{leaves}
 use Rattle.uc_clause.specs.Terminals.{place_at}
 use Rattle.uc_clause.specs.Items.{equals_alone}
 use Rattle.uc_clause.specs.Reading.{ReadsEquation, Refuses}
+use Rattle.uc_clause.specs.Interning.{InternsEquation}
 use Rattle.uc_top.specs.declared.term_word.WordFault.{WordFault}
 use Rattle.uc_top.specs.declared.term_word.WordFault.TheVariants.{Unread, UnknownSymbol, NotGround, NoMemory}
 
@@ -65,22 +66,23 @@ module _ (table : Table) (known : List Sym) where
       pub variable : ℕ
       pub unfit : HasUnfit (Var variable) place
 
-    -- the word is no such question; it is read whole before its nodes are looked at, and want of memory is free
-    abbrev pub IsQuestionFault : WordFault → Type 0
-    IsQuestionFault (Unread why) = Refuses equals_alone word why
-    IsQuestionFault (UnknownSymbol place name) = HasUnknown place name
-    IsQuestionFault (NotGround place) = HasVariable place
-    IsQuestionFault NoMemory = Unit {0}
-
   -- the words are these questions, in order
   pub data AreQuestions : List (List ℕ) → List (Tree × Tree) → Type 0 where
     no_question : AreQuestions [] []
     one_question : {word : List ℕ} {words : List (List ℕ)} {sides : Tree × Tree} {others : List (Tree × Tree)} → IsQuestionWord word sides → AreQuestions words others → AreQuestions (word ∷ words) (sides ∷ others)
 
-  -- the word of this number, from 0 on, is no question, and those before it are
-  pub record IsFirstFault (words : List (List ℕ)) (number : ℕ) (why : WordFault) : Type 0 where
-    pub before : List (Tree × Tree)
-    pub are_questions : AreQuestions (take number words) before
-    pub word : List ℕ
-    pub word_is : slice_get words number ≡ Some word
-    pub fault : IsQuestionFault word why
+-- The word is no such question over known symbols, which are of this table. It is read whole before its nodes are looked at, whose
+-- symbols then stand in the table that reading makes of this one; want of memory is free.
+abbrev pub IsQuestionFault : Table → List Sym → List ℕ → WordFault → Type 0
+IsQuestionFault table known word (Unread why) = Refuses equals_alone word why
+IsQuestionFault table known word (UnknownSymbol place name) = (read : Table) × InternsEquation word table read × HasUnknown read known word place name
+IsQuestionFault table known word (NotGround place) = (read : Table) × InternsEquation word table read × HasVariable read known word place
+IsQuestionFault table known word NoMemory = Unit {0}
+
+-- The word of this number, from 0 on, is no question, and those before it are, so that reading them leaves the table.
+pub record IsFirstFault (table : Table) (known : List Sym) (words : List (List ℕ)) (number : ℕ) (why : WordFault) : Type 0 where
+  pub before : List (Tree × Tree)
+  pub are_questions : AreQuestions table known (take number words) before
+  pub word : List ℕ
+  pub word_is : slice_get words number ≡ Some word
+  pub fault : IsQuestionFault table known word why

@@ -84,7 +84,7 @@ abbrev pub IsNormalFor : Table → OrderSpec → ℕ → Problem → Tree → No
 IsNormalFor table spec limit problem t normal = IsNormalOf (meaning_of table spec).greater (meaning_of table spec).least (numbered (axioms_of problem.clauses)) limit t normal
 
 -- The order is chosen first; then the word is read as a term over the signature; then the term is normalised by the axioms. The
--- symbols are those of this table.
+-- symbols are those of the table that loading the problem leaves, and a term of known symbols leaves it as it is.
 pub data IsRewritten (table : Table) (words : OrderWords) (limit : ℕ) (word : List ℕ) (problem : Problem) : ℕ → List ℕ → Type 0 where
   is_unordered : {why : ChoiceFault} → IsChoiceFault table problem.signature words why → (why ≡ choice.NoMemory → ⊥) → IsRewritten table words limit word problem 4 (choice_line why)
   is_no_term : {why : WordFault} (spec : OrderSpec) → IsChosen table problem.signature words None spec → IsWordFault table problem.signature.symbols word why → (why ≡ NoMemory → ⊥) → IsRewritten table words limit word problem 3 (word_line 0 why)

@@ -14,6 +14,7 @@ use Rattle.uc_words.specs.Reads.{Reads}
 use Rattle.uc_ordering.specs.Choice.{IsChosen}
 use Rattle.uc_top.specs.declared.term_word.WordFault.{WordFault}
 use Rattle.uc_top.specs.declared.term_word.WordFault.TheVariants.{NoMemory}
+use Rattle.uc_top.specs.Loaded.{IsLoaded}
 use Rattle.uc_top.specs.Lines.{memory_line}
 use Rattle.uc_top.specs.TermWords.{IsTermWord, IsWordFault}
 use Rattle.uc_top.specs.RewriteAnswers.{word_line, stop_status, IsNormalFor, AreNormalLines}
@@ -25,14 +26,14 @@ pub data NormalEnds (table : Table) (spec : OrderSpec) (limit : ℕ) (problem : 
   tells_chain : {text : List ℕ} (normal : Normal) → IsNormalFor table spec limit problem t normal → AreNormalLines table normal text → Appends old new text → NormalEnds table spec limit problem t old new (stop_status normal.stop)
   lacks_memory : Appends old new memory_line → NormalEnds table spec limit problem t old new 7
 
--- How `rewrite` ends for a problem, an order and a word, by what the word is in one table.
+-- How `rewrite` ends for a problem, an order and a word, by what the word is.
 pub record RewriteEnds (table : Table) (spec : OrderSpec) (limit : ℕ) (problem : Problem) (word : List ℕ) (old new : Option (List ℕ)) (result : ℕ) : Type 0 where
   -- the word is a term over the problem's signature
   pub term : (t : Tree) → IsTermWord table problem.signature.symbols word t → NormalEnds table spec limit problem t old new result
   -- it is no such term
   pub no_term : (why : WordFault) → IsWordFault table problem.signature.symbols word why → (why ≡ NoMemory → ⊥) → EndsWith 3 (word_line 0 why) old new result
 
--- Where the words of `rewrite` name an order for a problem that the files hold, in whatever table without an entry twice its
--- symbols and those of the word stand, `rewrite` ends so.
+-- Where the words of `rewrite` name an order for a problem that the files hold, `rewrite` ends so, with the problem's symbols in the
+-- table that loading it leaves.
 abbrev pub CompletesRewrite : Files → List (List ℕ) → Option (List ℕ) → Option (List ℕ) → ℕ → Type 0
-CompletesRewrite files words old new result = (command : Command) (name word : List ℕ) (table : Table) (problem : Problem) (spec : OrderSpec) → Reads words command → command.verb ≡ Rewrite → command.positionals ≡ name ∷ word ∷ [] → IsDistinct table → Holds table files command.root name problem → IsChosen table problem.signature command.order None spec → RewriteEnds table spec command.limit problem word old new result
+CompletesRewrite files words old new result = (command : Command) (name word : List ℕ) (table : Table) (problem : Problem) (spec : OrderSpec) → Reads words command → command.verb ≡ Rewrite → command.positionals ≡ name ∷ word ∷ [] → IsDistinct table → IsLoaded files command.root name table problem → IsChosen table problem.signature command.order None spec → RewriteEnds table spec command.limit problem word old new result

@@ -16,6 +16,7 @@ use Rattle.uc_clause.specs.Parse.{leaves}
 use Rattle.uc_clause.specs.Terminals.{place_at}
 use Rattle.uc_clause.specs.Items.{term_alone}
 use Rattle.uc_clause.specs.Reading.{ReadsTerm, Refuses}
+use Rattle.uc_clause.specs.Interning.{InternsTerm}
 use Rattle.uc_top.specs.declared.term_word.WordFault.{WordFault}
 use Rattle.uc_top.specs.declared.term_word.WordFault.TheVariants.{Unread, UnknownSymbol, NotGround, NoMemory}
 
@@ -49,13 +50,13 @@ module _ (table : Table) (known : List Sym) (word : List ℕ) where
     pub leaf : slice_get (leaves reads.parse) number ≡ Some token
     pub place_is : place ≡ place_at word reads.tokens token
 
-  -- the word is no term of known symbols; it is read whole before its symbols are looked at, variables are allowed, and want of
-  -- memory is free
-  abbrev pub IsWordFault : WordFault → Type 0
-  IsWordFault (Unread why) = Refuses term_alone word why
-  IsWordFault (UnknownSymbol place name) = HasForeign place name
-  IsWordFault (NotGround place) = ⊥
-  IsWordFault NoMemory = Unit {0}
+-- The word is no term of known symbols, which are of this table. It is read whole before its symbols are looked at, which then
+-- stand in the table that reading makes of this one; variables are allowed, and want of memory is free.
+abbrev pub IsWordFault : Table → List Sym → List ℕ → WordFault → Type 0
+IsWordFault table known word (Unread why) = Refuses term_alone word why
+IsWordFault table known word (UnknownSymbol place name) = (read : Table) × InternsTerm word table read × HasForeign read known word place name
+IsWordFault table known word (NotGround place) = ⊥
+IsWordFault table known word NoMemory = Unit {0}
 
 -- The tokens of a term are its variables and functors, in the order of its nodes, and marks between them.
 abbrev pub is_mark : Kind → Bool

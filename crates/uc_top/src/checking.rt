@@ -1,12 +1,13 @@
 //! The command `check`.
 
-ghost use Rattle.std.specs.Prelude.{◌≡◌, ◌<◌, ◌≤◌, ◌^◌, ℕ, List, Some, Ok, IfOk, length};
+ghost use Rattle.std.specs.Prelude.{◌≡◌, ◌<◌, ◌≤◌, ◌^◌, ℕ, List, [], Some, Ok, IfOk, length};
 ghost use Rattle.std.specs.Option.{option_copied};
 ghost use Rattle.uc_term.specs.Table.{Table, Grows, IsDistinct};
 ghost use Rattle.uc_term.specs.Conversion.{SomeFollows};
 ghost use Rattle.uc_edge.specs.Files.{Files};
 ghost use Rattle.uc_check.specs.Clauses.{axioms_of, goals_of, AreFresh, HasGoalIfEncoded};
 ghost use Rattle.uc_problem.specs.Holds.{Agrees};
+ghost use Rattle.uc_tstp.specs.Interning.{InternsProof};
 ghost use Rattle.uc_tstp.specs.Reading.{IsReading};
 ghost use Rattle.uc_top.specs.Lines.{joined, proof_line};
 ghost use Rattle.uc_top.specs.Answers.{checked_status, IsProofFetched, TextAnswers, ProofAnswers, ProblemAnswers, CheckAnswers};
@@ -32,8 +33,8 @@ pub(crate) fn check_answer<L: Library>(
     proof: &Text,
     library: &mut L,
 ) -> Result<Answer, AllocError>
-    ensures answers { IfOk result (λ answer. (table : Table) × IsDistinct table × CheckAnswers table (L.holds library.old) (L.faults library.old) (L.faults library.new) (option_copied root.entry) name.now proof.now answer.status (joined answer.lines)) }
-    ensures certified { IfOk result (λ answer. answer.status ≡ 0 → (files : Files) → L.holds library.old ≡ Some files → (table : Table) × IsDistinct table × HasProof table files (option_copied root.entry) name.now proof.now) }
+    ensures answers { IfOk result (λ answer. CheckAnswers (L.holds library.old) (L.faults library.old) (L.faults library.new) (option_copied root.entry) name.now proof.now answer.status (joined answer.lines)) }
+    ensures certified { IfOk result (λ answer. answer.status ≡ 0 → (files : Files) → L.holds library.old ≡ Some files → HasProof files (option_copied root.entry) name.now proof.now) }
     ensures same { L.holds library.new ≡ L.holds library.old }
     ensures later { L.faults library.old ≤ L.faults library.new }
 {
@@ -54,8 +55,9 @@ fn load_and_check<L: Library>(
     symbols: &mut Symbols,
     library: &mut L,
 ) -> Result<Answer, AllocError>
-    ensures answers { IfOk result (λ answer. CheckAnswers symbols.new (L.holds library.old) (L.faults library.old) (L.faults library.new) (option_copied root.entry) name.now proof.now answer.status (joined answer.lines)) }
-    ensures certified { IfOk result (λ answer. answer.status ≡ 0 → (files : Files) → L.holds library.old ≡ Some files → HasProof symbols.new files (option_copied root.entry) name.now proof.now) }
+    requires empty { symbols.old ≡ [] }
+    ensures answers { IsDistinct symbols.new → IfOk result (λ answer. CheckAnswers (L.holds library.old) (L.faults library.old) (L.faults library.new) (option_copied root.entry) name.now proof.now answer.status (joined answer.lines)) }
+    ensures certified { IsDistinct symbols.new → IfOk result (λ answer. answer.status ≡ 0 → (files : Files) → L.holds library.old ≡ Some files → HasProof files (option_copied root.entry) name.now proof.now) }
     ensures same { L.holds library.new ≡ L.holds library.old }
     ensures later { L.faults library.old ≤ L.faults library.new }
 {
@@ -74,7 +76,7 @@ fn problem_answer<L: Library>(
     library: &mut L,
 ) -> Result<Answer, AllocError>
     requires { Agrees symbols.old problem.now }
-    ensures answers { IfOk result (λ answer. ProblemAnswers symbols.new (L.holds library.old) (L.faults library.old) (L.faults library.new) problem.now proof.now answer.status (joined answer.lines)) }
+    ensures answers { IsDistinct symbols.new → IfOk result (λ answer. ProblemAnswers (L.holds library.old) (L.faults library.old) (L.faults library.new) proof.now symbols.old problem.now answer.status (joined answer.lines)) }
     ensures follows { IfOk result (λ answer. answer.status ≡ 0 → SomeFollows (axioms_of problem.now.clauses) (goals_of problem.now.clauses)) }
     ensures grows { Grows symbols.old symbols.new }
     ensures same { L.holds library.new ≡ L.holds library.old }
@@ -115,7 +117,7 @@ fn proof_answer<L: Library>(
 ) -> Result<Answer, AllocError>
     requires fresh { AreFresh (option_copied marks) clauses.now }
     requires has_goal { HasGoalIfEncoded (option_copied marks) clauses.now }
-    ensures answers { IfOk result (λ answer. ProofAnswers symbols.new (L.holds library.old) (L.faults library.old) (L.faults library.new) clauses.now (option_copied marks.entry) name.now answer.status (joined answer.lines)) }
+    ensures answers { IfOk result (λ answer. ProofAnswers symbols.old (L.holds library.old) (L.faults library.old) (L.faults library.new) clauses.now (option_copied marks.entry) name.now answer.status (joined answer.lines)) }
     ensures follows { IfOk result (λ answer. answer.status ≡ 0 → SomeFollows (axioms_of clauses.now) (goals_of clauses.now)) }
     ensures grows { Grows symbols.old symbols.new }
     ensures same { L.holds library.new ≡ L.holds library.old }
@@ -158,7 +160,7 @@ fn text_answer(
 ) -> Result<Answer, AllocError>
     requires fresh { AreFresh (option_copied marks) clauses.now }
     requires has_goal { HasGoalIfEncoded (option_copied marks) clauses.now }
-    ensures answers { IfOk result (λ answer. TextAnswers symbols.new clauses.now (option_copied marks.entry) name.now text.now answer.status (joined answer.lines)) }
+    ensures answers { IfOk result (λ answer. TextAnswers symbols.old clauses.now (option_copied marks.entry) name.now text.now answer.status (joined answer.lines)) }
     ensures follows { IfOk result (λ answer. answer.status ≡ 0 → SomeFollows (axioms_of clauses.now) (goals_of clauses.now)) }
     ensures grows { Grows symbols.old symbols.new }
 {
@@ -189,7 +191,7 @@ fn checked_answer(
     requires fresh { AreFresh (option_copied marks) clauses.now }
     requires has_goal { HasGoalIfEncoded (option_copied marks) clauses.now }
     requires few { length proof.now.lines < 2 ^ 31 }
-    ensures answers { (name text : List ℕ) (table : Table) → IsReading table text (Ok proof.now) → IfOk result (λ answer. TextAnswers table clauses.now (option_copied marks.entry) name text answer.status (joined answer.lines)) }
+    ensures answers { (name text : List ℕ) (table read : Table) → InternsProof text table read → IsReading read text (Ok proof.now) → IfOk result (λ answer. TextAnswers table clauses.now (option_copied marks.entry) name text answer.status (joined answer.lines)) }
     ensures follows { IfOk result (λ answer. answer.status ≡ 0 → SomeFollows (axioms_of clauses.now) (goals_of clauses.now)) }
 {
     let checked = check(alloc, clauses, marks, proof)?;

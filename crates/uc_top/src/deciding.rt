@@ -2,7 +2,6 @@
 
 ghost use Rattle.std.specs.Prelude.{◌≡◌, ◌≤◌, List, [], Some, IfOk};
 ghost use Rattle.uc_term.specs.declared.equation.Equation.{Equation as AnyEquation};
-ghost use Rattle.uc_term.specs.Table.{Table, Grows, IsDistinct};
 ghost use Rattle.uc_edge.specs.Files.{Files};
 ghost use Rattle.uc_check.specs.Clauses.{axioms_of};
 ghost use Rattle.uc_problem.specs.Holds.{Agrees};
@@ -20,7 +19,7 @@ ghost use Rattle.uc_top.specs.QuestionWords.{AreShort};
 ghost use Rattle.uc_top.specs.ProveAnswers.{opening_for};
 ghost use Rattle.uc_top.specs.DecideAnswers.{AreReplies, replies_status, reply_lines, opening_of_axioms, IsDecided};
 ghost use Rattle.uc_top.specs.Answers.{DecideAnswers};
-ghost use Rattle.uc_top.specs.DecideRuns.{AreGroundQuestions, AreRight, Decided, IsDecidedBy, KeepsDecision};
+ghost use Rattle.uc_top.specs.DecideRuns.{AreGroundQuestions, AreRight, Decided, KeepsDecision};
 ghost use Rattle.uc_top.specs.DecideTold.{AreGroundOfTable, TellsEnd, IsToldBySearch};
 
 use crate::axioms::without_goals;
@@ -60,17 +59,14 @@ pub(crate) fn decide_answer<R: Wait, L: Library>(
     requires budget { command.now.budget ≤ 10000000 }
     requires pairs { command.now.pairs ≤ 8000000 }
     requires short { AreShort words.now }
-    ensures answers { IfOk result (λ answer. (table : Table) × IsDistinct table × DecideAnswers table (L.holds library.old) (L.faults library.old) (L.faults library.new) command.now name.now words.now answer.status (joined answer.lines)) }
+    ensures answers { IfOk result (λ answer. DecideAnswers (L.holds library.old) (L.faults library.old) (L.faults library.new) command.now name.now words.now answer.status (joined answer.lines)) }
     ensures promise { IfOk result (λ answer. answer.status ≤ 2 → (files : Files) → L.holds library.old ≡ Some files → KeepsDecision files command.now name.now words.now answer.status (joined answer.lines)) }
     ensures same { L.holds library.new ≡ L.holds library.old }
     ensures later { L.faults library.old ≤ L.faults library.new }
 {
     let mut symbols = Symbols::new(alloc);
     let name = name.as_bytes();
-    let answer = load_and_decide(rt, alloc, command, name, words, &mut symbols, library);
-    // The entries of the table are all different, so what was read is the only reading.
-    let _ = symbols.len();
-    answer
+    load_and_decide(rt, alloc, command, name, words, &mut symbols, library)
 }
 
 /// The answer, with a table for the symbols.
@@ -89,8 +85,8 @@ fn load_and_decide<R: Wait, L: Library>(
     requires pairs { command.now.pairs ≤ 8000000 }
     requires short { AreShort words.now }
     requires empty { symbols.old ≡ [] }
-    ensures answers { IfOk result (λ answer. DecideAnswers symbols.new (L.holds library.old) (L.faults library.old) (L.faults library.new) command.now name.now words.now answer.status (joined answer.lines)) }
-    ensures promise { IfOk result (λ answer. answer.status ≤ 2 → (files : Files) → L.holds library.old ≡ Some files → IsDecidedBy symbols.new files command.now name.now words.now answer.status (joined answer.lines)) }
+    ensures answers { IfOk result (λ answer. DecideAnswers (L.holds library.old) (L.faults library.old) (L.faults library.new) command.now name.now words.now answer.status (joined answer.lines)) }
+    ensures promise { IfOk result (λ answer. answer.status ≤ 2 → (files : Files) → L.holds library.old ≡ Some files → KeepsDecision files command.now name.now words.now answer.status (joined answer.lines)) }
     ensures same { L.holds library.new ≡ L.holds library.old }
     ensures later { L.faults library.old ≤ L.faults library.new }
 {
@@ -106,8 +102,8 @@ fn load_and_decide<R: Wait, L: Library>(
     }
 }
 
-/// The answer for a problem that is loaded. The questions are read before the order is chosen, so that the table has all symbols;
-/// but what is wrong with the order is told first.
+/// The answer for a problem that is loaded. The order is chosen before the questions are read, since what is wrong with it is told
+/// first.
 fn asked_answer<R: Wait>(
     rt: &R,
     alloc: Global,
@@ -123,14 +119,12 @@ fn asked_answer<R: Wait>(
     requires budget { command.now.budget ≤ 10000000 }
     requires pairs { command.now.pairs ≤ 8000000 }
     requires short { AreShort words.now }
-    ensures answers { IfOk result (λ answer. IsDecided symbols.new command.now name.now words.now symbols.old problem.now answer.status (joined answer.lines)) }
-    ensures kept { IfOk result (λ answer. answer.status ≤ 2 → symbols.new ≡ symbols.old) }
-    ensures promise { IfOk result (λ answer. answer.status ≤ 2 → Decided symbols.new command.now name.now words.now problem.now answer.status (joined answer.lines)) }
-    ensures grows { Grows symbols.old symbols.new }
+    ensures answers { IfOk result (λ answer. IsDecided symbols.old command.now name.now words.now problem.now answer.status (joined answer.lines)) }
+    ensures promise { IfOk result (λ answer. answer.status ≤ 2 → Decided symbols.old command.now name.now words.now problem.now answer.status (joined answer.lines)) }
 {
-    let read = read_questions(alloc, words, problem.signature.symbols.as_slice(), symbols);
+    let known = problem.signature.symbols.as_slice();
     match choose(alloc, &command.order, symbols, &problem.signature, None) {
-        Ok(spec) => match read {
+        Ok(spec) => match read_questions(alloc, words, known, symbols) {
             Ok(asked) => {
                 let questions = asked.as_slice();
                 searched_answer(rt, alloc, command, name, problem, questions, &spec, symbols)

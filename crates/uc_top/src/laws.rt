@@ -3,29 +3,30 @@
 ghost use Rattle.std.specs.Prelude.{◌≡◌, ◌≤◌, ◌+◌, ℕ, List, Option, Some, slice_get};
 ghost use Rattle.std.specs.Io.KnownBytes.{Appends};
 ghost use Rattle.uc_term.specs.Tree.{Tree};
-ghost use Rattle.uc_term.specs.Table.{Table, IsDistinct};
 ghost use Rattle.uc_edge.specs.Files.{Files};
 ghost use Rattle.uc_edge.specs.Faults.{Rose};
+ghost use Rattle.uc_check.specs.Clauses.{axioms_of};
 ghost use Rattle.uc_words.specs.declared.command.Command.{Command};
 ghost use Rattle.uc_words.specs.Reads.{Reads};
 ghost use Rattle.uc_search.specs.Bounds.{rounds_in, IsBounded};
-ghost use Rattle.uc_top.specs.Answers.{Answers, IsSearching};
+ghost use Rattle.uc_top.specs.Answers.{Answers};
 ghost use Rattle.uc_top.specs.Runs.{IsRun, IsSettledStatus};
 ghost use Rattle.uc_top.specs.ProveAnswers.{opening_for};
 ghost use Rattle.uc_top.specs.ProveRuns.{IsHeldAnswer};
 ghost use Rattle.uc_top.specs.DecideAnswers.{opening_of_axioms};
 ghost use Rattle.uc_top.specs.DecideRuns.{IsHeldDecision, KeepsDecision, Tells};
 
-/// In a table whose entries are all different, words and the files of a library have at most one status and one text for an
-/// answer, where the library's count of faults didn't rise. So `Answers` says exactly where each answer comes.
+/// Words and the files of a library have at most one status and one text for an answer, whatever the command is, but where a fetch
+/// failed. So `Answers` says exactly where each answer comes.
 pub fn one_answer()
-    ensures answer { (table : Table) (files : Files) (before now : ℕ) (words : List (List ℕ)) (s t : ℕ) (a b : List ℕ) → IsDistinct table → (Rose before now → ⊥) → Answers table (Some files) before now words s a → Answers table (Some files) before now words t b → (s ≡ t) × (a ≡ b) }
+    ensures answer { (files : Files) (before now again later : ℕ) (words : List (List ℕ)) (s t : ℕ) (a b : List ℕ) → (Rose before now → ⊥) → (Rose again later → ⊥) → Answers (Some files) before now words s a → Answers (Some files) again later words t b → (s ≡ t) × (a ≡ b) }
+    ensures unless_read_fault { (files : Files) (before now again later : ℕ) (words : List (List ℕ)) (s t : ℕ) (a b : List ℕ) → (s ≡ 5 → ⊥) → (t ≡ 5 → ⊥) → Answers (Some files) before now words s a → Answers (Some files) again later words t b → (s ≡ t) × (a ≡ b) }
 {}
 
-/// Two runs of one command line whose command searches, `prove` or `decide`, over the same files, that end with another status
-/// than 5, 6 and 7, have one status and tell one text.
+/// Two runs of one command line over the same files, whatever the command is, that end with another status than 5, 6 and 7, have
+/// one status and tell one text.
 pub fn one_run()
-    ensures { (files : Files) (words : List (List ℕ)) (command : Command) (before now again later : ℕ) (old new first last : Option (List ℕ)) (write_before write_now write_again write_later : ℕ) (r q : ℕ) → Reads words command → IsSearching command.verb → IsSettledStatus r → IsSettledStatus q → (x : IsRun (Some files) before now words old new write_before write_now r) (y : IsRun (Some files) again later words first last write_again write_later q) → (r ≡ q) × (x.text ≡ y.text) × Appends old new x.text × Appends first last y.text }
+    ensures { (files : Files) (words : List (List ℕ)) (before now again later : ℕ) (old new first last : Option (List ℕ)) (write_before write_now write_again write_later : ℕ) (r q : ℕ) → IsSettledStatus r → IsSettledStatus q → (x : IsRun (Some files) before now words old new write_before write_now r) (y : IsRun (Some files) again later words first last write_again write_later q) → (r ≡ q) × (x.text ≡ y.text) × Appends old new x.text × Appends first last y.text }
 {}
 
 /// The search that `prove` or `decide` tells of is one function of the words and the files: it has one verdict and one state, with
@@ -35,10 +36,12 @@ pub fn one_history()
     ensures decide { (files : Files) (words : List (List ℕ)) (k l : Command) (name : List ℕ) (asked others : List (List ℕ)) (s t : ℕ) (a b : List ℕ) (x : IsHeldDecision files k name asked s a) (y : IsHeldDecision files l name others t b) → Reads words k → k.root ≡ l.root → k.order ≡ l.order → k.budget ≡ l.budget → k.pairs ≡ l.pairs → (x.verdict ≡ y.verdict) × (x.state ≡ y.state) }
 {}
 
-/// Two runs of `decide` for one problem (one name, root and library) by one order that both say of a question whether its equation
-/// follows print the same line for it, whatever words named the order, whatever else is asked, and whatever the limits are.
+/// Two runs of `decide` for one problem by one order that both say of a question whether its equation follows print the same line for
+/// it, whatever words named the order, whatever else is asked, and whatever the limits are. Of the problem its axioms count, and the
+/// symbols that loading it makes of its files, whichever these are: two commands with one name, root and library have one problem.
 pub fn one_line()
-    ensures { (files : Files) (words : List (List ℕ)) (k l : Command) (name : List ℕ) (asked others : List (List ℕ)) (s t : ℕ) (a b : List ℕ) (x : KeepsDecision files k name asked s a) (y : KeepsDecision files l name others t b) (i j : ℕ) (sides : Tree × Tree) (line other : List ℕ) → Reads words k → k.root ≡ l.root → x.is_decided.decided.spec ≡ y.is_decided.decided.spec → slice_get x.is_decided.decided.questions i ≡ Some sides → slice_get y.is_decided.decided.questions j ≡ Some sides → Tells x i line → Tells y j other → line ≡ other }
+    ensures problem { (files others : Files) (words : List (List ℕ)) (k l : Command) (name another : List ℕ) (asked questions : List (List ℕ)) (s t : ℕ) (a b : List ℕ) (x : KeepsDecision files k name asked s a) (y : KeepsDecision others l another questions t b) (i j : ℕ) (sides : Tree × Tree) (line other : List ℕ) → Reads words k → x.table ≡ y.table → axioms_of x.is_decided.problem.clauses ≡ axioms_of y.is_decided.problem.clauses → x.is_decided.decided.spec ≡ y.is_decided.decided.spec → slice_get x.is_decided.decided.questions i ≡ Some sides → slice_get y.is_decided.decided.questions j ≡ Some sides → Tells x i line → Tells y j other → line ≡ other }
+    ensures file { (files : Files) (words : List (List ℕ)) (k l : Command) (name : List ℕ) (asked others : List (List ℕ)) (s t : ℕ) (a b : List ℕ) (x : KeepsDecision files k name asked s a) (y : KeepsDecision files l name others t b) (i j : ℕ) (sides : Tree × Tree) (line other : List ℕ) → Reads words k → k.root ≡ l.root → x.is_decided.decided.spec ≡ y.is_decided.decided.spec → slice_get x.is_decided.decided.questions i ≡ Some sides → slice_get y.is_decided.decided.questions j ≡ Some sides → Tells x i line → Tells y j other → line ≡ other }
 {}
 
 /// The search that `prove` or `decide` tells of is short. With the budget `B` and `g` goals, those of the encoded problem, it draws

@@ -1,8 +1,7 @@
 //! The command `order`.
 
-ghost use Rattle.std.specs.Prelude.{◌≡◌, ◌≤◌, None, IfOk};
+ghost use Rattle.std.specs.Prelude.{◌≡◌, ◌≤◌, [], None, IfOk};
 ghost use Rattle.std.specs.Option.{option_copied};
-ghost use Rattle.uc_term.specs.Table.{Table, IsDistinct};
 ghost use Rattle.uc_check.specs.Clauses.{axioms_of};
 ghost use Rattle.uc_problem.specs.Holds.{Agrees};
 ghost use Rattle.uc_ordering.specs.Fits.{Fits};
@@ -35,16 +34,13 @@ pub(crate) fn order_answer<L: Library>(
 ) -> Result<Answer, AllocError>
     requires w0_some { 1 ≤ words.now.w0 }
     requires w0_most { words.now.w0 ≤ 1000000 }
-    ensures answers { IfOk result (λ answer. (table : Table) × IsDistinct table × OrderAnswers table (L.holds library.old) (L.faults library.old) (L.faults library.new) words.now (option_copied root.entry) name.now answer.status (joined answer.lines)) }
+    ensures answers { IfOk result (λ answer. OrderAnswers (L.holds library.old) (L.faults library.old) (L.faults library.new) words.now (option_copied root.entry) name.now answer.status (joined answer.lines)) }
     ensures same { L.holds library.new ≡ L.holds library.old }
     ensures later { L.faults library.old ≤ L.faults library.new }
 {
     let root = bytes_of(root);
     let mut symbols = Symbols::new(alloc);
-    let answer = load_and_order(alloc, root, name.as_bytes(), words, &mut symbols, library);
-    // The entries of the table are all different, so what was read is the only reading.
-    let _ = symbols.len();
-    answer
+    load_and_order(alloc, root, name.as_bytes(), words, &mut symbols, library)
 }
 
 // The answer, with a table for the symbols.
@@ -58,7 +54,8 @@ fn load_and_order<L: Library>(
 ) -> Result<Answer, AllocError>
     requires w0_some { 1 ≤ words.now.w0 }
     requires w0_most { words.now.w0 ≤ 1000000 }
-    ensures answers { IfOk result (λ answer. OrderAnswers symbols.new (L.holds library.old) (L.faults library.old) (L.faults library.new) words.now (option_copied root.entry) name.now answer.status (joined answer.lines)) }
+    requires empty { symbols.old ≡ [] }
+    ensures answers { IfOk result (λ answer. OrderAnswers (L.holds library.old) (L.faults library.old) (L.faults library.new) words.now (option_copied root.entry) name.now answer.status (joined answer.lines)) }
     ensures same { L.holds library.new ≡ L.holds library.old }
     ensures later { L.faults library.old ≤ L.faults library.new }
 {

@@ -1,8 +1,7 @@
 //! The command `pairs`.
 
-ghost use Rattle.std.specs.Prelude.{◌≡◌, ◌≤◌, IfOk};
+ghost use Rattle.std.specs.Prelude.{◌≡◌, ◌≤◌, [], IfOk};
 ghost use Rattle.std.specs.Option.{option_copied};
-ghost use Rattle.uc_term.specs.Table.{Table, IsDistinct};
 ghost use Rattle.uc_problem.specs.Holds.{Agrees};
 ghost use Rattle.uc_ordering.specs.Fits.{Fits};
 ghost use Rattle.uc_top.specs.Lines.{joined};
@@ -32,16 +31,13 @@ pub(crate) fn pairs_answer<L: Library>(
 ) -> Result<Answer, AllocError>
     requires w0_some { 1 ≤ words.now.w0 }
     requires w0_most { words.now.w0 ≤ 1000000 }
-    ensures answers { IfOk result (λ answer. (table : Table) × IsDistinct table × PairsAnswers table (L.holds library.old) (L.faults library.old) (L.faults library.new) words.now (option_copied root.entry) name.now answer.status (joined answer.lines)) }
+    ensures answers { IfOk result (λ answer. PairsAnswers (L.holds library.old) (L.faults library.old) (L.faults library.new) words.now (option_copied root.entry) name.now answer.status (joined answer.lines)) }
     ensures same { L.holds library.new ≡ L.holds library.old }
     ensures later { L.faults library.old ≤ L.faults library.new }
 {
     let root = bytes_of(root);
     let mut symbols = Symbols::new(alloc);
-    let answer = load_and_pair(alloc, root, name.as_bytes(), words, &mut symbols, library);
-    // The entries of the table are all different, so what was read is the only reading.
-    let _ = symbols.len();
-    answer
+    load_and_pair(alloc, root, name.as_bytes(), words, &mut symbols, library)
 }
 
 // The answer, with a table for the symbols.
@@ -55,7 +51,8 @@ fn load_and_pair<L: Library>(
 ) -> Result<Answer, AllocError>
     requires w0_some { 1 ≤ words.now.w0 }
     requires w0_most { words.now.w0 ≤ 1000000 }
-    ensures answers { IfOk result (λ answer. PairsAnswers symbols.new (L.holds library.old) (L.faults library.old) (L.faults library.new) words.now (option_copied root.entry) name.now answer.status (joined answer.lines)) }
+    requires empty { symbols.old ≡ [] }
+    ensures answers { IfOk result (λ answer. PairsAnswers (L.holds library.old) (L.faults library.old) (L.faults library.new) words.now (option_copied root.entry) name.now answer.status (joined answer.lines)) }
     ensures same { L.holds library.new ≡ L.holds library.old }
     ensures later { L.faults library.old ≤ L.faults library.new }
 {

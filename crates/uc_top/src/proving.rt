@@ -48,7 +48,7 @@ pub(crate) fn prove_answer<R: Wait, L: Library>(
     requires name { are_seen name.now ≡ true }
     requires some { 0 < length name.now }
     requires root { IsRootSeen command.now.root }
-    ensures answers { IfOk result (λ answer. (table : Table) × IsDistinct table × ProveAnswers table command.now name.now (L.holds library.old) (L.faults library.old) (L.faults library.new) answer.status (joined answer.lines)) }
+    ensures answers { IfOk result (λ answer. ProveAnswers command.now name.now (L.holds library.old) (L.faults library.old) (L.faults library.new) answer.status (joined answer.lines)) }
     ensures promise { IfOk result (λ answer. answer.status ≤ 2 → (files : Files) → L.holds library.old ≡ Some files → KeepsPromise files command.now name.now answer.status (joined answer.lines)) }
     ensures same { L.holds library.new ≡ L.holds library.old }
     ensures later { L.faults library.old ≤ L.faults library.new }
@@ -77,7 +77,7 @@ fn load_and_prove<R: Wait, L: Library>(
     requires some { 0 < length name.now }
     requires root { IsRootSeen command.now.root }
     requires empty { symbols.old ≡ [] }
-    ensures answers { IfOk result (λ answer. ProveAnswers symbols.new command.now name.now (L.holds library.old) (L.faults library.old) (L.faults library.new) answer.status (joined answer.lines)) }
+    ensures answers { IsDistinct symbols.new → IfOk result (λ answer. ProveAnswers command.now name.now (L.holds library.old) (L.faults library.old) (L.faults library.new) answer.status (joined answer.lines)) }
     ensures promise { IfOk result (λ answer. answer.status ≤ 2 → (files : Files) → L.holds library.old ≡ Some files → (kept : IsKept symbols.new files command.now name.now answer.status (joined answer.lines)) × (IsDistinct symbols.new → AddsMarks kept.loaded symbols.new kept.keeps.fresh)) }
     ensures same { L.holds library.new ≡ L.holds library.old }
     ensures later { L.faults library.old ≤ L.faults library.new }

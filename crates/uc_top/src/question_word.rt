@@ -35,7 +35,7 @@ pub(crate) fn read_questions(
 ) -> Result<Seq<Question>, Misread>
     requires { AreShort words.now }
     ensures reads { IfOk result (AreQuestions symbols.new known.now words.now) }
-    ensures refused { IfErr result (λ misread. IsFirstFault symbols.new known.now words.now misread.number misread.fault) }
+    ensures refused { HasAll symbols.old known.now → IfErr result (λ misread. IsFirstFault symbols.old known.now words.now misread.number misread.fault) }
     ensures grows { Grows symbols.old symbols.new }
     ensures kept { HasAll symbols.old known.now → IfOk result (λ _. symbols.new ≡ symbols.old) }
 {
@@ -58,7 +58,7 @@ fn read_next(
 ) -> Result<(), WordFault>
     requires { length word.now < 2 ^ 31 }
     ensures reads { IfOk result (λ _. (question : Tree × Tree) × IsQuestionWord symbols.new known.now word.now question × (questions.new ≡ questions.old ++ question ∷ [])) }
-    ensures refused { IfErr result (IsQuestionFault symbols.new known.now word.now) }
+    ensures refused { IfErr result (IsQuestionFault symbols.old known.now word.now) }
     ensures grows { Grows symbols.old symbols.new }
     ensures kept { HasAll symbols.old known.now → IfOk result (λ _. symbols.new ≡ symbols.old) }
 {
@@ -77,7 +77,7 @@ pub(crate) fn read_question(
 ) -> Result<Question, WordFault>
     requires { length word.now < 2 ^ 31 }
     ensures reads { IfOk result (IsQuestionWord symbols.new known.now word.now) }
-    ensures refused { IfErr result (IsQuestionFault symbols.new known.now word.now) }
+    ensures refused { IfErr result (IsQuestionFault symbols.old known.now word.now) }
     ensures grows { Grows symbols.old symbols.new }
     ensures kept { HasAll symbols.old known.now → IfOk result (λ _. symbols.new ≡ symbols.old) }
 {
@@ -92,7 +92,7 @@ pub(crate) fn read_question(
 fn whole_equation(alloc: Global, word: &[u8], symbols: &mut Symbols) -> Result<Question, WordFault>
     requires { length word.now < 2 ^ 31 }
     ensures reads { IfOk result (ReadsEquation word.now symbols.new) }
-    ensures refused { (known : List AnySym) → IfErr result (IsQuestionFault symbols.new known word.now) }
+    ensures refused { (known : List AnySym) → IfErr result (IsQuestionFault symbols.old known word.now) }
     ensures grows { Grows symbols.old symbols.new }
     ensures interns { IfOk result (λ _. InternsEquation word.now symbols.old symbols.new) }
 {
@@ -157,7 +157,7 @@ fn fault_at(
     requires small { length word.now < 2 ^ 31 }
     requires reads { ReadsEquation word.now symbols.now sides.now }
     requires within { number < length (nodes_of sides.now) }
-    ensures { (known : List AnySym) → first_unfit known sides.now ≡ Some number → IfOk result (IsQuestionFault symbols.now known word.now) }
+    ensures { (known : List AnySym) (before : Table) → InternsEquation word.now before symbols.now → first_unfit known sides.now ≡ Some number → IfOk result (IsQuestionFault before known word.now) }
 {
     let place = place_in(alloc, word, number)?;
     match node_at(sides, number) {

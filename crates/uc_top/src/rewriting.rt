@@ -1,8 +1,8 @@
 //! The command `rewrite`.
 
-ghost use Rattle.std.specs.Prelude.{◌≡◌, ◌≤◌, ◌<◌, ◌^◌, None, length, IfOk};
+ghost use Rattle.std.specs.Prelude.{◌≡◌, ◌≤◌, ◌<◌, ◌^◌, [], None, length, IfOk};
 ghost use Rattle.std.specs.Option.{option_copied};
-ghost use Rattle.uc_term.specs.Table.{Table, Grows, IsDistinct, IsOf};
+ghost use Rattle.uc_term.specs.Table.{IsOf};
 ghost use Rattle.uc_problem.specs.Holds.{Agrees};
 ghost use Rattle.uc_ordering.specs.Choice.{IsChosen};
 ghost use Rattle.uc_ordering.specs.Fits.{Fits};
@@ -40,22 +40,19 @@ pub(crate) fn rewrite_answer<L: Library>(
     requires w0_some { 1 ≤ command.now.order.w0 }
     requires w0_most { command.now.order.w0 ≤ 1000000 }
     requires short { length word.now < 2 ^ 31 }
-    ensures answers { IfOk result (λ answer. (table : Table) × IsDistinct table × RewriteAnswers table (L.holds library.old) (L.faults library.old) (L.faults library.new) command.now.order command.now.limit word.now command.now.root name.now answer.status (joined answer.lines)) }
+    ensures answers { IfOk result (λ answer. RewriteAnswers (L.holds library.old) (L.faults library.old) (L.faults library.new) command.now.order command.now.limit word.now command.now.root name.now answer.status (joined answer.lines)) }
     ensures same { L.holds library.new ≡ L.holds library.old }
     ensures later { L.faults library.old ≤ L.faults library.new }
 {
     let mut symbols = Symbols::new(alloc);
-    let answer = load_and_rewrite(
+    load_and_rewrite(
         alloc,
         command,
         name.as_bytes(),
         word.as_bytes(),
         &mut symbols,
         library,
-    );
-    // The entries of the table are all different, so what was read is the only reading.
-    let _ = symbols.len();
-    answer
+    )
 }
 
 // The answer, with a table for the symbols.
@@ -70,7 +67,8 @@ fn load_and_rewrite<L: Library>(
     requires w0_some { 1 ≤ command.now.order.w0 }
     requires w0_most { command.now.order.w0 ≤ 1000000 }
     requires short { length word.now < 2 ^ 31 }
-    ensures answers { IfOk result (λ answer. RewriteAnswers symbols.new (L.holds library.old) (L.faults library.old) (L.faults library.new) command.now.order command.now.limit word.now command.now.root name.now answer.status (joined answer.lines)) }
+    requires empty { symbols.old ≡ [] }
+    ensures answers { IfOk result (λ answer. RewriteAnswers (L.holds library.old) (L.faults library.old) (L.faults library.new) command.now.order command.now.limit word.now command.now.root name.now answer.status (joined answer.lines)) }
     ensures same { L.holds library.new ≡ L.holds library.old }
     ensures later { L.faults library.old ≤ L.faults library.new }
 {
@@ -86,8 +84,7 @@ fn load_and_rewrite<L: Library>(
     }
 }
 
-// The answer for a problem that is loaded. The word is read before the order is chosen, so that the table has all symbols; but
-// what is wrong with the order is told first.
+// The answer for a problem that is loaded. The order is chosen before the word is read, since what is wrong with it is told first.
 fn rewritten_answer(
     alloc: Global,
     problem: &Problem,
@@ -99,12 +96,10 @@ fn rewritten_answer(
     requires w0_some { 1 ≤ command.now.order.w0 }
     requires w0_most { command.now.order.w0 ≤ 1000000 }
     requires short { length word.now < 2 ^ 31 }
-    ensures answers { IfOk result (λ answer. IsRewritten symbols.new command.now.order command.now.limit word.now problem.now answer.status (joined answer.lines)) }
-    ensures grows { Grows symbols.old symbols.new }
+    ensures { IfOk result (λ answer. IsRewritten symbols.old command.now.order command.now.limit word.now problem.now answer.status (joined answer.lines)) }
 {
-    let read = read_word(alloc, word, problem.signature.symbols.as_slice(), symbols);
     match choose(alloc, &command.order, symbols, &problem.signature, None) {
-        Ok(spec) => match read {
+        Ok(spec) => match read_word(alloc, word, problem.signature.symbols.as_slice(), symbols) {
             Ok(term) => normal_answer(alloc, &spec, problem, &term, command.limit, symbols),
             Err(fault) => word_answer(alloc, 0, &fault),
         },

@@ -1,8 +1,8 @@
 //! The command `show`.
 
-ghost use Rattle.std.specs.Prelude.{◌≡◌, ◌≤◌, IfOk};
+ghost use Rattle.std.specs.Prelude.{◌≡◌, ◌≤◌, [], IfOk};
 ghost use Rattle.std.specs.Option.{option_copied};
-ghost use Rattle.uc_term.specs.Table.{Table, IsOf, IsDistinct};
+ghost use Rattle.uc_term.specs.Table.{IsOf};
 ghost use Rattle.uc_term.specs.Gathering.{AreOf};
 ghost use Rattle.uc_problem.specs.Holds.{terms_of};
 ghost use Rattle.uc_top.specs.Lines.{joined, shown_line, shown_lines};
@@ -23,21 +23,18 @@ pub(crate) fn show_answer<L: Library>(
     name: &Text,
     library: &mut L,
 ) -> Result<Answer, AllocError>
-    ensures answers { IfOk result (λ answer. (table : Table) × IsDistinct table × ShowAnswers table (L.holds library.old) (L.faults library.old) (L.faults library.new) (option_copied root.entry) name.now answer.status (joined answer.lines)) }
+    ensures answers { IfOk result (λ answer. ShowAnswers (L.holds library.old) (L.faults library.old) (L.faults library.new) (option_copied root.entry) name.now answer.status (joined answer.lines)) }
     ensures same { L.holds library.new ≡ L.holds library.old }
     ensures later { L.faults library.old ≤ L.faults library.new }
 {
     let mut symbols = Symbols::new(alloc);
-    let answer = load_and_show(
+    load_and_show(
         alloc,
         bytes_of(root),
         name.as_bytes(),
         &mut symbols,
         library,
-    );
-    // The entries of the table are all different, so what was read is the only reading.
-    let _ = symbols.len();
-    answer
+    )
 }
 
 // The answer, with a table for the symbols.
@@ -48,7 +45,8 @@ fn load_and_show<L: Library>(
     symbols: &mut Symbols,
     library: &mut L,
 ) -> Result<Answer, AllocError>
-    ensures answers { IfOk result (λ answer. ShowAnswers symbols.new (L.holds library.old) (L.faults library.old) (L.faults library.new) (option_copied root.entry) name.now answer.status (joined answer.lines)) }
+    requires empty { symbols.old ≡ [] }
+    ensures answers { IfOk result (λ answer. ShowAnswers (L.holds library.old) (L.faults library.old) (L.faults library.new) (option_copied root.entry) name.now answer.status (joined answer.lines)) }
     ensures same { L.holds library.new ≡ L.holds library.old }
     ensures later { L.faults library.old ≤ L.faults library.new }
 {

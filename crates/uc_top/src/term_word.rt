@@ -7,10 +7,12 @@ ghost use Rattle.uc_term.specs.declared.node.Node.TheVariants.{App};
 ghost use Rattle.uc_term.specs.Tree.{Tree};
 ghost use Rattle.uc_term.specs.Flat.{flat};
 ghost use Rattle.uc_term.specs.Table.{Table, Grows, Has, name_of};
+ghost use Rattle.uc_term.specs.Gathering.{HasAll};
 ghost use Rattle.uc_term.specs.Signatures.{same_symbol};
 ghost use Rattle.uc_clause.specs.Tokens.{AreTokens};
 ghost use Rattle.uc_clause.specs.Items.{term_alone};
 ghost use Rattle.uc_clause.specs.Reading.{ReadsTerm, Refuses};
+ghost use Rattle.uc_clause.specs.Interning.{InternsTerm};
 ghost use Rattle.uc_top.specs.TermWords.{is_foreign, first_foreign, is_mark, node_tokens, node_place, IsTermWord, HasForeign, IsWordFault};
 ghost use Rattle.uc_top.specs.declared.term_word.WordFault.TheVariants as word_fault;
 
@@ -40,7 +42,7 @@ impl From<AllocError> for WordFault {
 }
 
 /// The term that a word is, whose symbols are all known. A word is read whole, and then its symbols are looked at, from
-/// left to right; the table may have grown by symbols that aren't known.
+/// left to right. The table stays as it was where the word is such a term; else it may have grown by symbols that aren't known.
 pub(crate) fn read_word(
     alloc: Global,
     word: &[u8],
@@ -49,8 +51,9 @@ pub(crate) fn read_word(
 ) -> Result<Term, WordFault>
     requires { length word.now < 2 ^ 31 }
     ensures reads { IfOk result (IsTermWord symbols.new known.now word.now) }
-    ensures refused { IfErr result (IsWordFault symbols.new known.now word.now) }
+    ensures refused { IfErr result (IsWordFault symbols.old known.now word.now) }
     ensures grows { Grows symbols.old symbols.new }
+    ensures kept { HasAll symbols.old known.now → IfOk result (λ _. symbols.new ≡ symbols.old) }
 {
     let term = whole_term(alloc, word, symbols)?;
     match first_foreign(known, &term) {
@@ -67,8 +70,9 @@ pub(crate) fn read_word(
 fn whole_term(alloc: Global, word: &[u8], symbols: &mut Symbols) -> Result<Term, WordFault>
     requires { length word.now < 2 ^ 31 }
     ensures reads { IfOk result (ReadsTerm word.now symbols.new) }
-    ensures refused { (known : List AnySym) → IfErr result (IsWordFault symbols.new known word.now) }
+    ensures refused { (known : List AnySym) → IfErr result (IsWordFault symbols.old known word.now) }
     ensures grows { Grows symbols.old symbols.new }
+    ensures interns { IfOk result (λ _. InternsTerm word.now symbols.old symbols.new) }
 {
     match read_term(alloc, word, symbols) {
         Ok(term) => Ok(term),

@@ -19,6 +19,7 @@ pub mod LinesOnce
 pub mod NamesOnce
 pub mod MeantOnce
 pub mod ReadingOnce
+pub mod InternedOnce
 pub mod PrintedPieces
 pub mod Seen
 pub mod Bounded

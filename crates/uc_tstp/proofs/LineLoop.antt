@@ -22,6 +22,7 @@ use Rattle.uc_tstp.specs.Parse.{Source, from_file, by_chain, by_reflexive, by_go
 use Rattle.uc_tstp.specs.Lines.{LineName, is_new, is_repeated, is_no_line_name, line, LinesAt, is_no_line, has_line, stops_in_line}
 use Rattle.uc_tstp.specs.Meaning.{names_of, variables_of}
 use Rattle.uc_tstp.specs.Drafts.{SaySteps, say_nothing, say_more, SaysSource, SaysLine, SayLines, say_no_line, say_line, ReadsLineAt, AreLines}
+use Rattle.uc_tstp.specs.Interning.{with_line, with_lines}
 use Rattle.uc_tstp.proofs.LineParts.{body_grows}
 
 -- the same names, in whatever order
@@ -71,39 +72,46 @@ module _ (bytes : List ℕ) (tokens : List Token) where
   lines_snoc l d say_no_line s = say_line s say_no_line
   lines_snoc l d (say_line r all) s = say_line r (lines_snoc l d all s)
 
+  added_behind : (table : Table) (ls : List Line) (l : Line) → with_lines bytes tokens table (ls ++ l ∷ []) ≡ with_line bytes tokens (with_lines bytes tokens table ls) l
+  added_behind table [] l = refl
+  added_behind table (k ∷ ks) l = added_behind (with_line bytes tokens table k) ks l
+
   -- some lines are read, and with what the rest comes to all comes to
-  pub record Gathered (table : Table) (names : List (List ℕ)) (drafts : List LineDraft) (at : ℕ) : Type 0 where
+  pub record Gathered (old table : Table) (names : List (List ℕ)) (drafts : List LineDraft) (at : ℕ) : Type 0 where
     pub parses : List Line
     pub earlier : List (List ℕ)
     pub same : HaveSame earlier names
     pub names_are : names ≡ names_of bytes tokens parses
     pub say : SayLines bytes tokens table parses drafts
+    pub table_is : table ≡ with_lines bytes tokens old parses
     pub comes_to : (o : Outcome (List Line)) → LinesAt bytes tokens earlier at o → LinesAt bytes tokens [] 0 (after parses o)
 
-  pub gathered_none : (table : Table) → Gathered table [] [] 0
-  gathered_none table = record { parses = []; earlier = []; same = λ x. refl; names_are = refl; say = say_no_line; comes_to = λ o rest. rw (after_none o) rest }
+  pub gathered_none : (table : Table) → Gathered table table [] [] 0
+  gathered_none table = record { parses = []; earlier = []; same = λ x. refl; names_are = refl; say = say_no_line; table_is = refl; comes_to = λ o rest. rw (after_none o) rest }
 
-  module _ (table : Table) (names : List (List ℕ)) (drafts : List LineDraft) (at : ℕ) (g : Gathered table names drafts at) where
-    pub gathered_all : terminal_at bytes tokens at ≡ End → AreLines bytes tokens table names drafts
+  module _ (old table : Table) (names : List (List ℕ)) (drafts : List LineDraft) (at : ℕ) (g : Gathered old table names drafts at) where
+    pub gathered_all : terminal_at bytes tokens at ≡ End → AreLines bytes tokens old table names drafts
     gathered_all e = record {
       parses = g.parses;
       end = at;
       reads = subst (λ ls. LinesAt bytes tokens [] 0 (read ls at)) (append-nil g.parses) (g.comes_to (read [] at) (is_no_line e));
       names_are = g.names_are;
       say = g.say;
+      table_is = g.table_is;
     }
 
     module _ (more : terminal_at bytes tokens at ≢ End) where
       pub line_stops : (e : Stop) → Stops (line bytes tokens names at) e → Stops (LinesAt bytes tokens [] 0) e
       line_stops e h = passes (line bytes tokens names at) (LinesAt bytes tokens [] 0) e (λ why k s. g.comes_to (stop why k) (stops_in_line more (same_line g.earlier names g.same s))) h
 
-      pub gathered_more : (new : Table) (d : LineDraft) (end : ℕ) (more_names : List (List ℕ)) → Grows table new → ReadsLineAt bytes tokens names at end new d → more_names ≡ names ++ bytes_at bytes tokens d.name ∷ [] → Gathered new more_names (drafts ++ d ∷ []) end
+      pub gathered_more : (new : Table) (d : LineDraft) (end : ℕ) (more_names : List (List ℕ)) → Grows table new → ReadsLineAt bytes tokens names at end table new d → more_names ≡ names ++ bytes_at bytes tokens d.name ∷ [] → Gathered old new more_names (drafts ++ d ∷ []) end
       gathered_more new d end more_names grows r e = record {
         parses = g.parses ++ r.line ∷ [];
         earlier = bytes_at bytes tokens r.line.name ∷ g.earlier;
         same = rw (e, r.says.name) (have_more g.earlier names (bytes_at bytes tokens r.line.name) g.same);
         names_are = e ∙ ap (λ k. names ++ bytes_at bytes tokens k ∷ []) r.says.name ∙ ap (λ ns. ns ++ bytes_at bytes tokens r.line.name ∷ []) g.names_are ∙ sym (map-append (λ (l : Line). bytes_at bytes tokens l.name) g.parses (r.line ∷ []));
         say = lines_snoc r.line d (lines_grow table new grows g.say) r.says;
+        table_is = r.table_is ∙ ap (λ t. with_line bytes tokens t r.line) g.table_is ∙ sym (added_behind old g.parses r.line);
         comes_to = λ o rest. rw (after_one g.parses r.line o) (g.comes_to (mapped (λ ls. r.line ∷ ls) o) (has_line more (same_line g.earlier names g.same r.reads) rest));
       }
 

@@ -19,6 +19,7 @@ use Rattle.uc_tstp.specs.declared.drafts.Sort.TheVariants as sort
 use Rattle.uc_tstp.specs.Parse.{Body, says, falsum, Source, Line}
 use Rattle.uc_tstp.specs.Lines.{token, body, source, LineName, is_new, rest_of_line, line}
 use Rattle.uc_tstp.specs.Meaning.{body_variables, source_variables, variables_of}
+use Rattle.uc_tstp.specs.Interning.{with_source}
 use Rattle.uc_tstp.specs.Drafts.{SaysBody, SaysSource, sort_of, sort_of_draft, ReadsBodyAt, ReadsSourceAt, SaysLine, ReadsLineAt}
 
 pub is_new_name : {bytes : List ℕ} {tokens : List Token} {earlier : List (List ℕ)} {at name end : ℕ} → LineName bytes tokens earlier at (read name end) → list_any (bytes_eq (bytes_at bytes tokens name)) earlier ≡ false
@@ -63,7 +64,7 @@ module _ (bytes : List ℕ) (tokens : List Token) where
   body_grows old new seen more_seen grows extends falsum (draft.Sides positive left right) h = elim h [ ]
   body_grows old new seen more_seen grows extends falsum draft.Falsum h = tt
 
-  module _ (name first at behind end : ℕ) (old new : Table) (seen more_seen : Variables) (bd : BodyDraft) (sd : SourceDraft) (grows : Grows old new) (b : ReadsBodyAt bytes tokens first at [] seen old bd) (s : ReadsSourceAt bytes tokens b.body first behind end seen more_seen new sd) where
+  module _ (name first at behind end : ℕ) (before old new : Table) (seen more_seen : Variables) (bd : BodyDraft) (sd : SourceDraft) (grows : Grows old new) (b : ReadsBodyAt bytes tokens first at [] seen before old bd) (s : ReadsSourceAt bytes tokens b.body first behind end seen more_seen old new sd) where
     abbrev of_line : Line
     of_line = record { name = name; body = b.body; source = s.source }
 
@@ -80,5 +81,5 @@ module _ (bytes : List ℕ) (tokens : List Token) where
       source = subst (λ vs. SaysSource bytes tokens new vs s.source sd) all_seen s.says;
     }
 
-    pub reads_line : (earlier : List (List ℕ)) (from last : ℕ) → line bytes tokens earlier from (read of_line last) → ReadsLineAt bytes tokens earlier from last new (record { name = name; body = bd; source = sd })
-    reads_line earlier from last reads = record { line = of_line; reads = reads; says = says_line }
+    pub reads_line : (earlier : List (List ℕ)) (from last : ℕ) → line bytes tokens earlier from (read of_line last) → ReadsLineAt bytes tokens earlier from last before new (record { name = name; body = bd; source = sd })
+    reads_line earlier from last reads = record { line = of_line; reads = reads; says = says_line; table_is = s.table_is ∙ ap (λ t. with_source bytes tokens t s.source) b.table_is }

@@ -30,7 +30,7 @@ module _ (text : List ℕ) (frame : Frame) where
   unknown tokens lines = first_unknown (inside text frame) tokens (names_of (inside text frame) tokens lines) (parse.all_mentions lines)
 
   -- it has one cut, and lines that come to one thing
-  all_once : {ts us : List Token} {o p : Outcome (List parse.Line)} → Cut (inside text frame) 0 (Ok ts) → Cut (inside text frame) 0 (Ok us) → LinesOf ts o → LinesOf us p → (ts ≡ us) × (o ≡ p)
+  pub all_once : {ts us : List Token} {o p : Outcome (List parse.Line)} → Cut (inside text frame) 0 (Ok ts) → Cut (inside text frame) 0 (Ok us) → LinesOf ts o → LinesOf us p → (ts ≡ us) × (o ≡ p)
   all_once {ts} {us} {o} {p} c d l m =
       let tokens : us ≡ ts = ok_once (cut_once d c) in
       (sym tokens, lines_once (inside text frame) ts l (subst (λ vs. LinesOf vs p) tokens m))

@@ -97,7 +97,7 @@ module _ (table : Table) (text : List ℕ) (frame : Frame) where
       line_fault_reading (of_stop.At why k) h = stop_reading why (place_in text frame tokens k) stands.2 (no_lines are h)
       line_fault_reading of_stop.NoMemory h = tt
 
-      module _ (names : List (List ℕ)) (drafts : List LineDraft) (lines : AreLines (inside text frame) tokens table names drafts) where
+      module _ (names : List (List ℕ)) (drafts : List LineDraft) (old : Table) (lines : AreLines (inside text frame) tokens old table names drafts) where
         unknown_is : (o : Option ℕ) → first_unknown (inside text frame) tokens names (lines_mention drafts) ≡ o → first_unknown (inside text frame) tokens (names_of (inside text frame) tokens lines.parses) (all_mentions lines.parses) ≡ o
         unknown_is o e = ap₂ (first_unknown (inside text frame) tokens) (sym lines.names_are) (sym (same_mentions (inside text frame) tokens table lines.say)) ∙ e
 

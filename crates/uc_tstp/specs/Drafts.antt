@@ -20,6 +20,7 @@ use Rattle.uc_tstp.specs.declared.drafts.Sort.TheVariants as sort
 use Rattle.uc_tstp.specs.Parse as parse
 use Rattle.uc_tstp.specs.Lines as lines
 use Rattle.uc_tstp.specs.Meaning.{names_of, variables_of, body_variables, source_variables}
+use Rattle.uc_tstp.specs.Interning.{with_body, with_source, with_line, with_lines}
 
 module _ (bytes : List ℕ) (tokens : List Token) (at : ℕ) where
   -- a comma stands here, or the closing square bracket
@@ -68,18 +69,21 @@ sort_of_draft (body.Sides positive left right) = if positive then sort.Equation 
 sort_of_draft body.Falsum = sort.Falsum
 
 module _ (bytes : List ℕ) (tokens : List Token) where
-  -- from a token on a body is read, up to another token, with the names of its variables put behind those seen so far
-  pub record ReadsBodyAt (from end : ℕ) (seen more_seen : Variables) (table : Table) (draft : BodyDraft) : Type 0 where
+  -- from a token on a body is read, up to another token, with the names of its variables put behind those seen so far, and with
+  -- its symbols in the table that it makes of the old one
+  pub record ReadsBodyAt (from end : ℕ) (seen more_seen : Variables) (old table : Table) (draft : BodyDraft) : Type 0 where
     pub body : parse.Body
     pub reads : lines.body bytes tokens from (read body end)
     pub seen_is : more_seen ≡ with_names seen (body_variables bytes tokens body)
+    pub table_is : table ≡ with_body bytes tokens old body
     pub says : SaysBody bytes tokens table more_seen body draft
 
   -- from a token on a source is read, up to another token, behind a body of this sort that begins at its first token
-  pub record ReadsSourceAt (b : parse.Body) (first from end : ℕ) (seen more_seen : Variables) (table : Table) (draft : SourceDraft) : Type 0 where
+  pub record ReadsSourceAt (b : parse.Body) (first from end : ℕ) (seen more_seen : Variables) (old table : Table) (draft : SourceDraft) : Type 0 where
     pub source : parse.Source
     pub reads : lines.source bytes tokens b first from (read source end)
     pub seen_is : more_seen ≡ with_names seen (source_variables bytes tokens source)
+    pub table_is : table ≡ with_source bytes tokens old source
     pub says : SaysSource bytes tokens table more_seen source draft
 
 module _ (bytes : List ℕ) (tokens : List Token) where
@@ -94,15 +98,17 @@ module _ (bytes : List ℕ) (tokens : List Token) where
     say_line : {l : parse.Line} {ls : List parse.Line} {draft : LineDraft} {drafts : List LineDraft} → SaysLine table l draft → SayLines table ls drafts → SayLines table (l ∷ ls) (draft ∷ drafts)
 
   -- behind lines of these names a line is read from a token on, up to another token
-  pub record ReadsLineAt (earlier : List (List ℕ)) (from end : ℕ) (table : Table) (draft : LineDraft) : Type 0 where
+  pub record ReadsLineAt (earlier : List (List ℕ)) (from end : ℕ) (old table : Table) (draft : LineDraft) : Type 0 where
     pub line : parse.Line
     pub reads : lines.line bytes tokens earlier from (read line end)
     pub says : SaysLine table line draft
+    pub table_is : table ≡ with_line bytes tokens old line
 
   -- from the first token to the last all is lines, of these names
-  pub record AreLines (table : Table) (names : List (List ℕ)) (drafts : List LineDraft) : Type 0 where
+  pub record AreLines (old table : Table) (names : List (List ℕ)) (drafts : List LineDraft) : Type 0 where
     pub parses : List parse.Line
     pub end : ℕ
     pub reads : lines.LinesAt bytes tokens [] 0 (read parses end)
     pub names_are : names ≡ names_of bytes tokens parses
     pub say : SayLines table parses drafts
+    pub table_is : table ≡ with_lines bytes tokens old parses

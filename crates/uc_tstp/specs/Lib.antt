@@ -5,6 +5,7 @@ pub mod Meaning
 pub mod Drafts
 pub mod Parts
 pub mod Reading
+pub mod Interning
 pub mod Printing
 pub mod Bounds
 pub mod Printable

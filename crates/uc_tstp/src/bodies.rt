@@ -45,7 +45,7 @@ pub(crate) fn body_at(
     symbols: &mut Symbols,
 ) -> Result<(BodyDraft, usize), Stop>
     requires { AreTokens bytes.now tokens.now }
-    ensures reads { IfOk result (λ r. ReadsBodyAt bytes.now tokens.now from r.1 variables.old variables.new symbols.new r.0) }
+    ensures reads { IfOk result (λ r. ReadsBodyAt bytes.now tokens.now from r.1 variables.old variables.new symbols.old symbols.new r.0) }
     ensures stops { IfErr result (Stops (lines.body bytes.now tokens.now from)) }
     ensures grows { Grows symbols.old symbols.new }
 {

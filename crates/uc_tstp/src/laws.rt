@@ -7,6 +7,7 @@ ghost use Rattle.uc_tstp.specs.declared.fault.ProofFault.{ProofFault};
 ghost use Rattle.uc_tstp.specs.declared.framing.Frame.{Frame};
 ghost use Rattle.uc_tstp.specs.Framing.{Framed};
 ghost use Rattle.uc_tstp.specs.Reading.{ReadsProof, ReadsLines};
+ghost use Rattle.uc_tstp.specs.Interning.{InternsProof};
 
 /// A text comes to at most one frame or one reason why it has none. In a table whose entries are all different it reads as at
 /// most one proof, or is refused for one reason at one place, and so do lines alone. So each contract that names these says
@@ -15,6 +16,11 @@ pub fn one_reading()
     ensures frame { (text : List ℕ) (a b : Result Frame ProofFault) → Framed text a → Framed text b → a ≡ b }
     ensures reading { (table : Table) (text : List ℕ) (a b : Result Proof ProofFault) → IsDistinct table → ReadsProof table text a → ReadsProof table text b → a ≡ b }
     ensures lines { (table : Table) (text : List ℕ) (a b : Result Proof ProofFault) → IsDistinct table → ReadsLines table text a → ReadsLines table text b → a ≡ b }
+{}
+
+/// What reading a proof makes of the table of symbols is one table.
+pub fn one_table()
+    ensures { (text : List ℕ) (old new other : Table) → InternsProof text old new → InternsProof text old other → new ≡ other }
 {}
 
 /// What a text reads as in a table it reads as in each table that begins with it, and so do lines alone. So a printed proof is

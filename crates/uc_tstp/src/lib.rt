@@ -14,20 +14,14 @@ mod lists;
 mod names;
 mod printing;
 mod reading;
-#[cfg(test)]
-mod reading_tests;
 mod refusal;
 mod resolving;
-#[cfg(test)]
-mod source_tests;
 mod sources;
 mod steps;
-#[cfg(test)]
-mod tests;
 mod words;
 
 pub use fault::ProofFault;
 pub use framing::{Frame, MAX_PROOF, frame_of};
-pub use laws::{one_reading, reading_stays};
+pub use laws::{one_reading, one_table, reading_stays};
 pub use printing::print_proof;
 pub use reading::{read_lines, read_proof};

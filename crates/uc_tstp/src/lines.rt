@@ -70,7 +70,7 @@ fn line_at(
     symbols: &mut Symbols,
 ) -> Result<(LineDraft, usize), Stop>
     requires { AreTokens bytes.now tokens.now }
-    ensures reads { IfOk result (λ r. ReadsLineAt bytes.now tokens.now names.now from r.1 symbols.new r.0) }
+    ensures reads { IfOk result (λ r. ReadsLineAt bytes.now tokens.now names.now from r.1 symbols.old symbols.new r.0) }
     ensures new { IfOk result (λ r. list_any (bytes_eq (bytes_at bytes.now tokens.now r.0.name)) names.now ≡ false) }
     ensures stops { IfErr result (Stops (rules.line bytes.now tokens.now names.now from)) }
     ensures grows { Grows symbols.old symbols.new }
@@ -103,7 +103,7 @@ pub(crate) fn lines_in(
     symbols: &mut Symbols,
 ) -> Result<(Names, Seq<LineDraft>), Stop>
     requires { AreTokens bytes.now tokens.now }
-    ensures reads { IfOk result (λ r. AreLines bytes.now tokens.now symbols.new r.0 r.1) }
+    ensures reads { IfOk result (λ r. AreLines bytes.now tokens.now symbols.old symbols.new r.0 r.1) }
     ensures few { IfOk result (λ r. length r.1 < 2 ^ 31) }
     ensures stops { IfErr result (Stops (rules.LinesAt bytes.now tokens.now [] 0)) }
     ensures grows { Grows symbols.old symbols.new }

@@ -9,9 +9,6 @@ ghost use Rattle.uc_tstp.specs.Printing.{border_text, proof_text, lines_text, li
 ghost use Rattle.uc_tstp.specs.Printable.{IsPrintableProof, AreInOrder, renumbered_proof};
 ghost use Rattle.uc_tstp.specs.Reading.{ReadsProof};
 
-#[cfg(test)]
-mod tests;
-
 use crate::bounds::see_bounds;
 use crate::framing::{END, START};
 use itoa::Buffer;

@@ -3,6 +3,7 @@
 ghost use Rattle.std.specs.Prelude.{◌≡◌, ◌<◌, ◌^◌, length, IfOk};
 ghost use Rattle.uc_term.specs.Table.{Table, Grows};
 ghost use Rattle.uc_clause.specs.Tokens.{AreTokens};
+ghost use Rattle.uc_tstp.specs.Interning.{InternsInside, InternsProof};
 ghost use Rattle.uc_tstp.specs.Drafts.{AreLines};
 ghost use Rattle.uc_tstp.specs.Faults.{StandsIn, BeginsLine};
 ghost use Rattle.uc_tstp.specs.Reading.{inside, IsReadingInside, IsReadingOfLines, IsReading};
@@ -32,6 +33,7 @@ pub fn read_proof(alloc: Global, bytes: &[u8], symbols: &mut Symbols) -> Result<
     ensures reading { IsReading symbols.new bytes.now result }
     ensures few { IfOk result (λ proof. length proof.lines < 2 ^ 31) }
     ensures grows { Grows symbols.old symbols.new }
+    ensures interns { IfOk result (λ _. InternsProof bytes.now symbols.old symbols.new) }
 {
     let frame = frame_of(bytes)?;
     read_inside(alloc, bytes, frame, symbols)
@@ -69,6 +71,7 @@ fn read_inside(
     ensures reading { IsReadingInside symbols.new bytes.now frame result }
     ensures few { IfOk result (λ proof. length proof.lines < 2 ^ 31) }
     ensures grows { Grows symbols.old symbols.new }
+    ensures interns { IfOk result (λ _. InternsInside bytes.now frame symbols.old symbols.new) }
 {
     match tokens(alloc, &bytes[frame.from..frame.to]) {
         Ok(list) => proof_in(alloc, bytes, frame, list.as_slice(), symbols),
@@ -89,6 +92,7 @@ fn proof_in(
     ensures reading { IsReadingInside symbols.new bytes.now frame result }
     ensures few { IfOk result (λ proof. length proof.lines < 2 ^ 31) }
     ensures grows { Grows symbols.old symbols.new }
+    ensures interns { IfOk result (λ _. InternsInside bytes.now frame symbols.old symbols.new) }
 {
     match lines_in(alloc, &bytes[frame.from..frame.to], tokens, symbols) {
         Ok((names, drafts)) => proof_of(alloc, bytes, frame, tokens, &names, drafts),
@@ -107,7 +111,7 @@ fn proof_of(
 ) -> Result<Proof, ProofFault>
     requires frame { StandsIn bytes.now frame }
     requires tokens { AreTokens (inside bytes.now frame) tokens.now }
-    ensures reading { (table : Table) → AreLines (inside bytes.now frame) tokens.now table names.now drafts → IsReadingInside table bytes.now frame result }
+    ensures reading { (old table : Table) → AreLines (inside bytes.now frame) tokens.now old table names.now drafts → IsReadingInside table bytes.now frame result }
     ensures few { IfOk result (λ proof. length proof.lines ≡ length drafts) }
 {
     match resolved(alloc, &bytes[frame.from..frame.to], tokens, names, drafts) {

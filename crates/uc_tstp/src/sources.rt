@@ -114,7 +114,7 @@ fn chain_source(
     symbols: &mut Symbols,
 ) -> Result<(SourceDraft, usize), Stop>
     requires { AreTokens bytes.now tokens.now }
-    ensures reads { IfOk result (λ r. ReadsSourceBy bytes.now tokens.now (lines.chain_source bytes.now tokens.now) from r.1 variables.old variables.new symbols.new r.0) }
+    ensures reads { IfOk result (λ r. ReadsSourceBy bytes.now tokens.now (lines.chain_source bytes.now tokens.now) from r.1 variables.old variables.new symbols.old symbols.new r.0) }
     ensures stops { IfErr result (Stops (lines.chain_source bytes.now tokens.now from)) }
     ensures grows { Grows symbols.old symbols.new }
 {
@@ -139,7 +139,7 @@ fn encode_source(
     from: usize,
 ) -> Result<(SourceDraft, usize), Stop>
     requires { AreTokens bytes.now tokens.now }
-    ensures reads { IfOk result (λ r. (seen : Variables) (table : Table) → ReadsSourceBy bytes.now tokens.now (lines.encode_source bytes.now tokens.now) from r.1 seen seen table r.0) }
+    ensures reads { IfOk result (λ r. (seen : Variables) (table : Table) → ReadsSourceBy bytes.now tokens.now (lines.encode_source bytes.now tokens.now) from r.1 seen seen table table r.0) }
     ensures stops { IfErr result (Stops (lines.encode_source bytes.now tokens.now from)) }
 {
     let (goal, at) = of_goal(bytes, tokens, from)?;
@@ -160,7 +160,7 @@ fn refute_source(
     from: usize,
 ) -> Result<(SourceDraft, usize), Stop>
     requires { AreTokens bytes.now tokens.now }
-    ensures reads { IfOk result (λ r. (seen : Variables) (table : Table) → ReadsSourceBy bytes.now tokens.now (lines.refute_source bytes.now tokens.now) from r.1 seen seen table r.0) }
+    ensures reads { IfOk result (λ r. (seen : Variables) (table : Table) → ReadsSourceBy bytes.now tokens.now (lines.refute_source bytes.now tokens.now) from r.1 seen seen table table r.0) }
     ensures stops { IfErr result (Stops (lines.refute_source bytes.now tokens.now from)) }
 {
     let at = expect(bytes, tokens, from, Terminal::CloseSquare)?;
@@ -179,7 +179,7 @@ fn source_of_rule(
     symbols: &mut Symbols,
 ) -> Result<(SourceDraft, usize), Stop>
     requires { AreTokens bytes.now tokens.now }
-    ensures reads { IfOk result (λ r. ReadsSourceBy bytes.now tokens.now (lines.source_of_rule bytes.now tokens.now rule) from r.1 variables.old variables.new symbols.new r.0) }
+    ensures reads { IfOk result (λ r. ReadsSourceBy bytes.now tokens.now (lines.source_of_rule bytes.now tokens.now rule) from r.1 variables.old variables.new symbols.old symbols.new r.0) }
     ensures stops { IfErr result (Stops (lines.source_of_rule bytes.now tokens.now rule from)) }
     ensures grows { Grows symbols.old symbols.new }
 {
@@ -202,7 +202,7 @@ fn inference_source(
     symbols: &mut Symbols,
 ) -> Result<(SourceDraft, usize), Stop>
     requires { AreTokens bytes.now tokens.now }
-    ensures reads { IfOk result (λ r. (b : Body) → sort_of b ≡ sort → ReadsSourceBy bytes.now tokens.now (lines.inference_source bytes.now tokens.now b first) from r.1 variables.old variables.new symbols.new r.0) }
+    ensures reads { IfOk result (λ r. (b : Body) → sort_of b ≡ sort → ReadsSourceBy bytes.now tokens.now (lines.inference_source bytes.now tokens.now b first) from r.1 variables.old variables.new symbols.old symbols.new r.0) }
     ensures stops { IfErr result (λ e. (b : Body) → sort_of b ≡ sort → Stops (lines.inference_source bytes.now tokens.now b first from) e) }
     ensures grows { Grows symbols.old symbols.new }
 {
@@ -227,7 +227,7 @@ pub(crate) fn source_at(
     symbols: &mut Symbols,
 ) -> Result<(SourceDraft, usize), Stop>
     requires { AreTokens bytes.now tokens.now }
-    ensures reads { IfOk result (λ r. (b : Body) → sort_of b ≡ sort → ReadsSourceAt bytes.now tokens.now b first from r.1 variables.old variables.new symbols.new r.0) }
+    ensures reads { IfOk result (λ r. (b : Body) → sort_of b ≡ sort → ReadsSourceAt bytes.now tokens.now b first from r.1 variables.old variables.new symbols.old symbols.new r.0) }
     ensures stops { IfErr result (λ e. (b : Body) → sort_of b ≡ sort → Stops (lines.source bytes.now tokens.now b first from) e) }
     ensures grows { Grows symbols.old symbols.new }
 {

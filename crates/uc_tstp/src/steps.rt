@@ -61,7 +61,7 @@ fn step(
     symbols: &mut Symbols,
 ) -> Result<(StepDraft, usize), Stop>
     requires { AreTokens bytes.now tokens.now }
-    ensures reads { IfOk result (λ r. ReadsStepAt bytes.now tokens.now from r.1 variables.old variables.new symbols.new r.0) }
+    ensures reads { IfOk result (λ r. ReadsStepAt bytes.now tokens.now from r.1 variables.old variables.new symbols.old symbols.new r.0) }
     ensures stops { IfErr result (Stops (lines.step bytes.now tokens.now from)) }
     ensures grows { Grows symbols.old symbols.new }
 {
@@ -89,7 +89,7 @@ fn more_steps(
     symbols: &mut Symbols,
 ) -> Result<(Seq<StepDraft>, usize), Stop>
     requires { AreTokens bytes.now tokens.now }
-    ensures reads { IfOk result (λ r. ReadsStepsBy bytes.now tokens.now (lines.members bytes.now tokens.now (lines.step bytes.now tokens.now)) from r.1 variables.old variables.new symbols.new r.0) }
+    ensures reads { IfOk result (λ r. ReadsStepsBy bytes.now tokens.now (lines.members bytes.now tokens.now (lines.step bytes.now tokens.now)) from r.1 variables.old variables.new symbols.old symbols.new r.0) }
     ensures stops { IfErr result (Stops (lines.members bytes.now tokens.now (lines.step bytes.now tokens.now) from)) }
     ensures grows { Grows symbols.old symbols.new }
 {
@@ -115,7 +115,7 @@ pub(crate) fn steps(
     symbols: &mut Symbols,
 ) -> Result<(Seq<StepDraft>, usize), Stop>
     requires { AreTokens bytes.now tokens.now }
-    ensures reads { IfOk result (λ r. ReadsStepsBy bytes.now tokens.now (lines.steps bytes.now tokens.now) from r.1 variables.old variables.new symbols.new r.0) }
+    ensures reads { IfOk result (λ r. ReadsStepsBy bytes.now tokens.now (lines.steps bytes.now tokens.now) from r.1 variables.old variables.new symbols.old symbols.new r.0) }
     ensures stops { IfErr result (Stops (lines.steps bytes.now tokens.now from)) }
     ensures grows { Grows symbols.old symbols.new }
 {

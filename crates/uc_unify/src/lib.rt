@@ -10,6 +10,3 @@ mod unification;
 
 pub use matching::{matches, matches_both};
 pub use unification::{Unified, unify};
-
-#[cfg(test)]
-mod tests;

@@ -8,8 +8,6 @@ mod line;
 mod names;
 mod read;
 mod table;
-#[cfg(test)]
-mod tests;
 
 pub use command::{Command, OrderWords, Verb, WordsFault};
 pub use digits::number;

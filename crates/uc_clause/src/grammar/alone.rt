@@ -7,7 +7,7 @@ ghost use Rattle.uc_clause.specs.Tokens.{AreTokens};
 ghost use Rattle.uc_clause.specs.Rules.{Stops};
 ghost use Rattle.uc_clause.specs.Items.{term_alone, equals_alone};
 ghost use Rattle.uc_clause.specs.Reading.{ReadsTerm, ReadsEquation, Refuses, IsFault, IsUnlessMemory, IsAnswer};
-ghost use Rattle.uc_clause.specs.Interning.{InternsAt, InternsEquation, with_sides};
+ghost use Rattle.uc_clause.specs.Interning.{InternsAt, InternsTerm, InternsEquation, with_term, with_sides};
 ghost use Rattle.uc_clause.specs.Sides.{IsTermAlone, IsEquationAlone};
 ghost use Rattle.uc_clause.specs.declared.fault.ClauseFault.{ClauseFault};
 
@@ -31,6 +31,7 @@ pub fn read_term(alloc: Global, bytes: &[u8], symbols: &mut Symbols) -> Result<T
     ensures complete { (t : Tree) → ReadsTerm bytes.now symbols.new t → IsUnlessMemory (Ok t) result }
     ensures refuses { (fault : ClauseFault) → Refuses term_alone bytes.now fault → IsUnlessMemory (Err fault) result }
     ensures grows { Grows symbols.old symbols.new }
+    ensures interns { IfOk result (λ _. InternsTerm bytes.now symbols.old symbols.new) }
 {
     let result = term_of(alloc, bytes, symbols);
     // The entries of the table are all different, so what was read is the only reading.
@@ -43,6 +44,7 @@ fn term_of(alloc: Global, bytes: &[u8], symbols: &mut Symbols) -> Result<Term, C
     requires { length bytes.now < 2 ^ 31 }
     ensures answer { IsAnswer (ReadsTerm bytes.now symbols.new) (Refuses term_alone bytes.now) result }
     ensures grows { Grows symbols.old symbols.new }
+    ensures interns { IfOk result (λ _. InternsTerm bytes.now symbols.old symbols.new) }
 {
     let list = tokens(alloc, bytes)?;
     match term_in(alloc, bytes, list.as_slice(), symbols) {
@@ -62,6 +64,7 @@ fn term_in(
     ensures reads { IfOk result (IsTermAlone bytes.now tokens.now symbols.new) }
     ensures stops { IfErr result (Stops (term_alone bytes.now tokens.now 0)) }
     ensures grows { Grows symbols.old symbols.new }
+    ensures interns { IfOk result (λ _. (end : ℕ) × InternsAt (term_alone bytes.now tokens.now 0) (with_term bytes.now tokens.now) symbols.old symbols.new end) }
 {
     let mut variables = Variables::new(alloc);
     let part = part_at(alloc, bytes, tokens, 0, &mut variables, symbols)?;

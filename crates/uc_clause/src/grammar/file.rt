@@ -11,7 +11,7 @@ ghost use Rattle.uc_clause.specs.Tokens.{AreTokens};
 ghost use Rattle.uc_clause.specs.Rules.{Stops};
 ghost use Rattle.uc_clause.specs.Items as items;
 ghost use Rattle.uc_clause.specs.Meaning.{IsName, AreNames, MeansInclude, AreSelected};
-ghost use Rattle.uc_clause.specs.Interning.{InternsAt, InternsFile, with_clause, with_item, with_items};
+ghost use Rattle.uc_clause.specs.Interning.{InternsAt, InternsFile, with_clause, with_item, with_items, with_literal};
 ghost use Rattle.uc_clause.specs.Given.{ReadsFormula, ReadsClauseAt, ReadsItemAt, ReadsLiteralAt, AreItems, StopsWith};
 
 use super::item::{heading_at, inclusion_at, opening_of};
@@ -280,6 +280,7 @@ pub fn item_at(
     ensures complete { (item : Item) (end : ℕ) → ReadsItemAt bytes.now tokens.now from symbols.new item end → IsUnlessMemory (Ok (item, end)) result }
     ensures refuses { (fault : ClauseFault) → StopsWith (items.Item bytes.now tokens.now) bytes.now tokens.now from fault → IsUnlessMemory (Err fault) result }
     ensures grows { Grows symbols.old symbols.new }
+    ensures interns { IfOk result (λ r. InternsAt (items.Item bytes.now tokens.now from) (with_item bytes.now tokens.now) symbols.old symbols.new r.1) }
 {
     let found = item_in(alloc, bytes, tokens, from as usize, symbols);
     // The entries of the table are all different, so what was read is the only reading.
@@ -312,6 +313,7 @@ pub fn literal_at(
     ensures complete { (positive : Bool) (left right : Tree) (places : List Place) (end : ℕ) → ReadsLiteralAt bytes.now tokens.now from symbols.new positive left right places end → IsUnlessMemory (Ok (positive, left, right, places, end)) result }
     ensures refuses { (fault : ClauseFault) → StopsWith (items.literal bytes.now tokens.now) bytes.now tokens.now from fault → IsUnlessMemory (Err fault) result }
     ensures grows { Grows symbols.old symbols.new }
+    ensures interns { IfOk result (λ r. InternsAt (items.literal bytes.now tokens.now from) (with_literal bytes.now tokens.now) symbols.old symbols.new r.4) }
 {
     let mut variables = Variables::new(alloc);
     let from = from as usize;

@@ -62,6 +62,7 @@ pub fn term_at(
     ensures complete { (t : Tree) (end : ℕ) → ReadsTermAt bytes.now tokens.now from end variables.old variables.new symbols.new t → (result ≡ Ok (t, end)) ⊎ (result ≡ Err Stop.NoMemory) }
     ensures refuses { (why : Why) (k : ℕ) → Reads bytes.now tokens.now 0 from (stop why k) → (result ≡ Err (Stop.At why k)) ⊎ (result ≡ Err Stop.NoMemory) }
     ensures grows { Grows symbols.old symbols.new }
+    ensures interns { IfOk result (λ r. InternsAt (Reads bytes.now tokens.now 0 from) (with_term bytes.now tokens.now) symbols.old symbols.new r.1) }
 {
     let found = part_at(alloc, bytes, tokens, from, variables, symbols);
     // The entries of the table are all different, and so are the names, so what was read is the only reading.

@@ -8,7 +8,7 @@ pub loop-missing-init : goal.loop-missing-init
 loop-missing-init g c =
     let b = c.args.book.now in
     let e : c.into_iter-missing-iterator.result.rest.items ≡ c.args.all = c.into_iter-missing-iterator.ensures.into_iter_gives.0 ∙ c.into_vec-missing-items.ensures in
-    (tt, tt, subst (λ l. WereMissing (g.O.Order.meaning b.order) (opening_of b.opening) b.state c.args.all l b.state) (sym e) (missing_first (g.O.Order.meaning b.order) (opening_of b.opening) b.state c.args.all c.requires.drained c.requires.missing), record { opening = refl; order = refl; enrolled = refl })
+    (tt, tt, subst (λ l. WereMissing (g.O.Order.meaning b.order) (opening_of b.opening) b.state c.args.all l b.state) (sym e) (missing_first (g.O.Order.meaning b.order) (opening_of b.opening) b.state c.args.all c.is_reached.ensures c.requires.drained c.requires.missing), record { opening = refl; order = refl; enrolled = refl })
 
 pub audit-requires-in-loop-missing : goal.audit-requires-in-loop-missing
 audit-requires-in-loop-missing g c =

@@ -8,6 +8,7 @@ use Rattle.uc_clause.specs.declared.fault.TokenFault.TheVariants.{Syntax}
 use Rattle.uc_clause.specs.Bytes.{in_line}
 use Rattle.uc_clause.proofs.Cuts.{completes_gap, completes_token, cut_end, cut_stuck}
 use Rattle.uc_clause.proofs.Once.{tokens_once, tokens_or_stops, stops_once, cut_spans}
+use Rattle.uc_clause.proofs.Spans.{spans_few}
 use Rattle.uc_clause.proofs.lexer.tokens.Goals as goal
 use Rattle.uc_clause.proofs.lexer.tokens.Goals.{in-Gap, in-Whole+in_ok-push-in-Whole}
 
@@ -46,3 +47,6 @@ returns-in-Neither-clause-stops c = λ place stop. inl (ap (λ p. Err (Syntax p)
 
 pub returns-clause-spans : goal.returns-clause-spans
 returns-clause-spans c = rw c.from_vec.ensures (cut_spans (cut_end _ _ _ c.loop-at.invariant.so_far (omega arith)))
+
+pub returns-clause-few : goal.returns-clause-few
+returns-clause-few c = rw c.from_vec.ensures (omega (arith, spans_few c.args.bytes.now 0 c.loop-at.out.items (omega arith) (cut_spans (cut_end _ _ _ c.loop-at.invariant.so_far (omega arith)))))

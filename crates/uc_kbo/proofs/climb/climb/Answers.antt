@@ -10,7 +10,7 @@ use Rattle.uc_order.proofs.Renaming.{length-renamed, renamed_is_whole}
 use Rattle.uc_kbo.specs.Runs.{table_weighing, test_by, above_by, slot_by, read_by, image_by}
 use Rattle.uc_kbo.proofs.Parts.{run_new}
 use Rattle.uc_kbo.proofs.Covering.{agree_by}
-use Rattle.uc_kbo.proofs.Reading.{get_or-renamed, nodes-renamed, nodes_all-renamed, length_spelled_at}
+use Rattle.uc_order.proofs.Reading.{get_or-renamed, nodes-renamed, nodes_all-renamed, length_spelled_at}
 use Rattle.uc_kbo.proofs.Around.{climbed_init, climbed_var, climbed_app, climbed_up, s_around, t_around, climbed_end}
 use Rattle.uc_kbo.proofs.climb.climb.Goals as goal
 

@@ -8,7 +8,8 @@ use Rattle.uc_order.proofs.Renaming.{length-renamed, renamed_is_whole}
 use Rattle.uc_kbo.specs.Runs.{table_weighing, test_by, above_by, slot_by, read_by, image_by}
 use Rattle.uc_kbo.proofs.Parts.{run_new}
 use Rattle.uc_kbo.proofs.Covering.{agree_by}
-use Rattle.uc_kbo.proofs.Around.{same_front, trees_differ, not_above_itself, heavy}
+use Rattle.uc_order.proofs.Climbing.{same_front, trees_differ}
+use Rattle.uc_kbo.proofs.Around.{not_above_itself, heavy}
 use Rattle.uc_kbo.proofs.Balancing.{read_as_is, verdict_read}
 use Rattle.uc_kbo.proofs.climb.compare_by.Goals as goal
 use Rattle.uc_kbo.proofs.climb.compare_by.Goals.{then-at-s-via-then-at-s, then-at-s-via-else-at-s+then-at-t}

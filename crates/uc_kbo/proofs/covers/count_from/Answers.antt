@@ -5,7 +5,7 @@ use Rattle.uc_order.proofs.Renaming.{length-renamed}
 use Rattle.uc_kbo.specs.Kbo.{is_from}
 use Rattle.uc_kbo.specs.Runs.{is_counted, read_by}
 use Rattle.uc_kbo.proofs.Covering.{count_step}
-use Rattle.uc_kbo.proofs.Reading.{get_or-renamed}
+use Rattle.uc_order.proofs.Reading.{get_or-renamed}
 use Rattle.uc_kbo.proofs.covers.count_from.Goals as goal
 use Rattle.uc_kbo.proofs.covers.count_from.Goals.{then-is_node_from, else-is_node_from}
 

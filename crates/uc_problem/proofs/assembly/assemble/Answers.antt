@@ -19,4 +19,4 @@ returns-in_err-goals-clause-refused c =
 pub returns-clause-agrees : goal.returns-clause-agrees
 returns-clause-agrees c =
     agree c.signature_of.new.symbols c.args.clauses _ (are_sound_later c.args.symbols.now c.signature_of.new.symbols c.in_ok-signature.ensures.grows c.args.clauses c.requires.sound) refl
-    (c.in_ok-axioms.ensures ∙ ap (numbers_of true 0) c.as_slice-2.ensures) (c.in_ok-goals.ensures ∙ ap (numbers_of false 0) c.as_slice-3.ensures) (rw c.as_slice.ensures at c.in_ok-signature.ensures.signature) refl
+    (c.in_ok-axioms.ensures ∙ ap (numbers_of true 0) c.as_slice-2.ensures) (c.in_ok-goals.ensures ∙ ap (numbers_of false 0) c.as_slice-3.ensures) (rw c.as_slice.ensures at c.in_ok-signature.ensures.signature)

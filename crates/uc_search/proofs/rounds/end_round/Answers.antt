@@ -9,34 +9,34 @@ use Rattle.uc_search.proofs.rounds.end_round.Goals as goal
 pub returns-in-Ok-clause-ends : goal.returns-in-Ok-clause-ends
 returns-in-Ok-clause-ends g c =
     let b = c.args.book.now in
-    let f = c.in_ok-outcome.ensures b.state (sym c.front-front.ensures.entries) (sym (c.as_slice.ensures.value ∙ c.in_ok-stages.ensures.stages)) in
+    let f = c.in_ok-outcome.ensures.outcome b.state (sym c.front-front.ensures.entries) (sym (c.as_slice.ensures.value ∙ c.in_ok-stages.ensures.stages)) in
     let lacks = final_moved g.O.Order.meaning b.order c.args.order.now b.opening.problem.axioms c.axioms-axioms.result.now b.state c.in_ok-outcome.outcome (Lacks c.in-Ok.all) c.requires.order (sym c.axioms-axioms.ensures.axioms) c.in-Ok.ensures.missing f in
     IfOk-weaker c.audit_all.result (λ v. AuditsAll (opening_of b.opening) c.in-Ok.all b.state v c.audit_all.new.book.state) (λ v. EndsRound (g.O.Order.meaning b.order) (opening_of b.opening) b.state v c.audit_all.new.book.state) (λ v a. audits_missing lacks a) c.audit_all.ensures.audited
 
 pub returns-clause-ends : goal.returns-clause-ends
 returns-clause-ends g c =
     let b = c.args.book.now in
-    let f = c.in_ok-outcome.ensures b.state (sym c.front-front.ensures.entries) (sym (c.as_slice.ensures.value ∙ c.in_ok-stages.ensures.stages)) in
+    let f = c.in_ok-outcome.ensures.outcome b.state (sym c.front-front.ensures.entries) (sym (c.as_slice.ensures.value ∙ c.in_ok-stages.ensures.stages)) in
     let final = final_moved g.O.Order.meaning b.order c.args.order.now b.opening.problem.axioms c.axioms-axioms.result.now b.state c.in_ok-outcome.outcome c.in-Err.end c.requires.order (sym c.axioms-axioms.ensures.axioms) c.in-Err.ensures.end.0 f in
     (has_closed (g.O.Order.meaning b.order) (opening_of b.opening) b.state c.in-Err.end c.close.result c.close.new.self.state final c.close.ensures.closed).ends
 
 pub returns-clause-verdict : goal.returns-clause-verdict
 returns-clause-verdict g c =
     let b = c.args.book.now in
-    let f = c.in_ok-outcome.ensures b.state (sym c.front-front.ensures.entries) (sym (c.as_slice.ensures.value ∙ c.in_ok-stages.ensures.stages)) in
+    let f = c.in_ok-outcome.ensures.outcome b.state (sym c.front-front.ensures.entries) (sym (c.as_slice.ensures.value ∙ c.in_ok-stages.ensures.stages)) in
     let final = final_moved g.O.Order.meaning b.order c.args.order.now b.opening.problem.axioms c.axioms-axioms.result.now b.state c.in_ok-outcome.outcome c.in-Err.end c.requires.order (sym c.axioms-axioms.ensures.axioms) c.in-Err.ensures.end.0 f in
     (has_closed (g.O.Order.meaning b.order) (opening_of b.opening) b.state c.in-Err.end c.close.result c.close.new.self.state final c.close.ensures.closed).verdict
 
 pub returns-clause-out : goal.returns-clause-out
 returns-clause-out g c =
     let b = c.args.book.now in
-    let f = c.in_ok-outcome.ensures b.state (sym c.front-front.ensures.entries) (sym (c.as_slice.ensures.value ∙ c.in_ok-stages.ensures.stages)) in
+    let f = c.in_ok-outcome.ensures.outcome b.state (sym c.front-front.ensures.entries) (sym (c.as_slice.ensures.value ∙ c.in_ok-stages.ensures.stages)) in
     let final = final_moved g.O.Order.meaning b.order c.args.order.now b.opening.problem.axioms c.axioms-axioms.result.now b.state c.in_ok-outcome.outcome c.in-Err.end c.requires.order (sym c.axioms-axioms.ensures.axioms) c.in-Err.ensures.end.0 f in
     (has_closed (g.O.Order.meaning b.order) (opening_of b.opening) b.state c.in-Err.end c.close.result c.close.new.self.state final c.close.ensures.closed).out
 
 pub returns-clause-commits : goal.returns-clause-commits
 returns-clause-commits g c =
     let b = c.args.book.now in
-    let f = c.in_ok-outcome.ensures b.state (sym c.front-front.ensures.entries) (sym (c.as_slice.ensures.value ∙ c.in_ok-stages.ensures.stages)) in
+    let f = c.in_ok-outcome.ensures.outcome b.state (sym c.front-front.ensures.entries) (sym (c.as_slice.ensures.value ∙ c.in_ok-stages.ensures.stages)) in
     let final = final_moved g.O.Order.meaning b.order c.args.order.now b.opening.problem.axioms c.axioms-axioms.result.now b.state c.in_ok-outcome.outcome c.in-Err.end c.requires.order (sym c.axioms-axioms.ensures.axioms) c.in-Err.ensures.end.0 f in
     (has_closed (g.O.Order.meaning b.order) (opening_of b.opening) b.state c.in-Err.end c.close.result c.close.new.self.state final c.close.ensures.closed).commits

@@ -1,10 +1,11 @@
-use Rattle.std.proofs.Common.{refl, ◌∙◌}
+use Rattle.std.proofs.Common.{◌≡◌, refl, ◌∙◌}
 use Rattle.std.proofs.lemmas.Result.{IfOk-weaker}
 use Rattle.uc_book.specs.Openings.{opening_of}
-use Rattle.uc_search.specs.Searching.{EndsRound, Rounds}
+use Rattle.uc_search.specs.Searching.{EndsRound}
+use Rattle.uc_search.specs.Bounds.{CountedRound, counted_on}
 use Rattle.uc_search.proofs.Passes.{counts_as}
 use Rattle.uc_search.proofs.Moved.{moved_end}
-use Rattle.uc_search.proofs.RoundEnds.{is_drained_alone, drained_round, closed_round}
+use Rattle.uc_search.proofs.RoundEnds.{is_drained_alone, drained_round, closed_round, both_of}
 use Rattle.uc_search.proofs.rounds.round.Goals as goal
 
 pub end_round-requires-clause-drained : goal.end_round-requires-clause-drained
@@ -17,8 +18,11 @@ returns-in-Drained-clause-round g c =
     let a = c.args.book.now in
     let b = c.work_alone.new.book in
     let u = c.end_round.new.book.state in
-    IfOk-weaker c.end_round.result (λ v. EndsRound (g.O.Order.meaning b.order) (opening_of b.opening) b.state v u) (λ v. Rounds (g.O.Order.meaning a.order) (opening_of a.opening) c.args.pass.now.worker a.state v u)
-    (λ v e. drained_round (g.O.Order.meaning a.order) (opening_of a.opening) c.args.pass.now.worker a.state c.work_alone.result b.state v u c.in-Drained.is c.work_alone.ensures.ended (moved_end g.O.Order.meaning a b c.work_alone.ensures.book b.state v u e)) c.end_round.ensures.ends
+    let old = c.args.passes.now in
+    let new = c.end_round.new.passes in
+    IfOk-weaker c.end_round.result (λ v. EndsRound (g.O.Order.meaning b.order) (opening_of b.opening) b.state v u × (new ≡ counted_on old 1)) (λ v. CountedRound (g.O.Order.meaning a.order) (opening_of a.opening) c.args.pass.now.worker a.state v u old new)
+    (λ v e. drained_round (g.O.Order.meaning a.order) (opening_of a.opening) c.args.pass.now.worker a.state c.work_alone.result b.state v u old new c.in-Drained.is c.work_alone.ensures.ended e.1 (moved_end g.O.Order.meaning a b c.work_alone.ensures.book b.state v u e.0))
+    (both_of (λ v. EndsRound (g.O.Order.meaning b.order) (opening_of b.opening) b.state v u) (new ≡ counted_on old 1) c.end_round.result c.end_round.ensures.ends c.end_round.ensures.passes)
 
 pub returns-in-Drained-clause-count : goal.returns-in-Drained-clause-count
 returns-in-Drained-clause-count g c =
@@ -28,4 +32,4 @@ returns-in-Drained-clause-count g c =
 pub returns-in-Closed-clause-round : goal.returns-in-Closed-clause-round
 returns-in-Closed-clause-round g c =
     let a = c.args.book.now in
-    closed_round (g.O.Order.meaning a.order) (opening_of a.opening) c.args.pass.now.worker a.state c.work_alone.result c.work_alone.new.book.state c.copied.result c.in-Closed.is c.work_alone.ensures.ended (c.copied.ensures ∙ c.verdict.ensures)
+    closed_round (g.O.Order.meaning a.order) (opening_of a.opening) c.args.pass.now.worker a.state c.work_alone.result c.work_alone.new.book.state c.copied.result c.args.passes.now c.in-Closed.is c.work_alone.ensures.ended (c.copied.ensures ∙ c.verdict.ensures) c.has_few_passes.ensures

@@ -1,46 +1,13 @@
-use Rattle.std.proofs.Common.{refl, subst}
+use Rattle.std.proofs.lemmas.Result.{IfOk-weaker}
 use Rattle.uc_book.specs.Openings.{opening_of}
-use Rattle.uc_search.specs.Searching.{Rounds, last_round, next_round}
-use Rattle.uc_search.proofs.Passes.{counts_nothing, counts_on}
-use Rattle.uc_search.proofs.Moved.{moved_round, same_book_on, same_pass_on}
+use Rattle.uc_search.specs.Searching.{Searches}
+use Rattle.uc_search.specs.Bounds.{CountedSearch}
 use Rattle.uc_search.proofs.rounds.search_alone.Goals as goal
 
-pub loop-init : goal.loop-init
-loop-init g c = record {
-  searches = λ v u s. s;
-  none_out = c.requires.none_out;
-  book = record { opening = refl; order = refl; enrolled = refl };
-  pass = record { worker = refl; opening = refl };
-  count = counts_nothing c.args.pass.now c.args.book.now.state c.has_few_commits.ensures.pass c.has_few_commits.ensures.history;
-}
-
-pub loop-preserved : goal.loop-preserved
-loop-preserved g c =
+pub returns-clause-searched : goal.returns-clause-searched
+returns-clause-searched g c =
     let a = c.args.book.now in
-    let b = c.loop.book in
+    let u = c.search_counting.new.book.state in
     let w = c.args.pass.now.worker in
-    let r = moved_round g.O.Order.meaning a b c.loop.invariant.book c.loop.pass.worker w b.state c.in_ok-verdict.field-0 c.round.new.book.state c.loop.invariant.pass.worker c.in_ok-verdict.ensures.round in
-    let n = subst (λ x. Rounds (g.O.Order.meaning a.order) (opening_of a.opening) w b.state x c.round.new.book.state) c.in_default.is r in
-    record {
-      searches = λ v u s. c.loop.invariant.searches v u (next_round n s);
-      none_out = c.in_ok-verdict.ensures.none_out;
-      book = same_book_on a b c.round.new.book c.loop.invariant.book c.in_ok-verdict.ensures.book;
-      pass = same_pass_on c.args.pass.now c.loop.pass c.round.new.pass c.loop.invariant.pass c.in_ok-verdict.ensures.pass;
-      count = counts_on c.args.pass.now c.loop.pass c.round.new.pass a.state b.state c.round.new.book.state c.loop.invariant.pass.worker c.loop.invariant.count c.in_ok-verdict.ensures.count;
-    }
-
-pub returns-in-Some-clause-searched : goal.returns-in-Some-clause-searched
-returns-in-Some-clause-searched g c =
-    let a = c.args.book.now in
-    let b = c.loop.book in
-    let w = c.args.pass.now.worker in
-    let r = moved_round g.O.Order.meaning a b c.loop.invariant.book c.loop.pass.worker w b.state c.in_ok-verdict.field-0 c.round.new.book.state c.loop.invariant.pass.worker c.in_ok-verdict.ensures.round in
-    c.loop.invariant.searches c.in-Some.verdict c.round.new.book.state (last_round (subst (λ x. Rounds (g.O.Order.meaning a.order) (opening_of a.opening) w b.state x c.round.new.book.state) c.in-Some.is r))
-
-pub returns-in-Some-clause-count : goal.returns-in-Some-clause-count
-returns-in-Some-clause-count g c =
-    counts_on c.args.pass.now c.loop.pass c.round.new.pass c.args.book.now.state c.loop.book.state c.round.new.book.state c.loop.invariant.pass.worker c.loop.invariant.count c.in_ok-verdict.ensures.count
-
-pub returns-in_err-verdict-clause-count : goal.returns-in_err-verdict-clause-count
-returns-in_err-verdict-clause-count g c =
-    counts_on c.args.pass.now c.loop.pass c.round.new.pass c.args.book.now.state c.loop.book.state c.round.new.book.state c.loop.invariant.pass.worker c.loop.invariant.count c.in_err-verdict.ensures.count
+    IfOk-weaker c.search_counting.result (λ v. CountedSearch (g.O.Order.meaning a.order) (opening_of a.opening) w a.state v u c.none-passes.result c.search_counting.new.passes) (λ v. Searches (g.O.Order.meaning a.order) (opening_of a.opening) w a.state v u)
+    (λ v s. s.searches) c.search_counting.ensures.searched

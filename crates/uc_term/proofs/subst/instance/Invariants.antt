@@ -1,8 +1,11 @@
-use Rattle.std.proofs.Common.{◌≡◌, take}
+use Rattle.std.proofs.Common.{◌≡◌, ◌≤◌, ◌*◌, take, length}
 use Rattle.std.specs.List.{flat_map}
 use Rattle.uc_term.specs.Subst.{image}
 use Rattle.uc_term.proofs.Instances.{node_image}
 use Rattle.uc_term.proofs.subst.instance.Given as goal
 
 abbrev pub invariant-loop-n : goal.invariant-loop-n
-invariant-loop-n l = l.all.items ≡ flat_map (node_image (image l.subst)) (take l.n-index l.pattern)
+invariant-loop-n l = record {
+  made : l.all.items ≡ flat_map (node_image (image l.subst)) (take l.n-index l.pattern);
+  few : length l.all.items ≤ 4096 * l.n-index;
+}

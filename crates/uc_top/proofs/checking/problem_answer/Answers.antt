@@ -5,7 +5,7 @@ pub bounds-clauses-number : goal.bounds-clauses-number
 bounds-clauses-number g c = rw (c.as_slice-clauses.ensures) (large_within c.marks.new.symbols c.args.problem.now c.in-Err-GoalTooLarge.number (rw (c.in-Err-GoalTooLarge.is, c.in-Err-GoalTooLarge.field-0-is) at c.marks.ensures.marked))
 
 pub returns-in-Ok-clause-answers : goal.returns-in-Ok-clause-answers
-returns-in-Ok-clause-answers g c = marked_answers c.marks.new.symbols c.proof_answer.new.symbols _ _ _ c.args.problem.now c.in-Ok.marks c.args.proof.now c.proof_answer.result (rw c.in-Ok.is at c.marks.ensures.marked) c.proof_answer.ensures.grows (rw (c.as_slice-clauses.ensures, c.as_ref.ensures.value) at c.proof_answer.ensures.answers)
+returns-in-Ok-clause-answers g c = marked_answers c.args.symbols.now c.marks.new.symbols c.proof_answer.new.symbols _ _ _ c.args.problem.now c.in-Ok.marks c.args.proof.now c.proof_answer.result (rw c.in-Ok.is at c.marks.ensures.adds) (rw c.in-Ok.is at c.marks.ensures.marked) c.proof_answer.ensures.grows (rw (c.as_slice-clauses.ensures, c.as_ref.ensures.value) at c.proof_answer.ensures.answers)
 
 pub returns-in-Err-GoalTooLarge-clause-answers : goal.returns-in-Err-GoalTooLarge-clause-answers
-returns-in-Err-GoalTooLarge-clause-answers g c = large_goal c.marks.new.symbols _ _ _ c.args.problem.now c.args.proof.now c.in-Err-GoalTooLarge.number c.index-clauses-number.result c.large_answer.result (rw (c.in-Err-GoalTooLarge.is, c.in-Err-GoalTooLarge.field-0-is) at c.marks.ensures.marked) (rw c.as_slice-clauses.ensures at c.index-clauses-number.is) c.large_answer.ensures
+returns-in-Err-GoalTooLarge-clause-answers g c = λ distinct. large_goal c.args.symbols.now c.marks.new.symbols _ _ _ c.args.problem.now c.args.proof.now c.in-Err-GoalTooLarge.number c.index-clauses-number.result c.large_answer.result (rw (c.in-Err-GoalTooLarge.is, c.in-Err-GoalTooLarge.field-0-is) at c.marks.ensures.marked) (rw c.as_slice-clauses.ensures at c.index-clauses-number.is) c.large_answer.ensures

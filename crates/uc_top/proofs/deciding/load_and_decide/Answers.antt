@@ -1,16 +1,16 @@
-use Rattle.uc_top.proofs.Answering.{refused_answers}
-use Rattle.uc_top.proofs.DecidedAnswers.{loaded_answers, loaded_decided}
+use Rattle.uc_top.proofs.Answering.{loaded, refused_answers}
+use Rattle.uc_top.proofs.DecidedAnswers.{loaded_decided}
 use Rattle.uc_top.proofs.ProvedAnswers.{no_promise, high_status}
 use Rattle.uc_top.proofs.deciding.load_and_decide.Goals as goal
 
 pub returns-in-Ok-clause-answers : goal.returns-in-Ok-clause-answers
-returns-in-Ok-clause-answers g c = loaded_answers c.args.symbols.now c.load.new.symbols c.asked_answer.new.symbols c.args.command.now c.args.name.now c.args.words.now _ _ _ c.in-Ok.problem c.asked_answer.result c.requires.empty c.asked_answer.ensures.grows (rw (c.in-Ok.is, c.bytes_of.ensures, c.as_ref.ensures.value) at c.load.ensures.filled) (rw (c.in-Ok.is, c.bytes_of.ensures, c.as_ref.ensures.value) at c.load.ensures.problem) c.asked_answer.ensures.answers
+returns-in-Ok-clause-answers g c = loaded c.args.symbols.now c.load.new.symbols _ _ _ _ _ c.args.name.now c.in-Ok.problem c.asked_answer.result c.requires.empty (rw c.in-Ok.is at c.load.ensures.distinct) (rw (c.in-Ok.is, c.bytes_of.ensures, c.as_ref.ensures.value) at c.load.ensures.filled) (rw (c.in-Ok.is, c.bytes_of.ensures, c.as_ref.ensures.value) at c.load.ensures.problem) c.asked_answer.ensures.answers
 
 pub returns-in-Ok-clause-promise : goal.returns-in-Ok-clause-promise
-returns-in-Ok-clause-promise g c = loaded_decided c.args.symbols.now c.load.new.symbols c.asked_answer.new.symbols c.args.command.now c.args.name.now c.args.words.now _ c.in-Ok.problem c.asked_answer.result c.requires.empty c.asked_answer.ensures.grows (rw (c.in-Ok.is, c.bytes_of.ensures, c.as_ref.ensures.value) at c.load.ensures.filled) (rw (c.in-Ok.is, c.bytes_of.ensures, c.as_ref.ensures.value) at c.load.ensures.problem) c.asked_answer.ensures.kept c.asked_answer.ensures.promise
+returns-in-Ok-clause-promise g c = loaded_decided c.args.symbols.now c.load.new.symbols c.args.command.now c.args.name.now c.args.words.now _ c.in-Ok.problem c.asked_answer.result c.requires.empty (rw c.in-Ok.is at c.load.ensures.distinct) (rw (c.in-Ok.is, c.bytes_of.ensures, c.as_ref.ensures.value) at c.load.ensures.filled) (rw (c.in-Ok.is, c.bytes_of.ensures, c.as_ref.ensures.value) at c.load.ensures.problem) c.asked_answer.ensures.promise
 
 pub returns-in-Err-clause-answers : goal.returns-in-Err-clause-answers
-returns-in-Err-clause-answers g c = refused_answers c.load.new.symbols _ _ _ _ c.args.name.now _ c.in-Err.fault c.load_answer.result (rw (c.in-Err.is, c.bytes_of.ensures, c.as_ref.ensures.value) at c.load.ensures.refused) c.load_answer.ensures.answer c.load_answer.ensures.not_memory
+returns-in-Err-clause-answers g c = refused_answers c.args.symbols.now c.load.new.symbols c.requires.empty _ _ _ _ c.args.name.now _ c.in-Err.fault c.load_answer.result (rw (c.in-Err.is, c.bytes_of.ensures, c.as_ref.ensures.value) at c.load.ensures.refused) (rw (c.in-Err.is, c.bytes_of.ensures, c.as_ref.ensures.value) at c.load.ensures.stopped) c.load_answer.ensures.answer c.load_answer.ensures.not_memory
 
 pub returns-in-Err-clause-promise : goal.returns-in-Err-clause-promise
 returns-in-Err-clause-promise g c = no_promise _ _ _ c.load_answer.result (high_status c.in-Err.fault) c.load_answer.ensures.answer

@@ -3,4 +3,7 @@ use Rattle.uc_top.proofs.AnswersOnce.{answer_once}
 use Rattle.uc_top.proofs.laws.one_answer.Goals as goal
 
 pub returns : goal.returns
-returns c = record { answer = λ table files before now words s t a b distinct well x y. answer_once table distinct files before now well one_search words x y }
+returns c = record {
+  answer = λ files before now again later words s t a b well later_well x y. answer_once files before now again later one_search words (λ five rose. well rose) (λ five rose. later_well rose) x y;
+  unless_read_fault = λ files before now again later words s t a b v w x y. answer_once files before now again later one_search words (λ five rose. v five) (λ five rose. w five) x y;
+}

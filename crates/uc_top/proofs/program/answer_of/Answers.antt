@@ -1,14 +1,14 @@
-use Rattle.std.proofs.Common.{[], arith}
+use Rattle.std.proofs.Common.{arith}
 use Rattle.uc_top.specs.Answers.{has_no_reading}
 use Rattle.uc_top.specs.Runs.{MayAnswer, is_answer}
-use Rattle.uc_top.proofs.Answering.{one_line, none_distinct, certified_by}
+use Rattle.uc_top.proofs.Answering.{one_line, certified_by}
 use Rattle.uc_top.proofs.ProvedAnswers.{no_promise}
 use Rattle.uc_top.proofs.ProveCompleting.{promised_answers}
 use Rattle.uc_top.proofs.DecidePromises.{decided_answers}
 use Rattle.uc_top.proofs.program.answer_of.Goals as goal
 
 pub returns-in-Err-Usage-clause-answers : goal.returns-in-Err-Usage-clause-answers
-returns-in-Err-Usage-clause-answers g c = one_line c.usage_answer.result (MayAnswer _ _ _ _) _ _ c.usage_answer.ensures (is_answer {table = []} none_distinct (has_no_reading (rw (c.in-Err-Usage.is, c.in-Err-Usage.field-0-is) at c.read_words.ensures.reads)))
+returns-in-Err-Usage-clause-answers g c = one_line c.usage_answer.result (MayAnswer _ _ _ _) _ _ c.usage_answer.ensures (is_answer (has_no_reading (rw (c.in-Err-Usage.is, c.in-Err-Usage.field-0-is) at c.read_words.ensures.reads)))
 
 pub returns-in-Ok-clause-certified : goal.returns-in-Ok-clause-certified
 returns-in-Ok-clause-certified g c = certified_by _ c.in-Ok.command _ c.command_answer.result (rw c.in-Ok.is at c.read_words.ensures.reads) c.command_answer.ensures.certified

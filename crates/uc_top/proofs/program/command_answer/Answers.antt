@@ -2,7 +2,7 @@ use Rattle.std.proofs.Common.{◌≡◌, [], ◌∷◌, refl, sym, ◌∙◌, su
 use Rattle.std.proofs.lemmas.Result.{IfOk-weaker}
 use Rattle.uc_top.specs.Answers.{checks, shows, orders, rewrites, pairs_up, isnt_built}
 use Rattle.uc_top.specs.Runs.{MayAnswer, is_answer}
-use Rattle.uc_top.proofs.Answering.{one_line, one_name, two_names, not_built, none_distinct, usage_not_done}
+use Rattle.uc_top.proofs.Answering.{one_line, one_name, two_names, not_built, usage_not_done}
 use Rattle.uc_top.specs.QuestionWords.{AreShort}
 use Rattle.uc_top.proofs.ShortWords.{positionals_short}
 use Rattle.uc_top.proofs.program.command_answer.Goals as goal
@@ -10,29 +10,27 @@ use Rattle.uc_top.proofs.program.command_answer.Goals as goal
 pub returns-in-len2-clause-answers : goal.returns-in-len2-clause-answers
 returns-in-len2-clause-answers g c words r =
     let names : c.args.command.now.positionals ≡ c.name-item.result ∷ c.proof-item.result ∷ [] = sym c.as_slice.ensures ∙ two_names c.as_slice.result.now c.name-item.result c.proof-item.result c.in-len2.len_at_least c.in-len2.len_below c.name-item.is c.proof-item.is in
-    IfOk-weaker c.check_answer.result _ _ (λ answer a. is_answer a.1 (checks r c.in-Check.is names a.2)) (rw c.as_ref.ensures.value at c.check_answer.ensures.answers)
+    IfOk-weaker c.check_answer.result _ _ (λ answer a. is_answer (checks r c.in-Check.is names a)) (rw c.as_ref.ensures.value at c.check_answer.ensures.answers)
 
 pub returns-in-len2-clause-certified : goal.returns-in-len2-clause-certified
 returns-in-len2-clause-certified g c v =
     let names : c.args.command.now.positionals ≡ c.name-item.result ∷ c.proof-item.result ∷ [] = sym c.as_slice.ensures ∙ two_names c.as_slice.result.now c.name-item.result c.proof-item.result c.in-len2.len_at_least c.in-len2.len_below c.name-item.is c.proof-item.is in
-    IfOk-weaker c.check_answer.result _ _ (λ answer a done files told. let p = a done files told in record {
+    IfOk-weaker c.check_answer.result _ _ (λ answer a done files told. record {
       name = c.name-item.result;
       proof_name = c.proof-item.result;
       names = names;
-      table = p.0;
-      distinct = p.1;
-      has_proof = p.2;
+      has_proof = a done files told;
     }) (rw c.as_ref.ensures.value at c.check_answer.ensures.certified)
 
 pub returns-in-len1-clause-answers : goal.returns-in-len1-clause-answers
 returns-in-len1-clause-answers g c words r =
     let names : c.args.command.now.positionals ≡ c.name-item-then-this-lt2.result ∷ [] = sym c.as_slice-in-Show.ensures ∙ one_name c.as_slice-in-Show.result.now c.name-item-then-this-lt2.result c.in-len1.len_at_least c.in-len1.len_below c.name-item-then-this-lt2.is in
-    IfOk-weaker c.show_answer.result _ _ (λ answer a. is_answer a.1 (shows r c.in-Show.is names a.2)) (rw c.as_ref-in-len1.ensures.value at c.show_answer.ensures.answers)
+    IfOk-weaker c.show_answer.result _ _ (λ answer a. is_answer (shows r c.in-Show.is names a)) (rw c.as_ref-in-len1.ensures.value at c.show_answer.ensures.answers)
 
 pub returns-in-len1-as_slice-clause-answers : goal.returns-in-len1-as_slice-clause-answers
 returns-in-len1-as_slice-clause-answers g c words r =
     let names : c.args.command.now.positionals ≡ c.name-item-then-this-lt2-2.result ∷ [] = sym c.as_slice-in-Order.ensures ∙ one_name c.as_slice-in-Order.result.now c.name-item-then-this-lt2-2.result c.in-len1-as_slice.len_at_least c.in-len1-as_slice.len_below c.name-item-then-this-lt2-2.is in
-    IfOk-weaker c.order_answer.result _ _ (λ answer a. is_answer a.1 (orders r c.in-Order.is names a.2)) (rw c.as_ref-in-len1-as_slice.ensures.value at c.order_answer.ensures.answers)
+    IfOk-weaker c.order_answer.result _ _ (λ answer a. is_answer (orders r c.in-Order.is names a)) (rw c.as_ref-in-len1-as_slice.ensures.value at c.order_answer.ensures.answers)
 
 pub rewrite_answer-requires-clause-short : goal.rewrite_answer-requires-clause-short
 rewrite_answer-requires-clause-short g c =
@@ -42,16 +40,16 @@ rewrite_answer-requires-clause-short g c =
 pub returns-in-len2-as_slice-clause-answers : goal.returns-in-len2-as_slice-clause-answers
 returns-in-len2-as_slice-clause-answers g c words r =
     let names : c.args.command.now.positionals ≡ c.name-item-then-this-lt3-2.result ∷ c.word-item.result ∷ [] = sym c.as_slice-in-Rewrite.ensures ∙ two_names c.as_slice-in-Rewrite.result.now c.name-item-then-this-lt3-2.result c.word-item.result c.in-len2-as_slice.len_at_least c.in-len2-as_slice.len_below c.name-item-then-this-lt3-2.is c.word-item.is in
-    IfOk-weaker c.rewrite_answer.result _ _ (λ answer a. is_answer a.1 (rewrites r c.in-Rewrite.is names a.2)) c.rewrite_answer.ensures.answers
+    IfOk-weaker c.rewrite_answer.result _ _ (λ answer a. is_answer (rewrites r c.in-Rewrite.is names a)) c.rewrite_answer.ensures.answers
 
 pub returns-in-len1-as_slice-2-clause-answers : goal.returns-in-len1-as_slice-2-clause-answers
 returns-in-len1-as_slice-2-clause-answers g c words r =
     let names : c.args.command.now.positionals ≡ c.name-item-then-this-lt2-3.result ∷ [] = sym c.as_slice-in-Pairs.ensures ∙ one_name c.as_slice-in-Pairs.result.now c.name-item-then-this-lt2-3.result c.in-len1-as_slice-2.len_at_least c.in-len1-as_slice-2.len_below c.name-item-then-this-lt2-3.is in
-    IfOk-weaker c.pairs_answer.result _ _ (λ answer a. is_answer a.1 (pairs_up r c.in-Pairs.is names a.2)) (rw c.as_ref-in-len1-as_slice-2.ensures.value at c.pairs_answer.ensures.answers)
+    IfOk-weaker c.pairs_answer.result _ _ (λ answer a. is_answer (pairs_up r c.in-Pairs.is names a)) (rw c.as_ref-in-len1-as_slice-2.ensures.value at c.pairs_answer.ensures.answers)
 
 pub returns-in_default : goal.returns-in_default
 returns-in_default g c = record {
-  answers = λ words r. one_line c.usage_answer.result (MayAnswer _ _ _ words) _ _ c.usage_answer.ensures (is_answer {table = []} none_distinct (isnt_built r (not_built _ c.in_default.not-Check c.in_default.not-Show c.in_default.not-Order c.in_default.not-Rewrite c.in_default.not-Pairs c.in_default.not-Prove c.in_default.not-Decide)));
+  answers = λ words r. one_line c.usage_answer.result (MayAnswer _ _ _ words) _ _ c.usage_answer.ensures (is_answer (isnt_built r (not_built _ c.in_default.not-Check c.in_default.not-Show c.in_default.not-Order c.in_default.not-Rewrite c.in_default.not-Pairs c.in_default.not-Prove c.in_default.not-Decide)));
   certified = λ v. usage_not_done _ c.usage_answer.result _ c.usage_answer.ensures;
   promise = λ v. absurd (c.in_default.not-Prove v);
   decided = λ v. absurd (c.in_default.not-Decide v);

@@ -3,7 +3,7 @@ use Rattle.std.proofs.lemmas.Result.{IfOk-weaker}
 use Rattle.uc_top.specs.Answers.{IsSearching, decides, has_many_workers}
 use Rattle.uc_top.specs.Runs.{MayAnswer, is_answer}
 use Rattle.uc_top.specs.QuestionWords.{AreShort}
-use Rattle.uc_top.proofs.Answering.{one_line, name_and_more, none_distinct}
+use Rattle.uc_top.proofs.Answering.{one_line, name_and_more}
 use Rattle.uc_top.proofs.DecidePromises.{kept_answers}
 use Rattle.uc_top.proofs.ProvedAnswers.{no_promise}
 use Rattle.uc_top.proofs.SeenWords.{budget_within, pairs_within}
@@ -12,7 +12,7 @@ use Rattle.uc_top.proofs.VariableWeights.{w0_within}
 use Rattle.uc_top.proofs.program.decide_command.Goals as goal
 
 pub returns-then-not-is_alone-clause-answers : goal.returns-then-not-is_alone-clause-answers
-returns-then-not-is_alone-clause-answers g c words r = one_line c.usage_answer.result (MayAnswer _ _ _ words) _ _ c.usage_answer.ensures (is_answer {table = []} none_distinct (has_many_workers r (subst IsSearching (sym c.requires.decide) tt) (c.is_alone.ensures.many c.if-not-is_alone.true)))
+returns-then-not-is_alone-clause-answers g c words r = one_line c.usage_answer.result (MayAnswer _ _ _ words) _ _ c.usage_answer.ensures (is_answer (has_many_workers r (subst IsSearching (sym c.requires.decide) tt) (c.is_alone.ensures.many c.if-not-is_alone.true)))
 
 pub returns-then-not-is_alone-clause-decided : goal.returns-then-not-is_alone-clause-decided
 returns-then-not-is_alone-clause-decided g c = no_promise _ _ _ c.usage_answer.result (omega arith) c.usage_answer.ensures
@@ -37,7 +37,7 @@ decide_answer-requires-clause-short g c =
 pub returns-clause-answers : goal.returns-clause-answers
 returns-clause-answers g c words r =
     let names : c.args.command.now.positionals ≡ c.name-item.result ∷ take (length c.as_slice.result.now - 1) (drop 1 c.as_slice.result.now) = sym c.as_slice.ensures ∙ name_and_more c.as_slice.result.now c.name-item.result c.in-len1-up.len_at_least c.name-item.is in
-    IfOk-weaker c.decide_answer.result _ _ (λ answer a. is_answer a.1 (decides r c.requires.decide (c.is_alone.ensures.one c.if-not-is_alone.false) names a.2)) c.decide_answer.ensures.answers
+    IfOk-weaker c.decide_answer.result _ _ (λ answer a. is_answer (decides r c.requires.decide (c.is_alone.ensures.one c.if-not-is_alone.false) names a)) c.decide_answer.ensures.answers
 
 pub returns-clause-decided : goal.returns-clause-decided
 returns-clause-decided g c =

@@ -2,15 +2,15 @@ use Rattle.std.proofs.Common.{◌≡◌, [], ◌∷◌, sym, ◌∙◌, subst, a
 use Rattle.std.proofs.lemmas.Result.{IfOk-weaker}
 use Rattle.uc_top.specs.Answers.{IsSearching, proves, has_many_workers}
 use Rattle.uc_top.specs.Runs.{MayAnswer, is_answer}
-use Rattle.uc_top.proofs.Answering.{one_line, one_name, none_distinct}
-use Rattle.uc_top.proofs.AnswersOnce.{only_name}
+use Rattle.uc_top.proofs.Answering.{one_line, one_name}
+use Rattle.uc_top.proofs.Positionals.{only_name}
 use Rattle.uc_top.proofs.ProvedAnswers.{no_promise}
 use Rattle.uc_top.proofs.SeenWords.{AreTitles, positionals_seen, root_seen, budget_within, pairs_within}
 use Rattle.uc_top.proofs.VariableWeights.{w0_within}
 use Rattle.uc_top.proofs.program.prove_command.Goals as goal
 
 pub returns-then-not-is_alone-clause-answers : goal.returns-then-not-is_alone-clause-answers
-returns-then-not-is_alone-clause-answers g c words r = one_line c.usage_answer.result (MayAnswer _ _ _ words) _ _ c.usage_answer.ensures (is_answer {table = []} none_distinct (has_many_workers r (subst IsSearching (sym c.requires.prove) tt) (c.is_alone.ensures.many c.if-not-is_alone.true)))
+returns-then-not-is_alone-clause-answers g c words r = one_line c.usage_answer.result (MayAnswer _ _ _ words) _ _ c.usage_answer.ensures (is_answer (has_many_workers r (subst IsSearching (sym c.requires.prove) tt) (c.is_alone.ensures.many c.if-not-is_alone.true)))
 
 pub returns-then-not-is_alone-clause-promise : goal.returns-then-not-is_alone-clause-promise
 returns-then-not-is_alone-clause-promise g c = no_promise _ _ _ c.usage_answer.result (omega arith) c.usage_answer.ensures
@@ -43,7 +43,7 @@ prove_answer-requires-clause-some g c =
 pub returns-clause-answers : goal.returns-clause-answers
 returns-clause-answers g c words r =
     let names : c.args.command.now.positionals ≡ c.name-item.result ∷ [] = sym c.as_slice.ensures ∙ one_name c.as_slice.result.now c.name-item.result c.in-len1.len_at_least c.in-len1.len_below c.name-item.is in
-    IfOk-weaker c.prove_answer.result _ _ (λ answer a. is_answer a.1 (proves r c.requires.prove (c.is_alone.ensures.one c.if-not-is_alone.false) names a.2)) c.prove_answer.ensures.answers
+    IfOk-weaker c.prove_answer.result _ _ (λ answer a. is_answer (proves r c.requires.prove (c.is_alone.ensures.one c.if-not-is_alone.false) names a)) c.prove_answer.ensures.answers
 
 pub returns-clause-promise : goal.returns-clause-promise
 returns-clause-promise g c =

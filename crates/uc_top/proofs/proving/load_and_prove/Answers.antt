@@ -2,13 +2,13 @@ use Rattle.uc_top.proofs.ProvedAnswers.{loaded, loaded_kept, unloaded, no_promis
 use Rattle.uc_top.proofs.proving.load_and_prove.Goals as goal
 
 pub returns-in-Ok-clause-answers : goal.returns-in-Ok-clause-answers
-returns-in-Ok-clause-answers g c = loaded c.args.symbols.now c.load.new.symbols c.encoded_answer.new.symbols c.args.command.now c.args.name.now _ _ _ c.in-Ok.problem c.encoded_answer.result c.requires.empty c.encoded_answer.ensures.grows (rw (c.in-Ok.is, c.bytes_of.ensures, c.as_ref.ensures.value) at c.load.ensures.filled) (rw (c.in-Ok.is, c.bytes_of.ensures, c.as_ref.ensures.value) at c.load.ensures.problem) c.encoded_answer.ensures.answers
+returns-in-Ok-clause-answers g c = λ distinct. loaded c.args.symbols.now c.load.new.symbols c.encoded_answer.new.symbols c.args.command.now c.args.name.now _ _ _ c.in-Ok.problem c.encoded_answer.result c.requires.empty c.encoded_answer.ensures.grows (rw c.in-Ok.is at c.load.ensures.distinct) (rw (c.in-Ok.is, c.bytes_of.ensures, c.as_ref.ensures.value) at c.load.ensures.filled) (rw (c.in-Ok.is, c.bytes_of.ensures, c.as_ref.ensures.value) at c.load.ensures.problem) c.encoded_answer.ensures.answers distinct
 
 pub returns-in-Ok-clause-promise : goal.returns-in-Ok-clause-promise
 returns-in-Ok-clause-promise g c = loaded_kept c.args.symbols.now c.load.new.symbols c.encoded_answer.new.symbols c.args.command.now c.args.name.now _ c.in-Ok.problem c.encoded_answer.result c.requires.empty c.encoded_answer.ensures.grows (rw (c.in-Ok.is, c.bytes_of.ensures, c.as_ref.ensures.value) at c.load.ensures.filled) (rw (c.in-Ok.is, c.bytes_of.ensures, c.as_ref.ensures.value) at c.load.ensures.problem) c.requires.name c.requires.some c.requires.root c.encoded_answer.ensures.promise c.encoded_answer.ensures.adds
 
 pub returns-in-Err-clause-answers : goal.returns-in-Err-clause-answers
-returns-in-Err-clause-answers g c = unloaded c.load.new.symbols c.args.command.now c.args.name.now _ _ _ c.in-Err.fault c.unloaded_answer.result (rw (c.in-Err.is, c.bytes_of.ensures, c.as_ref.ensures.value) at c.load.ensures.refused) c.unloaded_answer.ensures.answer c.unloaded_answer.ensures.not_memory
+returns-in-Err-clause-answers g c = λ distinct. unloaded c.args.symbols.now c.load.new.symbols c.requires.empty c.args.command.now c.args.name.now _ _ _ c.in-Err.fault c.unloaded_answer.result (rw (c.in-Err.is, c.bytes_of.ensures, c.as_ref.ensures.value) at c.load.ensures.refused) (rw (c.in-Err.is, c.bytes_of.ensures, c.as_ref.ensures.value) at c.load.ensures.stopped) c.unloaded_answer.ensures.answer c.unloaded_answer.ensures.not_memory
 
 pub returns-in-Err-clause-promise : goal.returns-in-Err-clause-promise
 returns-in-Err-clause-promise g c = no_promise _ _ _ c.unloaded_answer.result (high_status c.in-Err.fault) c.unloaded_answer.ensures.answer

@@ -1,7 +1,8 @@
-use Rattle.std.proofs.Common.{refl, sym, subst, ◌∙◌, arith}
+use Rattle.std.proofs.Common.{take, refl, sym, subst, ◌∙◌, arith}
 use Rattle.uc_term.specs.Table.{Table}
 use Rattle.uc_term.specs.Gathering.{HasAll}
 use Rattle.uc_clause.proofs.Tables.{grows_not, grows_twice}
+use Rattle.uc_top.specs.QuestionWords.{IsQuestionFault, AreQuestions}
 use Rattle.uc_top.proofs.Questions.{short_at, one_question_more, none_yet, first_fault, all_read}
 use Rattle.uc_top.proofs.question_word.read_questions.Goals as goal
 
@@ -16,7 +17,9 @@ pub read_next-requires : goal.read_next-requires
 read_next-requires c = rw c.as_bytes.ensures (short_at c.args.words.now c.loop-number.number c.index-words-number.result c.loop-number-test.true c.index-words-number.is c.requires)
 
 pub returns-in-Err-clause-refused : goal.returns-in-Err-clause-refused
-returns-in-Err-clause-refused c = first_fault c.args.known.now c.args.words.now c.loop-number.number c.index-words-number.result c.loop-number.questions c.loop-number.symbols c.read_next.new.symbols c.in-Err.fault c.loop-number-test.true c.index-words-number.is c.read_next.ensures.grows c.loop-number.invariant.so_far (rw c.as_bytes.ensures at c.in-Err.ensures.refused)
+returns-in-Err-clause-refused c = λ has.
+    let same = c.loop-number.invariant.kept has in
+    first_fault c.args.known.now c.args.words.now c.loop-number.number c.index-words-number.result c.loop-number.questions c.args.symbols.now c.in-Err.fault c.loop-number-test.true c.index-words-number.is (subst (λ (t : Table). AreQuestions t c.args.known.now (take c.loop-number.number c.args.words.now) c.loop-number.questions) same c.loop-number.invariant.so_far) (subst (λ (t : Table). IsQuestionFault t c.args.known.now c.index-words-number.result c.in-Err.fault) same (rw c.as_bytes.ensures at c.in-Err.ensures.refused))
 
 pub loop-number-preserved : goal.loop-number-preserved
 loop-number-preserved c =

@@ -23,4 +23,4 @@ returns-in_err-right-clause-stops c =
 
 pub returns-clause-reads : goal.returns-clause-reads
 returns-clause-reads c =
-    sides_read c.args.bytes.now c.args.tokens.now c.args.from (sym c.if-is_falsum.ensures) c.in_ok-left.at c.args.variables.now c.term_at.new.variables c.term_at.new.symbols c.in_ok-left.left c.in_ok-left.ensures.reads c.in_ok-positive.at c.in_ok-positive.positive c.in_ok-positive.ensures c.in_ok-right.end c.term_at-2.new.variables c.term_at-2.new.symbols c.in_ok-right.right c.in_ok-right.ensures.grows c.in_ok-right.ensures.reads
+    sides_read c.args.bytes.now c.args.tokens.now c.args.from (sym c.if-is_falsum.ensures) c.in_ok-left.at c.args.variables.now c.term_at.new.variables c.term_at.new.symbols c.in_ok-left.left c.in_ok-left.ensures.reads c.in_ok-positive.at c.in_ok-positive.positive c.in_ok-positive.ensures c.in_ok-right.end c.term_at-2.new.variables c.term_at-2.new.symbols c.in_ok-right.right c.in_ok-right.ensures.grows c.in_ok-right.ensures.reads c.args.symbols.now c.in_ok-left.ensures.interns c.in_ok-right.ensures.interns

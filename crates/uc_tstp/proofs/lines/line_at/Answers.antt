@@ -30,4 +30,4 @@ returns-in_err-end-clause-stops c =
 
 pub returns-clause-reads : goal.returns-clause-reads
 returns-clause-reads c =
-    reads_line c.args.bytes.now c.args.tokens.now c.in_ok-name.name c.in_ok-name.first c.in_ok-body.at c.in_ok-at.at c.in_ok-source.at c.body_at.new.symbols c.source_at.new.symbols c.body_at.new.variables c.source_at.new.variables c.in_ok-body.body c.in_ok-source.source c.in_ok-source.ensures.grows (rw c.new-variables.ensures at c.in_ok-body.ensures.reads) (c.in_ok-source.ensures.reads c.in_ok-body.ensures.reads.body (same_sort c.args.bytes.now c.args.tokens.now c.body_at.new.symbols c.body_at.new.variables c.in_ok-body.ensures.reads.body c.in_ok-body.body c.in_ok-body.ensures.reads.says ∙ sym c.sort-sort.ensures)) c.args.names.now c.args.from c.in_ok-end.end (line_reads c.args.bytes.now c.args.tokens.now c.args.names.now c.in_ok-name.name c.args.from c.in_ok-name.first c.in_ok-name.ensures.leads c.in_ok-body.ensures.reads.body c.in_ok-body.at c.in_ok-body.ensures.reads.reads c.in_ok-at.at c.in_ok-at.ensures.ok (c.in_ok-source.ensures.reads c.in_ok-body.ensures.reads.body (same_sort c.args.bytes.now c.args.tokens.now c.body_at.new.symbols c.body_at.new.variables c.in_ok-body.ensures.reads.body c.in_ok-body.body c.in_ok-body.ensures.reads.says ∙ sym c.sort-sort.ensures)).source c.in_ok-source.at (c.in_ok-source.ensures.reads c.in_ok-body.ensures.reads.body (same_sort c.args.bytes.now c.args.tokens.now c.body_at.new.symbols c.body_at.new.variables c.in_ok-body.ensures.reads.body c.in_ok-body.body c.in_ok-body.ensures.reads.says ∙ sym c.sort-sort.ensures)).reads c.in_ok-at-2.at c.in_ok-at-2.ensures.ok c.in_ok-end.end c.in_ok-end.ensures.ok)
+    reads_line c.args.bytes.now c.args.tokens.now c.in_ok-name.name c.in_ok-name.first c.in_ok-body.at c.in_ok-at.at c.in_ok-source.at c.args.symbols.now c.body_at.new.symbols c.source_at.new.symbols c.body_at.new.variables c.source_at.new.variables c.in_ok-body.body c.in_ok-source.source c.in_ok-source.ensures.grows (rw c.new-variables.ensures at c.in_ok-body.ensures.reads) (c.in_ok-source.ensures.reads c.in_ok-body.ensures.reads.body (same_sort c.args.bytes.now c.args.tokens.now c.body_at.new.symbols c.body_at.new.variables c.in_ok-body.ensures.reads.body c.in_ok-body.body c.in_ok-body.ensures.reads.says ∙ sym c.sort-sort.ensures)) c.args.names.now c.args.from c.in_ok-end.end (line_reads c.args.bytes.now c.args.tokens.now c.args.names.now c.in_ok-name.name c.args.from c.in_ok-name.first c.in_ok-name.ensures.leads c.in_ok-body.ensures.reads.body c.in_ok-body.at c.in_ok-body.ensures.reads.reads c.in_ok-at.at c.in_ok-at.ensures.ok (c.in_ok-source.ensures.reads c.in_ok-body.ensures.reads.body (same_sort c.args.bytes.now c.args.tokens.now c.body_at.new.symbols c.body_at.new.variables c.in_ok-body.ensures.reads.body c.in_ok-body.body c.in_ok-body.ensures.reads.says ∙ sym c.sort-sort.ensures)).source c.in_ok-source.at (c.in_ok-source.ensures.reads c.in_ok-body.ensures.reads.body (same_sort c.args.bytes.now c.args.tokens.now c.body_at.new.symbols c.body_at.new.variables c.in_ok-body.ensures.reads.body c.in_ok-body.body c.in_ok-body.ensures.reads.says ∙ sym c.sort-sort.ensures)).reads c.in_ok-at-2.at c.in_ok-at-2.ensures.ok c.in_ok-end.end c.in_ok-end.ensures.ok)

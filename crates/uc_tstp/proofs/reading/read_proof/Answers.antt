@@ -1,6 +1,7 @@
 use Rattle.std.proofs.lemmas.Result.{err_from_is_err_and}
 use Rattle.uc_tstp.proofs.Places.{begins_line}
 use Rattle.uc_tstp.proofs.Readings.{frame_fault_reading, framed_reading}
+use Rattle.uc_tstp.proofs.InternedOnce.{framed_interns}
 use Rattle.uc_tstp.proofs.reading.read_proof.Goals as goal
 
 pub returns-in_err-frame-clause-reading : goal.returns-in_err-frame-clause-reading
@@ -13,3 +14,6 @@ read_inside-requires-clause-begins c = begins_line c.args.bytes.now c.in_ok-fram
 
 pub returns-clause-reading : goal.returns-clause-reading
 returns-clause-reading c = framed_reading c.read_inside.new.symbols c.args.bytes.now c.in_ok-frame.frame c.in_ok-frame.ensures.framed.1 c.read_inside.result c.read_inside.ensures.reading
+
+pub returns-clause-interns : goal.returns-clause-interns
+returns-clause-interns c = framed_interns c.args.bytes.now c.in_ok-frame.frame c.args.symbols.now c.read_inside.new.symbols c.in_ok-frame.ensures.framed.1 c.read_inside.result c.read_inside.ensures.interns

@@ -19,4 +19,4 @@ returns-in_err-parents-clause-stops c =
 
 pub returns-clause-reads : goal.returns-clause-reads
 returns-clause-reads c =
-    chain_reads c.args.bytes.now c.args.tokens.now c.args.from c.in_ok-start.at c.args.variables.now c.term_at.new.variables c.term_at.new.symbols c.in_ok-start.start c.in_ok-start.ensures.reads c.in_ok-steps.at c.steps.new.variables c.steps.new.symbols c.in_ok-steps.steps c.in_ok-steps.ensures.reads c.in_ok-parents.end c.in_ok-parents.parents c.in_ok-steps.ensures.grows c.in_ok-parents.ensures.reads
+    chain_reads c.args.bytes.now c.args.tokens.now c.args.from c.in_ok-start.at c.args.variables.now c.term_at.new.variables c.term_at.new.symbols c.in_ok-start.start c.in_ok-start.ensures.reads c.in_ok-steps.at c.steps.new.variables c.steps.new.symbols c.in_ok-steps.steps c.in_ok-steps.ensures.reads c.in_ok-parents.end c.in_ok-parents.parents c.args.symbols.now c.in_ok-start.ensures.interns c.in_ok-steps.ensures.grows c.in_ok-parents.ensures.reads

@@ -39,7 +39,7 @@ returns-in_err-at-5-clause-stops c =
 
 pub returns-clause-reads : goal.returns-clause-reads
 returns-clause-reads c =
-    if_ok c.source_of_rule.result (λ r m b s. record { source = m.source; reads = goes_on {v = tt} c.in_ok-at.ensures.ok (goes_on {v = tt} c.in_ok-at-2.ensures.ok (goes_on c.in_ok-rule.ensures.ok (goes_on {v = tt} {middle = c.in_ok-at-3.at} (subst (λ f. lines.body_fits f c.args.first c.in_ok-rule.at (read tt c.in_ok-at-3.at)) (c.fits_rule.ensures b s) c.in_ok-at-3.ensures) (goes_on {v = tt} c.in_ok-at-4.ensures.ok (goes_on {v = tt} c.in_ok-at-5.ensures.ok (m.reads)))))); seen_is = m.seen_is; says = m.says }) c.source_of_rule.ensures.reads
+    if_ok c.source_of_rule.result (λ r m b s. record { source = m.source; reads = goes_on {v = tt} c.in_ok-at.ensures.ok (goes_on {v = tt} c.in_ok-at-2.ensures.ok (goes_on c.in_ok-rule.ensures.ok (goes_on {v = tt} {middle = c.in_ok-at-3.at} (subst (λ f. lines.body_fits f c.args.first c.in_ok-rule.at (read tt c.in_ok-at-3.at)) (c.fits_rule.ensures b s) c.in_ok-at-3.ensures) (goes_on {v = tt} c.in_ok-at-4.ensures.ok (goes_on {v = tt} c.in_ok-at-5.ensures.ok (m.reads)))))); seen_is = m.seen_is; says = m.says; table_is = m.table_is }) c.source_of_rule.ensures.reads
 
 pub returns-clause-stops : goal.returns-clause-stops
 returns-clause-stops c =

@@ -18,4 +18,4 @@ returns-in_err-parents-clause-stops c =
     rw (p.1, p.2) (passes (lines.rest_of_inference c.args.bytes.now c.args.tokens.now c.in_ok-at.at) (lines.refute_source c.args.bytes.now c.args.tokens.now c.args.from) c.in_err-parents.field-0.0 (λ why k h. goes_on {v = tt} c.in_ok-at.ensures.ok (stops_first h)) c.in_err-parents.ensures.stops)
 
 pub returns-clause-reads : goal.returns-clause-reads
-returns-clause-reads c = λ seen table. record { source = by_refute c.in_ok-parents.parents; reads = goes_on {v = tt} c.in_ok-at.ensures.ok (goes_on c.in_ok-parents.ensures.reads (refl)); seen_is = refl; says = refl }
+returns-clause-reads c = λ seen table. record { source = by_refute c.in_ok-parents.parents; reads = goes_on {v = tt} c.in_ok-at.ensures.ok (goes_on c.in_ok-parents.ensures.reads (refl)); seen_is = refl; says = refl; table_is = refl }

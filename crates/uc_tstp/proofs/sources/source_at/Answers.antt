@@ -6,7 +6,7 @@ use Rattle.uc_tstp.proofs.sources.source_at.Goals as goal
 
 pub returns-then-not-is_word-clause-reads : goal.returns-then-not-is_word-clause-reads
 returns-then-not-is_word-clause-reads c =
-    if_ok c.inference_source.result (λ r m b s. inference_reads c.args.bytes.now c.args.tokens.now c.args.from b c.args.first (sym c.if-not-is_word.ensures) r.1 c.args.variables.now c.inference_source.new.variables c.inference_source.new.symbols r.0 (m b s)) c.inference_source.ensures.reads
+    if_ok c.inference_source.result (λ r m b s. inference_reads c.args.bytes.now c.args.tokens.now c.args.from b c.args.first (sym c.if-not-is_word.ensures) r.1 c.args.variables.now c.inference_source.new.variables c.args.symbols.now c.inference_source.new.symbols r.0 (m b s)) c.inference_source.ensures.reads
 
 pub returns-then-not-is_word-clause-stops : goal.returns-then-not-is_word-clause-stops
 returns-then-not-is_word-clause-stops c =

@@ -5,7 +5,7 @@ use Rattle.uc_tstp.proofs.steps.more_steps.Given as goal
 
 abbrev pub invariant-members : goal.invariant-members
 invariant-members l = record {
-  keeps : Kept l.bytes l.tokens l.from l.fn.variables l.more l.at l.variables l.symbols l.list;
+  keeps : Kept l.bytes l.tokens l.from l.fn.variables l.fn.symbols l.more l.at l.variables l.symbols l.list;
   grows : Grows l.fn.symbols l.symbols;
 }
 

@@ -20,7 +20,7 @@ returns-then-stands_at-clause-reads c =
 
 pub returns-clause-reads : goal.returns-clause-reads
 returns-clause-reads c =
-    if_ok c.more_steps.result (λ r m. members_read c.args.bytes.now c.args.tokens.now c.args.from c.if-stands_at.ensures c.in_ok-at.at c.in_ok-at.ensures.ok r.1 c.args.variables.now c.more_steps.new.variables c.more_steps.new.symbols r.0 m) c.more_steps.ensures.reads
+    if_ok c.more_steps.result (λ r m. members_read c.args.bytes.now c.args.tokens.now c.args.from c.if-stands_at.ensures c.in_ok-at.at c.in_ok-at.ensures.ok r.1 c.args.variables.now c.more_steps.new.variables c.args.symbols.now c.more_steps.new.symbols r.0 m) c.more_steps.ensures.reads
 
 pub returns-clause-stops : goal.returns-clause-stops
 returns-clause-stops c =

@@ -39,7 +39,7 @@ returns-then-waiting-new-clause-ok g c = λ o t l s. (let p = c.args.self.now in
     let v = c.args.visit.now in
     let pairs = c.newly_waiting-pairs.result in
     let new : length v.falls.now + pairs ≡ length v.falls.now + newly_waiting v.overlaps.now (all_dead v.killer v.falls.now (state_of p)) = ap (λ m. length v.falls.now + m) (c.newly_waiting-pairs.ensures.value v.killer) in
-    let waits = c.in_ok-waiting.ensures ∙ c.waiting.ensures in
+    let waits = c.in_ok-waiting.ensures.value ∙ c.waiting.ensures in
     passes_limit o t v.fact v.killer v.falls.now v.overlaps.now (state_of p) (state_of c.pass_limit.new.self) (length v.falls.now + pairs) _ new waits (omega (arith, l)) (c.pass_limit.ensures.state t s))
 
 pub returns-then-waiting-new-clause-fit : goal.returns-then-waiting-new-clause-fit
@@ -123,7 +123,7 @@ pub returns-clause-ok : goal.returns-clause-ok
 returns-clause-ok g c = λ o t l s. (let p = c.args.self.now in
     let v = c.args.visit.now in
     let pairs = c.newly_waiting-pairs.result in
-    let waits = c.in_ok-waiting.ensures ∙ c.waiting.ensures in
+    let waits = c.in_ok-waiting.ensures.value ∙ c.waiting.ensures in
     let same = reserved_state p c.reserve.new.self c.reserve.ensures.pairs c.reserve.ensures.draws in
     keeps_visit o t v.fact v.killer v.falls.now v.overlaps.now (state_of p) (state_of c.take_visit.new.self) pairs _ (c.newly_waiting-pairs.ensures.value v.killer) waits (omega (arith, l))
     (c.take_visit.ensures.state t s ∙ ap (λ x. visited v.killer v.falls.now v.overlaps.now (is_met v.fact (accepts t (CommitMeet v.fact pairs (length v.falls.now)) x))) same))

@@ -1,5 +1,5 @@
 use Rattle.std.proofs.lemmas.Result.{err_from_is_err_and}
-use Rattle.uc_clause.proofs.Alone.{alone_term_stops, alone_term_more, alone_term}
+use Rattle.uc_clause.proofs.Alone.{alone_term_stops, alone_term_more, alone_term, alone_term_interns}
 use Rattle.uc_clause.proofs.grammar.alone.term_in.Goals as goal
 
 pub returns-in_err-part-clause-stops : goal.returns-in_err-part-clause-stops
@@ -14,3 +14,6 @@ returns-then-not-stands_at-clause-stops c =
 pub returns-clause-reads : goal.returns-clause-reads
 returns-clause-reads c =
     alone_term c.args.bytes.now c.args.tokens.now c.part_at.new.variables c.part_at.new.symbols c.in_ok-part.part (rw c.new-variables.ensures at c.in_ok-part.ensures.reads) c.if-not-stands_at.ensures
+
+pub returns-clause-interns : goal.returns-clause-interns
+returns-clause-interns c = (_, alone_term_interns c.args.bytes.now c.args.tokens.now c.args.symbols.now c.part_at.new.symbols c.in_ok-part.part.end c.in_ok-part.ensures.interns c.if-not-stands_at.ensures)

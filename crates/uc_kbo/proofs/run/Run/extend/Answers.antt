@@ -5,7 +5,8 @@ use Rattle.uc_order.specs.VarOrders.{Classes}
 use Rattle.uc_order.proofs.Renaming.{length-renamed}
 use Rattle.uc_kbo.specs.Runs.{part, table_weighing, slot_by, read_by, image_by}
 use Rattle.uc_kbo.proofs.Parts.{Taken, taken_all, room_weight, room_counts, taken_more}
-use Rattle.uc_kbo.proofs.Reading.{part-renamed, get_or-renamed}
+use Rattle.uc_order.proofs.Reading.{get_or-renamed}
+use Rattle.uc_kbo.proofs.Reading.{part-renamed}
 use Rattle.uc_kbo.proofs.run.Run.extend.Goals as goal
 
 pub loop-n-init : goal.loop-n-init

@@ -9,6 +9,9 @@ refused : (b : Bool) → b ≡ false → IsTrue b → ⊥
 refused true e h = cc
 refused false e h = cc
 
+pub returns-then-misses-clause-value : goal.returns-then-misses-clause-value
+returns-then-misses-clause-value g c = none_of_nothing (tree_of c.args.term.now) (g.T.Test.accepts c.args.test.now) (rule_if_lives c.args.self.now c.args.side c.args.number c.args.fact.now) (c.misses.ensures c.if-misses.true)
+
 pub returns-then-rules_out-clause-value : goal.returns-then-rules_out-clause-value
 returns-then-rules_out-clause-value g c = none_ruled_out (tree_of c.args.term.now) (g.T.Test.accepts c.args.test.now) (rule_if_lives c.args.self.now c.args.side c.args.number c.args.fact.now)
     (λ found i a. (let s = found_side (tree_of c.args.term.now) c.args.self.now c.args.side c.args.number c.args.fact.now found i in c.rules_out.ensures c.if-rules_out.true found (c.requires.can found i) s.0 s.1 a))

@@ -11,10 +11,10 @@ made : (σ : ℕ → Tree) (ns all : List Node) (t : Tree) → tree_of ns ≡ t 
 made σ ns all t e is = let w = whole_list all (apply σ (tree_of ns)) is in (w.0, w.1 ∙ ap (apply σ) e, w.2)
 
 pub from_nodes-requires-clause-whole : goal.from_nodes-requires-clause-whole
-from_nodes-requires-clause-whole c = (made (image c.args.subst.now) c.as_nodes-pattern.result.now c.in_ok-instance.field-0.items c.args.self.now c.as_nodes-pattern.ensures.tree c.in_ok-instance.ensures).0
+from_nodes-requires-clause-whole c = (made (image c.args.subst.now) c.as_nodes-pattern.result.now c.in_ok-instance.field-0.items c.args.self.now c.as_nodes-pattern.ensures.tree c.in_ok-instance.ensures.nodes).0
 
 pub from_nodes-requires-clause-small : goal.from_nodes-requires-clause-small
-from_nodes-requires-clause-small c = let w = made (image c.args.subst.now) c.as_nodes-pattern.result.now c.in_ok-instance.field-0.items c.args.self.now c.as_nodes-pattern.ensures.tree c.in_ok-instance.ensures in omega (arith, w.2)
+from_nodes-requires-clause-small c = let w = made (image c.args.subst.now) c.as_nodes-pattern.result.now c.in_ok-instance.field-0.items c.args.self.now c.as_nodes-pattern.ensures.tree c.in_ok-instance.ensures.nodes in omega (arith, w.2)
 
 pub returns-clause-ok : goal.returns-clause-ok
-returns-clause-ok c = c.from_nodes.ensures ∙ (made (image c.args.subst.now) c.as_nodes-pattern.result.now c.in_ok-instance.field-0.items c.args.self.now c.as_nodes-pattern.ensures.tree c.in_ok-instance.ensures).1
+returns-clause-ok c = c.from_nodes.ensures ∙ (made (image c.args.subst.now) c.as_nodes-pattern.result.now c.in_ok-instance.field-0.items c.args.self.now c.as_nodes-pattern.ensures.tree c.in_ok-instance.ensures.nodes).1

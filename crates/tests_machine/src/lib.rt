@@ -1,0 +1,24 @@
+//! Tests of the public calls of the machine's crates: the ledger, the queue, the shelf, rows, tasks, the final pass, the book
+//! and the extraction of proofs.
+#![tactic(auto)]
+
+#[cfg(test)]
+mod alphabet;
+#[cfg(test)]
+mod books;
+#[cfg(test)]
+mod extraction;
+#[cfg(test)]
+mod fronts;
+#[cfg(test)]
+mod ledger;
+#[cfg(test)]
+mod passes;
+#[cfg(test)]
+mod queue;
+#[cfg(test)]
+mod rows;
+#[cfg(test)]
+mod shelf;
+#[cfg(test)]
+mod tasks;

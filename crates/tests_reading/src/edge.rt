@@ -1,0 +1,106 @@
+use std::alloc::{AllocError, Global};
+use std::test::Fail;
+use uc_edge::{
+    Fetched, Gate, Library, MemoryLibrary, MemorySink, NoGate, Sink, WriteFault, Written, put,
+};
+use uc_term::Text;
+
+fn text(alloc: Global, text: &str) -> Result<Text, AllocError> {
+    Text::from_bytes(alloc, text.as_bytes())
+}
+
+// what a fetch answered, as words
+fn told(answer: &Fetched) -> &[u8] {
+    match answer {
+        Fetched::Found(text) => text.as_bytes(),
+        Fetched::Absent => b"absent",
+        Fetched::Failed => b"failed",
+    }
+}
+
+// one row a fetch: the name, how many bytes at most, what comes; the third call and the last one are listed
+#[test]
+fn library_in_memory(rt: HostRuntime) -> Result<(), Fail> {
+    let alloc = rt.alloc();
+    let files = vec![in alloc;
+        (text(alloc, "a.p")?, text(alloc, "first")?),
+        (text(alloc, "")?, text(alloc, "no name")?),
+        (text(alloc, "a.p")?, text(alloc, "second")?),
+        (text(alloc, "e")?, text(alloc, "")?),
+    ]?;
+    let mut library = MemoryLibrary::new(alloc, files, vec![in alloc; 9, 3]?)?;
+    for (name, most, wanted) in [
+        ("a.p", 9, "first"),
+        ("a.p", 2, "fi"),
+        ("a.p", 9, "failed"),
+        ("a.p", 5, "first"),
+        ("a", 9, "absent"),
+        ("e", 9, ""),
+        ("", 100, "no name"),
+        ("a.p", 0, ""),
+        ("a", 9, "failed"),
+    ] {
+        let answer = library.fetch(alloc, name, most)?;
+        assert_eq!(rt; told(&answer), wanted.as_bytes(), "{name} {most}");
+    }
+    Ok(())
+}
+
+// one row a write: the piece, what comes and what stands written then; the second call is listed, the room is five bytes
+#[test]
+fn sink_in_memory(rt: HostRuntime) -> Result<(), Fail> {
+    let alloc = rt.alloc();
+    let mut sink = MemorySink::with_room(alloc, 5, vec![in alloc; 2]?)?;
+    for (piece, wanted, written) in [
+        ("ab", Written::Taken(2), "ab"),
+        ("c", Written::Failed, "ab"),
+        ("", Written::Taken(0), "ab"),
+        ("cdef", Written::Failed, "ab"),
+        ("cde", Written::Taken(3), "abcde"),
+        ("f", Written::Failed, "abcde"),
+    ] {
+        assert_eq!(rt; sink.write(piece.as_bytes()), wanted);
+        assert_eq!(rt; sink.bytes(), written.as_bytes());
+    }
+    Ok(())
+}
+
+// a sink that takes one byte a call, and fails once none is left to take
+#[derive(Drop)]
+struct Drip {
+    left: usize,
+    faults: u64,
+}
+
+impl Sink for Drip {
+    ghost use Rattle.std.specs.Prelude.{None};
+
+    ghost written = { λ _. None };
+
+    ghost faults = { λ d. d.faults };
+
+    fn write(&mut self, piece: &[u8]) -> Written {
+        if self.left == 0 {
+            self.faults = self.faults.saturating_add(1);
+            return Written::Failed;
+        }
+        self.left -= 1;
+        Written::Taken(piece.len().min(1))
+    }
+}
+
+#[test]
+fn whole_pieces(rt: HostRuntime) -> Result<(), Fail> {
+    let alloc = rt.alloc();
+    let mut sink = MemorySink::new(alloc, Vec::new(alloc))?;
+    assert_eq!(rt; put(&mut sink, b"one "), Ok(()));
+    assert_eq!(rt; put(&mut sink, b"two"), Ok(()));
+    assert_eq!(rt; sink.bytes(), b"one two".as_slice());
+    let mut drip = Drip { left: 4, faults: 0 };
+    assert_eq!(rt; put(&mut drip, b"abc"), Ok(()));
+    assert_eq!(rt; put(&mut drip, b""), Ok(()));
+    assert_eq!(rt; put(&mut drip, b"de"), Err(WriteFault));
+    assert_eq!(rt; drip.left, 0);
+    NoGate.pass(1, 7);
+    Ok(())
+}

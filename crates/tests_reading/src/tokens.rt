@@ -1,0 +1,124 @@
+ghost use Rattle.uc_term.specs.Table.{IsOf};
+
+use std::alloc::{AllocError, Global};
+use std::test::Fail;
+use uc_clause::{
+    Clause, Kind, Name, Place, Role, Token, TokenFault, print_clause, print_word, tokens,
+};
+use uc_term::{Seq, Symbols, Term, Text};
+
+// The last token of a text, by the letter of its kind, where it begins and its length; `!` for a text that isn't tokens.
+fn last_of(alloc: Global, text: &str) -> Result<(char, u32, u32, u32), AllocError> {
+    if text.len() > 100 {
+        return Ok(('?', 0, 0, 0));
+    }
+    match tokens(alloc, text.as_bytes()) {
+        Ok(found) => Ok(letter(found.as_slice().last().copied())),
+        Err(TokenFault::Syntax(place)) => Ok(('!', place.line, place.column, 0)),
+        Err(TokenFault::NoMemory) => Err(AllocError),
+    }
+}
+
+fn letter(token: Option<Token>) -> (char, u32, u32, u32) {
+    let Some(token) = token else {
+        return ('-', 0, 0, 0);
+    };
+    let letter = match token.kind {
+        Kind::Lower => 'l',
+        Kind::Upper => 'u',
+        Kind::Quoted => 'q',
+        Kind::Distinct => 'd',
+        Kind::Integer => 'i',
+        Kind::Dollar => '$',
+        Kind::Unequal => 'n',
+        Kind::Mark => 'm',
+    };
+    (
+        letter,
+        token.place.line,
+        token.place.column,
+        token.to.saturating_sub(token.from),
+    )
+}
+
+#[test]
+fn texts_as_tokens(rt: HostRuntime) -> Result<(), Fail> {
+    let rows = [
+        (" \t", ('-', 0, 0, 0)),
+        ("Xa_B1", ('u', 1, 1, 5)),
+        ("1a_B1 ", ('l', 1, 2, 4)),
+        ("a'b \\'\\\\'", ('q', 1, 2, 8)),
+        ("\"\"", ('d', 1, 1, 2)),
+        ("+12+", ('m', 1, 4, 1)),
+        ("+12", ('i', 1, 1, 3)),
+        ("$$$t", ('$', 1, 2, 3)),
+        ("!!=", ('n', 1, 2, 2)),
+        ("a\r%'\n\r/*'\n*//", ('m', 3, 3, 1)),
+        ("a ''", ('!', 1, 3, 0)),
+        ("a\n'b", ('!', 2, 1, 0)),
+        ("'a\nb'", ('!', 1, 1, 0)),
+        ("'a\\b'", ('!', 1, 1, 0)),
+        ("a /*/", ('!', 1, 3, 0)),
+        ("\"a", ('!', 1, 1, 0)),
+        ("a\x7f", ('!', 1, 2, 0)),
+    ];
+    for (text, wanted) in rows.iter() {
+        assert!(rt; last_of(rt.alloc(), text)? == *wanted, "{text}");
+    }
+    Ok(())
+}
+
+fn inner_word(alloc: Global, text: &[u8]) -> Result<Text, TokenFault> {
+    if text.len() > 100 {
+        return Ok(Text::new(alloc));
+    }
+    let found = tokens(alloc, text)?;
+    match found.as_slice().first().copied() {
+        Some(token) if token.from < token.to && token.to as usize <= text.len() => {
+            Ok(token.word(alloc, text)?)
+        }
+        _ => Ok(Text::new(alloc)),
+    }
+}
+
+#[test]
+fn words(rt: HostRuntime) -> Result<(), Fail> {
+    assert!(rt; inner_word(rt.alloc(), b"'a \\'b\\\\'")?.as_bytes() == "a 'b\\".as_bytes());
+    assert!(rt; print_word(rt.alloc(), b"a 'b\\")?.as_bytes() == "'a \\'b\\\\'".as_bytes());
+    assert!(rt; print_word(rt.alloc(), b"aX_1")?.as_bytes() == "aX_1".as_bytes());
+    assert!(rt; print_word(rt.alloc(), b"1")?.as_bytes() == "'1'".as_bytes());
+    Ok(())
+}
+
+fn printed(alloc: Global, symbols: &Symbols, left: Term, right: Term) -> Result<Text, AllocError>
+    requires left { IsOf symbols.now left }
+    requires right { IsOf symbols.now right }
+{
+    let clause = Clause {
+        name: Name {
+            text: Text::from_bytes(alloc, b"+12")?,
+            integer: true,
+        },
+        role: Role::NegatedConjecture,
+        positive: false,
+        left,
+        right,
+        places: Seq::new(alloc),
+        place: Place { line: 1, column: 1 },
+    };
+    print_clause(alloc, &clause, symbols)
+}
+
+#[test]
+fn a_printed_clause(rt: HostRuntime) -> Result<(), Fail> {
+    let mut symbols = Symbols::new(rt.alloc());
+    let f = symbols.intern(rt.alloc(), b"f", 2)?;
+    let left = Term::app(
+        rt.alloc(),
+        f,
+        &[Term::var(rt.alloc(), 9)?, Term::var(rt.alloc(), 0)?],
+    )?;
+    let text = printed(rt.alloc(), &symbols, left, Term::var(rt.alloc(), 9)?)?;
+    assert!(rt; text.as_bytes() == "cnf(+12, negated_conjecture, f(X10,X1) != X10).".as_bytes());
+    Ok(())
+}

@@ -1,0 +1,170 @@
+use std::alloc::{AllocError, Global};
+use std::test::Fail;
+use uc_term::{Seq, Text};
+use uc_words::{Command, WordsFault, number, read_words};
+
+// lines that have no reading, whose words stand between bars
+const NO_READING: &str = "
+prove
+prove|--budget|5|--budget|6|r5.p
+prove|--order|rpo|r5.p
+help
+--help
+check|r1.p
+show|--root=|r1.p
+show|--root|--|r1.p
+show|--root|-|r1.p
+show|r1.p|--root
+show|
+show|--|
+show|-r1.p
+show|r1.p|r2.p
+show|--root|a|--root|a|r1.p
+show|--budget=5|r1.p
+show|--trace|r1.p
+show|a\tb
+show|\u{e9}
+prove|--trace=1|r5.p
+prove|--trace|r5.p|--trace
+prove|--steps|5|r5.p
+prove|--budget|+5|r5.p
+prove|--budget|10000001|r5.p
+prove|--budget|00000000001|r5.p
+prove|--pairs|0|r5.p
+prove|--pairs|8000001|r5.p
+prove|--workers|0|r5.p
+prove|--workers|65|r5.p
+prove|--order=lpo|--weights|f=1|r5.p
+prove|--w0=1|--order|lpo|r5.p
+prove|--w0|0|r5.p
+prove|--w0|1000001|r5.p
+prove|--weights|f=00000000001|r5.p
+prove|--weights|f=4294967296|r5.p
+prove|--weights|f=1,|r5.p
+prove|--precedence|f <g|r5.p
+prove|--precedence|f<|r5.p
+prove|--precedence|F|r5.p
+prove|--precedence|''|r5.p
+prove|--precedence|'f|r5.p
+prove|--precedence|'\\a'|r5.p
+decide|r5.p
+decide|--steps|10000001|r5.p|a = b
+rewrite|--limit|10000001|r5.p|f(a)
+gen|0|1
+gen|2001|1
+gen|5|2147483648
+gen|5
+gen|--root|x|5|1";
+
+// lines that have one, each with its command behind an arrow
+const ONE_READING: &str = "show|--|--root => Show 100000 1000000 1 100000 4096 1 false false;--root
+prove|--budget=0|r5.p|--trace|--workers|64 => Prove 0 1000000 64 100000 4096 1 true false;r5.p
+prove|--budget|10000000|--pairs|8000000|r5.p => Prove 10000000 8000000 1 100000 4096 1 false false;r5.p
+prove|--pairs=1|--workers=1|r5.p => Prove 100000 1 1 100000 4096 1 false false;r5.p
+decide|--steps=10000000|--w0=1000000|r5.p|a = b => Decide 100000 1000000 1 10000000 4096 1000000 false false;r5.p;a = b
+decide|--steps=0|r5.p|a = b|b = a => Decide 100000 1000000 1 0 4096 1 false false;r5.p;a = b;b = a
+rewrite|--limit=10000000|r5.p|f(a) => Rewrite 100000 1000000 1 100000 10000000 1 false false;r5.p;f(a)
+rewrite|--limit=0|r5.p|f(a) => Rewrite 100000 1000000 1 100000 0 1 false false;r5.p;f(a)
+gen|1|0 => Gen 100000 1000000 1 100000 4096 1 false false;1;0
+gen|2000|2147483647 => Gen 100000 1000000 1 100000 4096 1 false false;2000;2147483647
+check|--root=-x=y|-|--|-- => Check 100000 1000000 1 100000 4096 1 false false;-;--:-x=y
+order|--precedence|f<'g<\\''<f|r5.p|--order=lpo => Order 100000 1000000 1 100000 4096 1 false true;r5.p<f<g<'<f
+order|--w0|2|--weights='f'=007,g_1=4294967295|r5.p => Order 100000 1000000 1 100000 4096 2 false false;r5.p,f=7,g_1=4294967295";
+
+fn words(alloc: Global, line: &str) -> Result<Vec<String>, AllocError> {
+    let mut words = Vec::new(alloc);
+    for word in line.split('|') {
+        words.push(String::from_str(alloc, word)?)?;
+    }
+    Ok(words)
+}
+
+fn is_usage(alloc: Global, line: &str) -> Result<bool, AllocError> {
+    let words = words(alloc, line)?;
+    Ok(matches!(read_words(alloc, &words), Err(WordsFault::Usage)))
+}
+
+fn put_texts(out: &mut Text, mark: &[u8], texts: &Seq<Text>) -> Result<(), AllocError> {
+    for text in texts.as_slice() {
+        out.extend(mark)?;
+        out.extend(text.as_bytes())?;
+    }
+    Ok(())
+}
+
+fn put_weights(
+    alloc: Global,
+    out: &mut Text,
+    weights: &Seq<(Text, u32)>,
+) -> Result<(), AllocError> {
+    for weight in weights.as_slice() {
+        out.extend(b",")?;
+        out.extend(weight.0.as_bytes())?;
+        out.extend(format!(in alloc; "={}", weight.1)?.as_bytes())?;
+    }
+    Ok(())
+}
+
+fn put_root(out: &mut Text, root: &Option<Text>) -> Result<(), AllocError> {
+    match root {
+        Some(root) => {
+            out.extend(b":")?;
+            out.extend(root.as_bytes())
+        }
+        None => Ok(()),
+    }
+}
+
+fn told(alloc: Global, command: &Command) -> Result<Text, AllocError> {
+    let Command {
+        verb,
+        budget,
+        pairs,
+        workers,
+        steps,
+        limit,
+        trace,
+        order,
+        ..
+    } = command;
+    let numbers = format!(in alloc;
+        "{verb:?} {budget} {pairs} {workers} {steps} {limit} {} {trace} {}",
+        order.w0, order.lpo
+    )?;
+    let mut out = Text::from_bytes(alloc, numbers.as_bytes())?;
+    put_texts(&mut out, b";", &command.positionals)?;
+    put_root(&mut out, &command.root)?;
+    put_texts(&mut out, b"<", &order.precedence)?;
+    put_weights(alloc, &mut out, &order.weights)?;
+    Ok(out)
+}
+
+fn is_told(alloc: Global, row: &str) -> Result<bool, AllocError> {
+    let Some((line, wanted)) = row.split_once(" => ") else {
+        return Ok(false);
+    };
+    let words = words(alloc, line)?;
+    match read_words(alloc, &words) {
+        Ok(command) => Ok(told(alloc, &command)?.as_bytes() == wanted.as_bytes()),
+        Err(_) => Ok(false),
+    }
+}
+
+#[test]
+fn no_reading(rt: HostRuntime) -> Result<(), Fail> {
+    let none = Vec::new(rt.alloc());
+    assert!(rt; matches!(read_words(rt.alloc(), &none), Err(WordsFault::Usage)));
+    for line in NO_READING.split('\n') {
+        assert!(rt; is_usage(rt.alloc(), line)?, "{line:?}");
+    }
+    Ok(())
+}
+
+#[test]
+fn one_reading(rt: HostRuntime) -> Result<(), Fail> {
+    for row in ONE_READING.split('\n') {
+        assert!(rt; is_told(rt.alloc(), row)?, "{row:?}");
+    }
+    assert_eq!(rt; number(b"0123456789"), Some(123_456_789));
+    Ok(())
+}

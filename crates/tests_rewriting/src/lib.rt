@@ -1,0 +1,30 @@
+//! Tests of the public calls of matching and unification, the orders, facts, rewriting, overlaps, ground joinability and
+//! questions. The crate stands above those, so that each of them is proved once.
+#![tactic(auto)]
+
+#[cfg(test)]
+mod cases;
+#[cfg(test)]
+mod comparing;
+#[cfg(test)]
+mod deciding;
+#[cfg(test)]
+mod facts;
+#[cfg(test)]
+mod joining;
+#[cfg(test)]
+mod kbo;
+#[cfg(test)]
+mod lpo;
+#[cfg(test)]
+mod orders;
+#[cfg(test)]
+mod pairing;
+#[cfg(test)]
+mod replaying;
+#[cfg(test)]
+mod rewriting;
+#[cfg(test)]
+mod terms;
+#[cfg(test)]
+mod unifying;

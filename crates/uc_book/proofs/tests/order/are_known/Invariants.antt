@@ -1,7 +1,0 @@
-use Rattle.std.proofs.Common.{take}
-use Rattle.uc_term.specs.Table.{Has}
-use Rattle.uc_order.specs.Members.{Each}
-use Rattle.uc_book.proofs.tests.order.are_known.Given as goal
-
-abbrev pub invariant-loop-f : goal.invariant-loop-f
-invariant-loop-f l = Each (Has l.symbols) (take l.f-index l.list)

@@ -1,7 +1,0 @@
-use Rattle.std.proofs.Common.{take}
-use Rattle.uc_order.specs.Members.{Each}
-use Rattle.uc_lpo.specs.Heads.{IsKnown}
-use Rattle.uc_rewrite.proofs.under_tests.has_only.Given as goal
-
-abbrev pub invariant-loop-n : goal.invariant-loop-n
-invariant-loop-n l = Each (IsKnown l.cases) (take l.n-index l.nodes)
