@@ -1,6 +1,6 @@
 #!/usr/bin/env bash
 # `uc check` of a proof of 100,000 chain lines and about 200 MB, and of one of half as many. Prints the processor seconds of each (the least of three runs), and
-# how much longer a byte of the longer one takes. Run it at the top of the repository, after `rt ci uc_main` or `rt check` there.
+# how much longer a byte of the longer one takes. Run it at the top of the repository, after `rt run` in crates/uc_main.
 set -euo pipefail
 cd "$(dirname "$0")/.."
 folder=$(mktemp -d)

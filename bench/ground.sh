@@ -1,7 +1,7 @@
 #!/usr/bin/env bash
 # Ground joinability over an associative and commutative symbol: the 120 arrangements of five variables, for each of which both sides
 # are normalised under all 541 orders of the variables (crates/bench_ground). Prints the pairs a second, by the least processor
-# seconds of five runs. Run it at the top of the repository, after `rt ci bench_ground` or `rt check` there.
+# seconds of five runs. Run it at the top of the repository, after `rt run` in crates/bench_ground.
 set -euo pipefail
 cd "$(dirname "$0")/.."
 (cd crates/bench_ground && rt run >/dev/null 2>&1) || true

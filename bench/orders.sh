@@ -3,7 +3,7 @@
 # (crates/bench_orders/data/group_pairs, made by bench/pairs.py): crates/bench_orders beside the same algorithms in plain Rust
 # (bench/orders_plain). Prints the processor seconds of each, the least of nine runs, and their ratio. Then deep terms of both orders, of
 # so many levels and of twice as many, and combs with a variable of its own in each level. Run it at the top of the repository, after
-# `rt ci bench_orders` or `rt check` there.
+# `rt run` in crates/bench_orders.
 set -euo pipefail
 cd "$(dirname "$0")/.."
 target=$(mktemp -d)

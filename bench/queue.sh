@@ -1,6 +1,6 @@
 #!/usr/bin/env bash
 # A million adds and a million draws: crates/bench_queue beside the same work in plain Rust. Prints the processor seconds of each (the least of nine runs) and
-# their ratio. Run it at the top of the repository, after `rt ci bench_queue` or `rt check` there.
+# their ratio. Run it at the top of the repository, after `rt run` in crates/bench_queue.
 set -euo pipefail
 cd "$(dirname "$0")/.."
 rust=$(mktemp)

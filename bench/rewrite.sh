@@ -2,8 +2,8 @@
 # Rewriting steps a second over the axioms of addition and multiplication, on products of two numerals: `normalise` in a loop
 # (crates/bench_rewrite) beside Debian's Maude, which reduces the same term by the same rules in a loop (bench/peano.maude). Prints the
 # steps of one round, the processor seconds of so many rounds of each, the least of five runs, turn by turn, and the ratio. Then, where the
-# built program has it, the command `rewrite`, which prints each step's whole term. Run it at the top of the repository, after `rt ci
-# bench_rewrite` or `rt check` there; it needs Debian's package maude.
+# built program has it, the command `rewrite`, which prints each step's whole term. Run it at the top of the repository, after `rt run`
+# in crates/bench_rewrite; it needs Debian's package maude.
 set -euo pipefail
 cd "$(dirname "$0")/.."
 folder=$(mktemp -d)

@@ -1,7 +1,7 @@
 #!/usr/bin/env bash
 # `uc show` of a problem of 10,000 clauses and 15 MB, and of one of half as many, beside `eprover --cnf -s --tstp-format`, which reads and prints the same
-# clauses. Prints the processor seconds of each (the least of seven runs, in turn) and their ratio. Run it at the top of the repository, after `rt ci uc_main`
-# or `rt check` there; it needs Debian's package eprover.
+# clauses. Prints the processor seconds of each (the least of seven runs, in turn) and their ratio. Run it at the top of the repository, after `rt run` in
+# crates/uc_main; it needs Debian's package eprover.
 set -euo pipefail
 cd "$(dirname "$0")/.."
 folder=$(mktemp -d)
