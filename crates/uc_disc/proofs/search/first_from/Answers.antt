@@ -1,0 +1,11 @@
+use Rattle.std.proofs.Common.{rules}
+use Rattle.uc_fact.specs.Live.{rules_of}
+use Rattle.uc_disc.specs.Numbered.{lives}
+use Rattle.uc_disc.proofs.Whole.{tree_deeper}
+use Rattle.uc_disc.proofs.search.first_from.Goals as goal
+
+pub first_shallow-requires-clause-tree : goal.first_shallow-requires-clause-tree
+first_shallow-requires-clause-tree g c = tree_deeper (rules_of (lives c.args.facts.now)) c.args.places.now c.args.marks.now c.args.deep 63 (search rules) c.requires.tree
+
+pub first_deep-requires-clause-tree : goal.first_deep-requires-clause-tree
+first_deep-requires-clause-tree g c = tree_deeper (rules_of (lives c.args.facts.now)) c.args.places.now c.args.marks.now c.args.deep 4097 c.requires.shallow c.requires.tree

@@ -1,0 +1,95 @@
+use Rattle.std.proofs.Common.{◌≡◌, ◌+◌, ◌<◌, ◌≤◌, ℕ, length, true, false, List, sym, ap, ◌∙◌, arith, subst, get_or, take, [], Some}
+use Rattle.std.specs.Prelude.{slice_get}
+use Rattle.std.proofs.lemmas.Option.{slice_get-get_or, slice_get_within, get_or_from_slice_get}
+use Rattle.uc_term.specs.declared.node.Node.{Node}
+use Rattle.uc_disc.specs.declared.place.Label.TheVariants.{Variable, Leaf}
+use Rattle.uc_disc.specs.declared.place.Place.{Place}
+use Rattle.uc_disc.specs.declared.place.Mark.{Mark}
+use Rattle.uc_disc.specs.Trail.{before, IsShaped, IsMark, RefersBack}
+use Rattle.uc_disc.specs.Standing.{IsLeafAt, IsFollowed}
+use Rattle.uc_disc.proofs.Preorder.{Walking, supported_at, stands_next, fails_here, stands_skip, fails_cut, fails_skip, fails_both, taken}
+use Rattle.uc_disc.proofs.walk.next_leaf.Goals as goal
+
+module _ (ns : List Node) (ps : List Place) (ms : List Mark) (deep : ℕ) (tree : IsShaped ps ms deep) (start bound i : ℕ) (at : List ℕ) (w : Walking ns ps start bound i at) (h : i < length ps) (dp : Place) (dm : Mark) where
+  abbrev p : Place
+  p = get_or ps i dp
+
+  abbrev m : Mark
+  m = get_or ms i dm
+
+  here : slice_get ps i ≡ Some p
+  here = slice_get-get_or ps i dp h
+
+  mark : IsMark ps i m
+  mark = tree.marks.marked i m (slice_get-get_or ms i dm (omega (arith, tree.marks.long)))
+
+  skip_ahead : (i < m.skip) × (m.skip ≤ length ps)
+  skip_ahead = (mark.ahead, mark.within)
+
+  cut : bound ≤ m.least → Walking ns ps start bound m.skip at
+  cut e = record {
+    ahead = omega (arith, w.ahead, mark.ahead);
+    within = mark.within;
+    stands = stands_skip ps tree.supported ns at i p here m mark w.stands;
+    fails = fails_both ns ps start i m.skip bound w.fails (fails_cut ps tree.supported ns at i p here m mark bound e);
+  }
+
+  back : RefersBack p.label p.depth
+  back = (supported_at [] ps i p tree.supported here).1
+
+  room : p.depth < deep
+  room = tree.below i p here
+
+  path_long : length (take p.depth (before ps i)) ≡ p.depth
+  path_long = taken ps tree.supported i p here
+
+  failed : (new : List ℕ) → ((r : ℕ) → p.label ≡ Leaf r → ⊥) → IsFollowed ns p.depth p.label at new false → Walking ns ps start bound m.skip new
+  failed new other f = let P : List ℕ → Type 0 = Walking ns ps start bound m.skip in subst P (sym f.0) (record {
+    ahead = omega (arith, w.ahead, mark.ahead);
+    within = mark.within;
+    stands = stands_skip ps tree.supported ns at i p here m mark w.stands;
+    fails = fails_both ns ps start i m.skip bound w.fails (fails_skip ps tree.supported ns at i p here m mark bound other (f.1 (take p.depth (before ps i)) path_long (w.stands p here)));
+  })
+
+  followed : (new : List ℕ) → ((r : ℕ) → p.label ≡ Leaf r → ⊥) → IsFollowed ns p.depth p.label at new true → Walking ns ps start bound (i + 1) new
+  followed new other f = record {
+    ahead = omega (arith, w.ahead);
+    within = omega arith;
+    stands = stands_next ps tree.supported ns new i p here bound other (f (take p.depth (before ps i)) path_long (w.stands p here));
+    fails = fails_both ns ps start i (i + 1) bound w.fails (fails_here ps tree.supported ns at i p here bound other);
+  }
+
+  is_leaf : (r : ℕ) → p.label ≡ Leaf r → IsLeafAt ns ps i
+  is_leaf r e q g = (r, ap (λ (z : Place). z.label) (let same : q ≡ p = sym (get_or_from_slice_get ps i q dp g) in same) ∙ e)
+
+past_end : (ns : List Node) (ps : List Place) (i : ℕ) → length ps ≤ i → IsLeafAt ns ps i
+past_end ns ps i h q g = absurd (omega (arith, slice_get_within ps i q g))
+
+pub loop-i-preserved-then-marks-i : goal.loop-i-preserved-then-marks-i
+loop-i-preserved-then-marks-i c = (cut c.args.term.now c.args.places.now c.args.marks.now _ c.requires.tree c.args.start c.args.bound c.loop-i.i c.loop-i.at c.loop-i.invariant.0 c.loop-i-test.true (record { label = Variable 0; depth = 0 }) _ c.if-marks-i.true, c.loop-i.invariant.1)
+
+pub returns-in-Leaf-clause-leaf : goal.returns-in-Leaf-clause-leaf
+returns-in-Leaf-clause-leaf c = is_leaf c.args.term.now c.args.places.now c.args.marks.now _ c.requires.tree c.args.start c.args.bound c.loop-i.i c.loop-i.at c.loop-i.invariant.0 c.loop-i-test.true _ (record { skip = 0; least = 0 }) c.in-Leaf.field-0 c.in-Leaf.is
+
+pub follow-requires : goal.follow-requires
+follow-requires c = record {
+  whole = c.requires.whole;
+  small = c.requires.small;
+  ends = c.requires.ends;
+  room_ends = c.requires.room_ends;
+  room = omega (arith, c.loop-i.invariant.1, room c.args.term.now c.args.places.now c.args.marks.now _ c.requires.tree c.args.start c.args.bound c.loop-i.i c.loop-i.at c.loop-i.invariant.0 c.loop-i-test.true (record { label = Variable 0; depth = 0 }) (record { skip = 0; least = 0 }));
+  back = back c.args.term.now c.args.places.now c.args.marks.now _ c.requires.tree c.args.start c.args.bound c.loop-i.i c.loop-i.at c.loop-i.invariant.0 c.loop-i-test.true _ (record { skip = 0; least = 0 });
+  label = c.in_default.not-Leaf;
+}
+
+pub loop-i-preserved-then-follow : goal.loop-i-preserved-then-follow
+loop-i-preserved-then-follow c = (followed c.args.term.now c.args.places.now c.args.marks.now _ c.requires.tree c.args.start c.args.bound c.loop-i.i c.loop-i.at c.loop-i.invariant.0 c.loop-i-test.true _ (record { skip = 0; least = 0 }) c.follow.new.at c.in_default.not-Leaf (rw c.if-follow.true at c.follow.ensures.value), c.follow.ensures.long ∙ c.loop-i.invariant.1)
+
+pub loop-i-preserved : goal.loop-i-preserved
+loop-i-preserved c = (failed c.args.term.now c.args.places.now c.args.marks.now _ c.requires.tree c.args.start c.args.bound c.loop-i.i c.loop-i.at c.loop-i.invariant.0 c.loop-i-test.true _ _ c.follow.new.at c.in_default.not-Leaf (rw c.if-follow.false at c.follow.ensures.value), c.follow.ensures.long ∙ c.loop-i.invariant.1)
+
+pub loop-i-smaller : goal.loop-i-smaller
+loop-i-smaller c = omega (arith, c.loop-i-test.true, skip_ahead c.args.term.now c.args.places.now c.args.marks.now _ c.requires.tree c.args.start c.args.bound c.loop-i.i c.loop-i.at c.loop-i.invariant.0 c.loop-i-test.true (record { label = Variable 0; depth = 0 }) (record { skip = 0; least = 0 }))
+
+pub returns-clause-leaf : goal.returns-clause-leaf
+returns-clause-leaf c = past_end c.args.term.now c.args.places.now c.loop-i.i c.loop-i-test.false

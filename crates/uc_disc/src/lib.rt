@@ -1,0 +1,21 @@
+//! A perfect discrimination tree over numbered equations (McCune, Experiments with discrimination-tree indexing): one walk
+//! finds which of their sides a term is an instance of, repeated variables and sides that are a variable included.
+//!
+//! A side is spelled as labels in prefix order; sides with a common front share its places. The places stand in one list in
+//! preorder, each with its depth and a mark: the next place that isn't below it, and the least rule below it, by which whole
+//! branches are passed over. A walk takes no memory until it stands at a leaf, so that the term is known to be an instance.
+//!
+//! [`Tree`] is an `Index` of its equations, with the answers of a scan over them. `specs/` says what makes a list of places a
+//! tree.
+#![tactic(auto)]
+
+mod build;
+mod ends;
+mod facts;
+mod place;
+mod search;
+mod spelling;
+mod tree;
+mod walk;
+
+pub use tree::Tree;

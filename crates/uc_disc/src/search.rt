@@ -1,0 +1,237 @@
+//! Finds the first rule that gives something that passes a test.
+
+ghost use Rattle.std.specs.Prelude.{◌≡◌, ◌+◌, ◌*◌, ◌-◌, ◌<◌, ◌≤◌, ◌^◌, ℕ, IfOk, OnErr, length};
+ghost use Rattle.uc_term.specs.Flat.{tree_of, IsWhole};
+ghost use Rattle.uc_fact.specs.declared.index.Found.{Found as AnyFound};
+ghost use Rattle.uc_fact.specs.Live.{rules_of};
+ghost use Rattle.uc_fact.specs.Retrieval.{IsFound, FindsNothing};
+ghost use Rattle.uc_disc.specs.Numbered.{lives};
+ghost use Rattle.uc_disc.specs.Trail.{IsTree};
+ghost use Rattle.uc_disc.specs.Retrieving.{IsTried, IsFirstFrom, IsBest, IsBetter};
+
+use crate::ends::fill_ends;
+use crate::facts::{side_of_rule, side_term};
+use crate::place::{Mark, Place, leaf_rule};
+use crate::walk::next_leaf;
+use std::alloc::{AllocError, Global};
+use uc_fact::{Equation, Found, Side, Test};
+use uc_term::{MAX_NODES, Node};
+use uc_unify::matches;
+
+/// A rule with what it gives.
+#[derive(Drop)]
+pub struct Answer {
+    pub rule: u32,
+    pub found: Found,
+}
+
+/// The best answer so far, and a number below which the rules are that would be better.
+#[derive(Drop)]
+pub struct Best {
+    pub answer: Option<Answer>,
+    pub bound: u32,
+}
+
+/// A test that all pass.
+pub struct Any;
+
+impl Test for Any {
+    ghost can_test = { λ _ _. Unit {0} };
+
+    ghost accepts = { λ _ _. Unit {0} };
+
+    fn rules_out(&self, fact: u32, side: Side) -> bool {
+        false
+    }
+
+    fn passes(&self, alloc: Global, found: &Found) -> Result<bool, AllocError> {
+        Ok(true)
+    }
+}
+
+/// Makes what a rule of which the term is an instance gives, where it passes the test.
+fn try_rule<T: Test>(
+    facts: &[(u32, Equation)],
+    alloc: Global,
+    rule: u32,
+    term: &[Node],
+    test: &T,
+) -> Result<Option<Found>, AllocError>
+    requires within { rule < 2 * length facts.now }
+    requires whole { IsWhole term.now }
+    requires small { length term.now ≤ MAX_NODES }
+    requires few { length facts.now < 2 ^ 31 }
+    requires can { (found : AnyFound) → IsFound (tree_of term.now) (rules_of (lives facts.now)) found → T.can_test test.now found }
+    ensures { IfOk result (IsTried (T.accepts test.now) (tree_of term.now) (rules_of (lives facts.now)) rule) }
+{
+    let fact = &facts[rule as usize / 2];
+    let side = side_of_rule(facts, rule);
+    if test.rules_out(fact.0, side) {
+        return Ok(None);
+    }
+    match matches(alloc, side_term(&fact.1, side).as_nodes(), term)? {
+        Some(subst) => {
+            let found = Found {
+                fact: fact.0,
+                side,
+                subst,
+            };
+            if test.passes(alloc, &found)? {
+                Ok(Some(found))
+            } else {
+                Ok(None)
+            }
+        }
+        None => Ok(None),
+    }
+}
+
+/// Tries a rule of which the term is an instance, where it would be better than the best answer so far, and returns the
+/// better of the two.
+#[inline]
+fn better<T: Test>(
+    facts: &[(u32, Equation)],
+    alloc: Global,
+    best: Best,
+    from: u32,
+    rule: u32,
+    term: &[Node],
+    test: &T,
+) -> Result<Best, AllocError>
+    requires within { rule < 2 * length facts.now }
+    requires whole { IsWhole term.now }
+    requires small { length term.now ≤ MAX_NODES }
+    requires few { length facts.now < 2 ^ 31 }
+    requires can { (found : AnyFound) → IsFound (tree_of term.now) (rules_of (lives facts.now)) found → T.can_test test.now found }
+    requires best { IsBest (T.accepts test.now) (tree_of term.now) (rules_of (lives facts.now)) from best.bound best.answer }
+    ensures { IfOk result (IsBetter (T.accepts test.now) (tree_of term.now) (rules_of (lives facts.now)) from rule best.bound) }
+{
+    if rule < from || best.bound <= rule {
+        return Ok(best);
+    }
+    match try_rule(facts, alloc, rule, term, test)? {
+        Some(found) => Ok(Best {
+            answer: Some(Answer { rule, found }),
+            bound: rule,
+        }),
+        None => Ok(best),
+    }
+}
+
+/// Finds the first rule from a number on that gives something that passes the test. Where no rule gives anything, this
+/// takes no memory.
+#[inline]
+fn first_in<T: Test>(
+    facts: &[(u32, Equation)],
+    places: &[Place],
+    marks: &[Mark],
+    alloc: Global,
+    from: u32,
+    term: &[Node],
+    test: &T,
+    ends: &mut [u16],
+    at: &mut [u16],
+) -> Result<Option<Answer>, AllocError>
+    requires whole { IsWhole term.now }
+    requires small { length term.now ≤ MAX_NODES }
+    requires room_ends { length term.now ≤ length ends.old }
+    requires tree { IsTree (rules_of (lives facts.now)) places.now marks.now (length at.old - 1) }
+    requires room { 1 < length at.old }
+    requires few { length facts.now < 2 ^ 31 }
+    requires can { (found : AnyFound) → IsFound (tree_of term.now) (rules_of (lives facts.now)) found → T.can_test test.now found }
+    ensures value { IfOk result (IsFirstFrom (T.accepts test.now) (tree_of term.now) (rules_of (lives facts.now)) from) }
+    ensures memory { OnErr result (FindsNothing (tree_of term.now) (rules_of (lives facts.now)) → ⊥) }
+{
+    fill_ends(term, ends);
+    at[0] = 0;
+    let mut best = Best {
+        answer: None,
+        bound: u32::MAX,
+    };
+    let mut i = next_leaf(places, marks, term, ends, at, 0, best.bound);
+    while i < places.len() {
+        let rule = leaf_rule(places[i].label);
+        best = better(facts, alloc, best, from, rule, term, test)?;
+        i = next_leaf(places, marks, term, ends, at, i + 1, best.bound);
+    }
+    Ok(best.answer)
+}
+
+/// Does the same with little room, for small terms in a shallow tree.
+fn first_shallow<T: Test>(
+    facts: &[(u32, Equation)],
+    places: &[Place],
+    marks: &[Mark],
+    alloc: Global,
+    from: u32,
+    term: &[Node],
+    test: &T,
+) -> Result<Option<Answer>, AllocError>
+    requires whole { IsWhole term.now }
+    requires small { length term.now ≤ 64 }
+    requires tree { IsTree (rules_of (lives facts.now)) places.now marks.now 63 }
+    requires few { length facts.now < 2 ^ 31 }
+    requires can { (found : AnyFound) → IsFound (tree_of term.now) (rules_of (lives facts.now)) found → T.can_test test.now found }
+    ensures value { IfOk result (IsFirstFrom (T.accepts test.now) (tree_of term.now) (rules_of (lives facts.now)) from) }
+    ensures memory { OnErr result (FindsNothing (tree_of term.now) (rules_of (lives facts.now)) → ⊥) }
+{
+    let mut ends = [0u16; 64];
+    let mut at = [0u16; 64];
+    first_in(
+        facts, places, marks, alloc, from, term, test, &mut ends, &mut at,
+    )
+}
+
+/// Does the same with room for every term.
+#[inline(never)]
+fn first_deep<T: Test>(
+    facts: &[(u32, Equation)],
+    places: &[Place],
+    marks: &[Mark],
+    alloc: Global,
+    from: u32,
+    term: &[Node],
+    test: &T,
+) -> Result<Option<Answer>, AllocError>
+    requires tree { IsTree (rules_of (lives facts.now)) places.now marks.now 4097 }
+    requires whole { IsWhole term.now }
+    requires small { length term.now ≤ MAX_NODES }
+    requires few { length facts.now < 2 ^ 31 }
+    requires can { (found : AnyFound) → IsFound (tree_of term.now) (rules_of (lives facts.now)) found → T.can_test test.now found }
+    ensures value { IfOk result (IsFirstFrom (T.accepts test.now) (tree_of term.now) (rules_of (lives facts.now)) from) }
+    ensures memory { OnErr result (FindsNothing (tree_of term.now) (rules_of (lives facts.now)) → ⊥) }
+{
+    let mut ends = [0u16; 4096];
+    let mut at = [0u16; 4098];
+    first_in(
+        facts, places, marks, alloc, from, term, test, &mut ends, &mut at,
+    )
+}
+
+/// Finds the first rule from a number on that gives something that passes the test. Where no rule gives anything, this
+/// takes no memory.
+pub fn first_from<T: Test>(
+    facts: &[(u32, Equation)],
+    places: &[Place],
+    marks: &[Mark],
+    deep: usize,
+    alloc: Global,
+    from: u32,
+    term: &[Node],
+    test: &T,
+) -> Result<Option<Answer>, AllocError>
+    requires tree { IsTree (rules_of (lives facts.now)) places.now marks.now deep }
+    requires shallow { deep ≤ 4097 }
+    requires whole { IsWhole term.now }
+    requires small { length term.now ≤ MAX_NODES }
+    requires few { length facts.now < 2 ^ 31 }
+    requires can { (found : AnyFound) → IsFound (tree_of term.now) (rules_of (lives facts.now)) found → T.can_test test.now found }
+    ensures value { IfOk result (IsFirstFrom (T.accepts test.now) (tree_of term.now) (rules_of (lives facts.now)) from) }
+    ensures memory { OnErr result (FindsNothing (tree_of term.now) (rules_of (lives facts.now)) → ⊥) }
+{
+    if deep < 64 && term.len() <= 64 {
+        first_shallow(facts, places, marks, alloc, from, term, test)
+    } else {
+        first_deep(facts, places, marks, alloc, from, term, test)
+    }
+}

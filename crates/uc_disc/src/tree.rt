@@ -1,0 +1,155 @@
+//! The tree, and how it answers as an index.
+
+ghost use Rattle.std.specs.Prelude.{◌≡◌, ◌+◌, ◌<◌, ◌≤◌, ◌^◌, ℕ, IfOk, length, slice_get, Some};
+ghost use Rattle.uc_term.specs.declared.equation.Equation.{Equation as AnyEquation};
+ghost use Rattle.uc_fact.specs.Live.{AreRising};
+ghost use Rattle.uc_disc.specs.Numbered.{lives};
+
+use crate::build::{depth_of, marks_of, places_of, spell_all};
+use crate::facts::copy_facts;
+use crate::place::{Mark, Place};
+use crate::search::{Any, first_from};
+use std::alloc::{AllocError, Global};
+use std::marker::Model;
+use uc_fact::{Equation, Found, Index, Test};
+use uc_term::{Node, Seq, Term};
+
+/// A perfect discrimination tree over numbered equations. It has exactly one leaf for each side of each of them, whose trail
+/// spells that side, and no other leaf. A contract sees the equations with their numbers.
+#[derive(Drop)]
+pub struct Tree {
+    facts: Vec<(u32, Equation)>,
+    places: Vec<Place>,
+    marks: Vec<Mark>,
+    deep: usize,
+}
+
+impl Model for Tree {
+    ghost use Rattle.std.specs.Prelude.{List, ℕ, ◌≤◌, ◌<◌, ◌^◌, length};
+    ghost use Rattle.std.specs.Coded.{codes};
+    ghost use Rattle.uc_term.specs.Code.{tree_code};
+    ghost use Rattle.uc_term.specs.declared.equation.Equation.{Equation as AnyEquation};
+    ghost use Rattle.uc_fact.specs.Live.{AreRising, rules_of};
+    ghost use Rattle.uc_disc.specs.Numbered.{lives};
+    ghost use Rattle.uc_disc.specs.Trail.{IsTree};
+
+    ghost Value = { List (ℕ × AnyEquation) };
+
+    ghost coded = { Prim.hlevel (codes, tree_code) };
+
+    ghost view = { λ t. t.facts.items };
+
+    ghost invariant = { λ t. AreRising (lives t.facts.items) × (length t.facts.items < 2 ^ 31) × IsTree (rules_of (lives t.facts.items)) t.places.items t.marks.items t.deep × (t.deep ≤ 4097) };
+}
+
+impl Tree {
+    /// Builds the tree of copies of these facts. Memory is the only fault.
+    pub fn build(alloc: Global, facts: &[(u32, Equation)]) -> Result<Tree, AllocError>
+        requires rising { AreRising (lives facts.now) }
+        requires few { length facts.now < 2 ^ 31 }
+        ensures { IfOk result (λ tree. tree ≡ facts.now) }
+    {
+        Tree::of(alloc, copy_facts(alloc, facts)?)
+    }
+
+    /// Builds the tree of these facts, of which no copy is made. Memory is the only fault.
+    pub fn of(alloc: Global, facts: Vec<(u32, Equation)>) -> Result<Tree, AllocError>
+        requires rising { AreRising (lives facts.items) }
+        requires few { length facts.items < 2 ^ 31 }
+        ensures { IfOk result (λ tree. tree ≡ facts.items) }
+    {
+        let mut list = spell_all(alloc, facts.as_slice())?;
+        list.sort()?;
+        let places = places_of(alloc, list.as_slice())?;
+        let marks = marks_of(alloc, places.as_slice())?;
+        let deep = depth_of(places.as_slice());
+        Ok(Tree {
+            facts,
+            places,
+            marks,
+            deep,
+        })
+    }
+}
+
+impl Index for Tree {
+    ghost use Rattle.uc_disc.specs.Numbered.{risen};
+    ghost use Rattle.uc_disc.specs.Rising.{risen_rises};
+
+    ghost live = { risen 0 };
+
+    fn generalisations(&self, alloc: Global, term: &[Node]) -> Result<Seq<Found>, AllocError> {
+        let mut list = Vec::new(alloc);
+        let mut from = 0;
+        while let Some(answer) = first_from(
+            self.facts.as_slice(),
+            self.places.as_slice(),
+            self.marks.as_slice(),
+            self.deep,
+            alloc,
+            from,
+            term,
+            &Any,
+        )? {
+            from = answer.rule + 1;
+            list.push(answer.found)?;
+        }
+        Ok(Seq::from_vec(list))
+    }
+
+    fn first_that<T: Test>(
+        &self,
+        alloc: Global,
+        term: &[Node],
+        test: &T,
+    ) -> Result<Option<Found>, AllocError> {
+        match first_from(
+            self.facts.as_slice(),
+            self.places.as_slice(),
+            self.marks.as_slice(),
+            self.deep,
+            alloc,
+            0,
+            term,
+            test,
+        )? {
+            Some(answer) => Ok(Some(answer.found)),
+            None => Ok(None),
+        }
+    }
+
+    fn pair(&self, fact: u32) -> Option<(&Term, &Term)> {
+        let facts = self.facts.as_slice();
+        let place = first_not_below(facts, fact);
+        if place >= facts.len() {
+            return None;
+        }
+        let found = &facts[place];
+        if found.0 != fact {
+            return None;
+        }
+        Some((&found.1.left, &found.1.right))
+    }
+
+    ghost rising = { risen_rises 0 };
+}
+
+/// Finds the first fact with this number or a greater one, by halving, among facts with rising numbers.
+fn first_not_below(facts: &[(u32, Equation)], fact: u32) -> usize
+    requires rising { AreRising (lives facts.now) }
+    ensures within { result ≤ length facts.now }
+    ensures below { (j : ℕ) (f : ℕ × AnyEquation) → j < result → slice_get facts.now j ≡ Some f → f.0 < fact }
+    ensures not_below { (j : ℕ) (f : ℕ × AnyEquation) → result ≤ j → slice_get facts.now j ≡ Some f → fact ≤ f.0 }
+{
+    let mut low = 0;
+    let mut high = facts.len();
+    while low < high {
+        let middle = low + (high - low) / 2;
+        if facts[middle].0 < fact {
+            low = middle + 1;
+        } else {
+            high = middle;
+        }
+    }
+    low
+}

@@ -1,0 +1,125 @@
+//! Walks over the places of a tree.
+
+ghost use Rattle.std.specs.Prelude.{◌≡◌, ◌↔◌, IsTrue, ◌+◌, ◌<◌, ◌≤◌, ◌-◌, ◌^◌, ℕ, length};
+ghost use Rattle.uc_term.specs.Flat.{IsWhole};
+ghost use Rattle.uc_disc.specs.Trail.{IsShaped};
+ghost use Rattle.uc_disc.specs.Trail.{RefersBack};
+ghost use Rattle.uc_disc.specs.Standing.{part, AreEnds, IsFollowed, StandsAt, FailsAt, IsLeafAt};
+ghost use Rattle.uc_disc.specs.declared.place.Label.TheVariants.{Leaf};
+
+use crate::place::{Label, Mark, Place};
+use uc_term::{MAX_NODES, Node, same_nodes};
+
+/// Whether the node is this symbol with so many arguments.
+#[inline]
+fn is_head(node: Node, f: u32, n: u32) -> bool
+    ensures { IsTrue result ↔ (node ≡ Node.App (record { 0 = f }) n) }
+{
+    match node {
+        Node::App(g, m) => g.0 == f && m == n,
+        Node::Var(_) => false,
+    }
+}
+
+/// Whether a subterm stands at the first place, and is the one at the other place.
+#[inline]
+fn is_same_part(term: &[Node], ends: &[u16], first: usize, here: usize) -> bool
+    requires whole { IsWhole term.now }
+    requires ends { AreEnds term.now ends.now }
+    requires room_ends { length term.now ≤ length ends.now }
+    requires within { here < length term.now }
+    ensures { IsTrue result ↔ (first < length term.now) × (part term.now first ≡ part term.now here) }
+{
+    if first >= term.len() {
+        return false;
+    }
+    if first == here {
+        return true;
+    }
+    let first_end = ends[first] as usize;
+    let end = ends[here] as usize;
+    same_nodes(&term[first..first_end], &term[here..end])
+}
+
+/// Tells whether a label leads on from a depth; then the place of the term after it is noted.
+#[inline]
+fn follow(term: &[Node], ends: &[u16], at: &mut [u16], depth: usize, label: Label) -> bool
+    requires whole { IsWhole term.now }
+    requires small { length term.now ≤ MAX_NODES }
+    requires ends { AreEnds term.now ends.now }
+    requires room_ends { length term.now ≤ length ends.now }
+    requires room { depth + 1 < length at.old }
+    requires back { RefersBack label depth }
+    requires label { (r : ℕ) → label ≡ Leaf r → ⊥ }
+    ensures value { IsFollowed term.now depth label at.old at.new result }
+    ensures long { length at.new ≡ length at.old }
+{
+    let here = at[depth] as usize;
+    if here >= term.len() {
+        return false;
+    }
+    match label {
+        Label::Head(f, n) => {
+            if is_head(term[here], f, n) {
+                at[depth + 1] = here as u16 + 1;
+                true
+            } else {
+                false
+            }
+        }
+        Label::Variable(k) => {
+            if is_same_part(term, ends, at[k as usize] as usize, here) {
+                at[depth + 1] = ends[here];
+                true
+            } else {
+                false
+            }
+        }
+        Label::Leaf(_) => false,
+    }
+}
+
+/// Finds the next leaf, from a place on, to which the term leads and whose rule is below a bound; or the end. It takes no
+/// memory.
+#[inline]
+pub fn next_leaf(
+    places: &[Place],
+    marks: &[Mark],
+    term: &[Node],
+    ends: &[u16],
+    at: &mut [u16],
+    start: usize,
+    bound: u32,
+) -> usize
+    requires tree { IsShaped places.now marks.now (length at.old - 1) }
+    requires whole { IsWhole term.now }
+    requires small { length term.now ≤ MAX_NODES }
+    requires ends { AreEnds term.now ends.now }
+    requires room_ends { length term.now ≤ length ends.now }
+    requires within { start ≤ length places.now }
+    requires stands { StandsAt term.now places.now start at.old }
+    ensures within { (start ≤ result) × (result ≤ length places.now) }
+    ensures stands { StandsAt term.now places.now result at.new }
+    ensures fails { FailsAt term.now places.now start result bound }
+    ensures leaf { IsLeafAt term.now places.now result }
+    ensures long { length at.new ≡ length at.old }
+{
+    let mut i = start;
+    while i < places.len() {
+        if marks[i].least >= bound {
+            i = marks[i].skip;
+        } else {
+            match places[i].label {
+                Label::Leaf(_) => return i,
+                label => {
+                    if follow(term, ends, at, places[i].depth as usize, label) {
+                        i += 1;
+                    } else {
+                        i = marks[i].skip;
+                    }
+                }
+            }
+        }
+    }
+    i
+}
