@@ -1,7 +1,8 @@
 use std::alloc::{AllocError, Global};
 use std::test::Fail;
 use uc_edge::{
-    Fetched, Gate, Library, MemoryLibrary, MemorySink, NoGate, Sink, WriteFault, Written, put,
+    Fetched, Gate, Library, Log, Logged, MemoryLibrary, MemorySink, NoGate, Sink, WriteFault,
+    Written, put,
 };
 use uc_term::Text;
 
@@ -70,6 +71,7 @@ fn sink_in_memory(rt: HostRuntime) -> Result<(), Fail> {
 struct Drip {
     left: usize,
     faults: u64,
+    pieces: Log,
 }
 
 impl Sink for Drip {
@@ -79,7 +81,10 @@ impl Sink for Drip {
 
     ghost faults = { λ d. d.faults };
 
+    ghost pieces = { λ d. d.pieces.items };
+
     fn write(&mut self, piece: &[u8]) -> Written {
+        self.pieces = self.pieces.with(&Logged { bytes: piece });
         if self.left == 0 {
             self.faults = self.faults.saturating_add(1);
             return Written::Failed;
@@ -96,7 +101,11 @@ fn whole_pieces(rt: HostRuntime) -> Result<(), Fail> {
     assert_eq!(rt; put(&mut sink, b"one "), Ok(()));
     assert_eq!(rt; put(&mut sink, b"two"), Ok(()));
     assert_eq!(rt; sink.bytes(), b"one two".as_slice());
-    let mut drip = Drip { left: 4, faults: 0 };
+    let mut drip = Drip {
+        left: 4,
+        faults: 0,
+        pieces: Log::new(),
+    };
     assert_eq!(rt; put(&mut drip, b"abc"), Ok(()));
     assert_eq!(rt; put(&mut drip, b""), Ok(()));
     assert_eq!(rt; put(&mut drip, b"de"), Err(WriteFault));

@@ -5,7 +5,7 @@ use std::alloc::{AllocError, Global};
 use std::sync::Wait;
 use std::test::Fail;
 use std::thread::Threads;
-use uc_edge::{Sink, Written};
+use uc_edge::{Log, Logged, Sink, Written};
 
 const PROBLEM: &str = "cnf(g, negated_conjecture, a != a).\n";
 
@@ -26,6 +26,7 @@ struct Drip {
     bytes: Vec<u8>,
     calls: u32,
     faults: u64,
+    pieces: Log,
 }
 
 impl Sink for Drip {
@@ -35,7 +36,10 @@ impl Sink for Drip {
 
     ghost faults = { λ d. d.faults };
 
+    ghost pieces = { λ d. d.pieces.items };
+
     fn write(&mut self, piece: &[u8]) -> Written {
+        self.pieces = self.pieces.with(&Logged { bytes: piece });
         let taken = piece.len().min(DRIP);
         let (front, _) = piece.split_at(taken);
         if self.calls == 0 || self.bytes.extend_from_slice(front).is_err() {
@@ -68,6 +72,7 @@ fn is_dripped<R: Threads + Wait + Sync>(
         bytes: Vec::new(alloc),
         calls,
         faults: 0,
+        pieces: Log::new(),
     };
     let files = vec![in alloc; (text(alloc, "r4.p")?, text(alloc, PROBLEM)?)]?;
     let status = status_of(rt, alloc, &["prove", "r4.p"], files, &mut drip)?;

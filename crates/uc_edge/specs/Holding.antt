@@ -11,9 +11,13 @@ pub record Plan : Type 0 where
 pub record Holding : Type 0 where
   pub files : List (List ℕ × List ℕ)
   pub plan : Plan
+  -- the names at which it failed, in order
+  pub failed_at : List (List ℕ)
 
 -- a sink in memory
 pub record Given : Type 0 where
   pub bytes : List ℕ
   pub room : ℕ
   pub plan : Plan
+  -- the pieces that it was given, in order
+  pub pieces : List (List ℕ)

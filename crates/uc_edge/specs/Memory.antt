@@ -1,16 +1,13 @@
 -- The library and the sink in memory: what each call answers and leaves.
-use Rattle.std.specs.Prelude.{ℕ, ◌+◌, ◌-◌, ◌^◌, ◌==◌, ◌||◌, Bool, nat_lt, min, max, List, ◌++◌, length, take, Option, Some, None, if◌then◌else◌}
+use Rattle.std.specs.Prelude.{ℕ, ◌+◌, ◌==◌, ◌||◌, Bool, nat_lt, List, [], ◌∷◌, ◌++◌, length, take, Option, Some, None, if◌then◌else◌}
 use Rattle.std.specs.List.{list_any}
+use Rattle.uc_edge.specs.Faults.{next}
 use Rattle.uc_edge.specs.Files.{content}
 use Rattle.uc_edge.specs.Holding.{Plan, Holding, Given}
 use Rattle.uc_edge.specs.declared.library.Fetched.{Fetched}
 use Rattle.uc_edge.specs.declared.library.Fetched.TheVariants as fetched
 use Rattle.uc_edge.specs.declared.sink.Written.{Written}
 use Rattle.uc_edge.specs.declared.sink.Written.TheVariants as written
-
--- one more, up to the greatest u64 (a count past it would stay)
-abbrev pub next : ℕ → ℕ
-next n = max n (min (n + 1) (2 ^ 64 - 1))
 
 abbrev pub fresh : List ℕ → Plan
 fresh failing = record { failing = failing; calls = 0; faults = 0 }
@@ -39,8 +36,12 @@ told most None = fetched.Absent
 abbrev pub answer_of : Holding → List ℕ → ℕ → Fetched
 answer_of m name most = if fails_next m.plan then fetched.Failed else told most (content m.files name)
 
-abbrev pub after_fetch : Holding → Holding
-after_fetch m = record { files = m.files; plan = after_call (fails_next m.plan) m.plan }
+abbrev pub after_fetch : Holding → List ℕ → Holding
+after_fetch m name = record {
+  files = m.files;
+  plan = after_call (fails_next m.plan) m.plan;
+  failed_at = if fails_next m.plan then m.failed_at ++ name ∷ [] else m.failed_at;
+}
 
 -- whether the next write fails: it is to fail, or the piece doesn't fit
 abbrev pub refuses : Given → List ℕ → Bool
@@ -55,4 +56,5 @@ after_write s piece = record {
   bytes = if refuses s piece then s.bytes else s.bytes ++ piece;
   room = s.room;
   plan = after_call (refuses s piece) s.plan;
+  pieces = s.pieces ++ piece ∷ [];
 }

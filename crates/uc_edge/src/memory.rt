@@ -3,9 +3,10 @@
 ghost use Rattle.std.specs.Prelude.{◌≡◌, ◌==◌, ◌≤◌, [], length, Ok, IfOk, Some};
 ghost use Rattle.std.specs.List.{list_any};
 ghost use Rattle.std.specs.Option.{option_copied};
-ghost use Rattle.uc_edge.specs.Files.{content};
+ghost use Rattle.uc_edge.specs.Faults.{IsCounted};
+ghost use Rattle.uc_edge.specs.Files.{content, failing};
 
-use crate::{Fetched, Library, Sink, Written};
+use crate::{Fetched, Library, Log, Logged, Sink, Written};
 use std::alloc::{AllocError, Global};
 use std::marker::Model;
 use uc_term::Text;
@@ -65,6 +66,7 @@ impl Failures {
 pub struct MemoryLibrary {
     files: Vec<(Text, Text)>,
     failures: Failures,
+    failed_at: Log,
 }
 
 impl Model for MemoryLibrary {
@@ -72,7 +74,7 @@ impl Model for MemoryLibrary {
 
     ghost Value = { Holding };
 
-    ghost view = { λ m. record { files = m.files.items; plan = m.failures } };
+    ghost view = { λ m. record { files = m.files.items; plan = m.failures; failed_at = m.failed_at.items } };
 }
 
 impl MemoryLibrary {
@@ -85,11 +87,12 @@ impl MemoryLibrary {
         files: Vec<(Text, Text)>,
         failing: Vec<u32>,
     ) -> Result<MemoryLibrary, AllocError>
-        ensures { result ≡ Ok (record { files = files.items; plan = fresh failing.items }) }
+        ensures { result ≡ Ok (record { files = files.items; plan = fresh failing.items; failed_at = [] }) }
     {
         Ok(MemoryLibrary {
             files,
             failures: Failures::new(failing),
+            failed_at: Log::new(),
         })
     }
 }
@@ -101,12 +104,17 @@ impl Library for MemoryLibrary {
 
     ghost faults = { λ m. m.plan.faults };
 
+    ghost failed_at = { λ m. m.failed_at };
+
     fn fetch(&mut self, alloc: Global, name: &str, most: usize) -> Result<Fetched, AllocError>
         ensures exactly { IfOk result (λ answer. answer ≡ answer_of self.old name.now most) }
-        ensures after { self.new ≡ after_fetch self.old }
+        ensures after { self.new ≡ after_fetch self.old name.now }
+        ensures counted { IsCounted (failing name.now result) self.old.plan.faults self.new.plan.faults self.old.failed_at self.new.failed_at }
     {
         if self.failures.call() {
             self.failures.raise();
+            let bytes = name.as_bytes();
+            self.failed_at = self.failed_at.with(&Logged { bytes });
             return Ok(Fetched::Failed);
         }
         let Some(bytes) = find(&self.files, name.as_bytes()) else {
@@ -135,6 +143,7 @@ pub struct MemorySink {
     bytes: Vec<u8>,
     room: usize,
     failures: Failures,
+    pieces: Log,
 }
 
 impl Model for MemorySink {
@@ -143,7 +152,7 @@ impl Model for MemorySink {
 
     ghost Value = { Given };
 
-    ghost view = { λ s. record { bytes = s.bytes.items; room = s.room; plan = s.failures } };
+    ghost view = { λ s. record { bytes = s.bytes.items; room = s.room; plan = s.failures; pieces = s.pieces.items } };
 
     ghost invariant = { λ s. (length s.bytes.items ≤ s.room) × (s.room ≤ vec_capacity s.bytes) };
 }
@@ -158,18 +167,19 @@ impl MemorySink {
         room: usize,
         failing: Vec<u32>,
     ) -> Result<MemorySink, AllocError>
-        ensures { IfOk result (λ sink. sink ≡ record { bytes = []; room = room; plan = fresh failing.items }) }
+        ensures { IfOk result (λ sink. sink ≡ record { bytes = []; room = room; plan = fresh failing.items; pieces = [] }) }
     {
         Ok(MemorySink {
             bytes: Vec::with_capacity(alloc, room)?,
             room,
             failures: Failures::new(failing),
+            pieces: Log::new(),
         })
     }
 
     /// A sink with room for 1,048,576 bytes.
     pub fn new(alloc: Global, failing: Vec<u32>) -> Result<MemorySink, AllocError>
-        ensures { IfOk result (λ sink. sink ≡ record { bytes = []; room = 1_048_576; plan = fresh failing.items }) }
+        ensures { IfOk result (λ sink. sink ≡ record { bytes = []; room = 1_048_576; plan = fresh failing.items; pieces = [] }) }
     {
         MemorySink::with_room(alloc, SINK_ROOM, failing)
     }
@@ -189,11 +199,14 @@ impl Sink for MemorySink {
 
     ghost faults = { λ s. s.plan.faults };
 
+    ghost pieces = { λ s. s.pieces };
+
     fn write(&mut self, piece: &[u8]) -> Written
         ensures exactly { result ≡ taken self.old piece.now }
         ensures after { self.new ≡ after_write self.old piece.now }
     {
         let listed = self.failures.call();
+        self.pieces = self.pieces.with(&Logged { bytes: piece });
         if listed || self.room - self.bytes.len() < piece.len() {
             self.failures.raise();
             return Written::Failed;

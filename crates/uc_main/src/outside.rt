@@ -1,12 +1,13 @@
 //! The files of the system and the standard output. They tell nothing of what they hold, and count their faults.
 
-ghost use Rattle.std.specs.Prelude.{◌≡◌, ◌+◌, ◌-◌, ◌^◌, ◌≤◌, min, None, Ok};
+ghost use Rattle.std.specs.Prelude.{◌≡◌, ◌++◌, ◌∷◌, ◌≤◌, [], None};
+ghost use Rattle.uc_edge.specs.Faults.{next};
 
 use std::alloc::{AllocError, Global};
 use std::fs;
 use std::io::{ErrorKind, Read};
 use std::rt::Files;
-use uc_edge::{Fetched, Library, Sink, Written};
+use uc_edge::{Fetched, Library, Log, Logged, Sink, Written};
 use uc_term::Text;
 
 /// How many bytes of a file are read at once.
@@ -18,6 +19,7 @@ const CHUNK: usize = 8192;
 pub struct FileLibrary<'a, R: Files> {
     rt: &'a R,
     faults: u64,
+    failed_at: Log,
 }
 
 impl<'a, R: Files> FileLibrary<'a, R> {
@@ -25,7 +27,11 @@ impl<'a, R: Files> FileLibrary<'a, R> {
     pub fn new(rt: &'a R) -> Self
         ensures { result.faults ≡ 0 }
     {
-        FileLibrary { rt, faults: 0 }
+        FileLibrary {
+            rt,
+            faults: 0,
+            failed_at: Log::new(),
+        }
     }
 
     /// How many failures there were, up to the greatest `u64`.
@@ -36,13 +42,16 @@ impl<'a, R: Files> FileLibrary<'a, R> {
         self.faults
     }
 
-    // Counts a failure.
-    fn fail(&mut self) -> Fetched
+    // Counts a failure at this name.
+    fn fail(&mut self, name: &str) -> Fetched
         ensures answer { result ≡ Fetched.Failed }
         ensures later { self.old.faults ≤ self.new.faults }
-        ensures count { self.new.faults ≡ min (self.old.faults + 1) (2 ^ 64 - 1) }
+        ensures count { self.new.faults ≡ next self.old.faults }
+        ensures name { self.new.failed_at.items ≡ self.old.failed_at.items ++ name.now ∷ [] }
     {
         self.faults = self.faults.saturating_add(1);
+        let bytes = name.as_bytes();
+        self.failed_at = self.failed_at.with(&Logged { bytes });
         Fetched::Failed
     }
 }
@@ -52,15 +61,17 @@ impl<R: Files> Library for FileLibrary<'_, R> {
 
     ghost faults = { λ library. library.faults };
 
+    ghost failed_at = { λ library. library.failed_at.items };
+
     fn fetch(&mut self, alloc: Global, name: &str, most: usize) -> Result<Fetched, AllocError> {
         let mut file = match fs::open(self.rt, name) {
             Ok(file) => file,
             Err(fault) if fault.kind() == ErrorKind::NotFound => return Ok(Fetched::Absent),
-            Err(_) => return Ok(self.fail()),
+            Err(_) => return Ok(self.fail(name)),
         };
         match read_most(alloc, &mut file, most)? {
             Some(text) => Ok(Fetched::Found(text)),
-            None => Ok(self.fail()),
+            None => Ok(self.fail(name)),
         }
     }
 }
@@ -89,6 +100,7 @@ fn read_most<F: Read>(
 pub struct OutSink<'a, P: Print> {
     rt: &'a P,
     faults: u64,
+    pieces: Log,
 }
 
 impl<'a, P: Print> OutSink<'a, P> {
@@ -96,7 +108,11 @@ impl<'a, P: Print> OutSink<'a, P> {
     pub fn new(rt: &'a P) -> Self
         ensures { result.faults ≡ 0 }
     {
-        OutSink { rt, faults: 0 }
+        OutSink {
+            rt,
+            faults: 0,
+            pieces: Log::new(),
+        }
     }
 
     /// How many failures there were, up to the greatest `u64`.
@@ -113,7 +129,10 @@ impl<P: Print> Sink for OutSink<'_, P> {
 
     ghost faults = { λ sink. sink.faults };
 
+    ghost pieces = { λ sink. sink.pieces.items };
+
     fn write(&mut self, piece: &[u8]) -> Written {
+        self.pieces = self.pieces.with(&Logged { bytes: piece });
         if piece.is_empty() {
             return Written::Taken(0);
         }
