@@ -1,5 +1,5 @@
 -- What a word is where an item may begin.
-use Rattle.std.specs.Prelude.{ℕ, ◌+◌, ◌==◌, ◌&&◌, not, Bool, List, [], take, drop, slice_index, position, Option, Some, None, codes, bytes_eq, if◌then◌else◌}
+use Rattle.std.specs.Prelude.{ℕ, ◌+◌, ◌==◌, ◌&&◌, not, List, [], take, drop, slice_index, position, Option, Some, None, codes, bytes_eq, if◌then◌else◌}
 use Rattle.uc_words.specs.declared.command.Verb.{Verb}
 use Rattle.uc_words.specs.declared.table.Key.{Key}
 use Rattle.uc_words.specs.declared.form.Form.{Form}
@@ -16,7 +16,7 @@ abbrev pub given_form : Verb → Option Key → ℕ → Form
 given_form verb None value = Formless
 given_form verb (Some key) value = if allows verb key && not (is_flag key) then Has key value else Formless
 
--- a word that begins with two dashes, by what stands behind them: the name ends at the first `=`
+-- a word that begins with two dashes, by what stands after them: the name ends at the first `=`
 abbrev pub cut_form : Verb → List ℕ → Option ℕ → Form
 cut_form verb name None = bare_form verb (key_named name)
 cut_form verb name (Some end) = given_form verb (key_named (take end name)) (end + 3)

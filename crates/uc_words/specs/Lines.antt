@@ -8,10 +8,14 @@ use Rattle.uc_words.specs.declared.table.Key.{Key}
 use Rattle.uc_words.specs.declared.table.Key.TheVariants as key
 use Rattle.uc_words.specs.declared.form.Form.{Form}
 use Rattle.uc_words.specs.declared.form.Form.TheVariants.{Plain, Ends, Flag, Takes, Has, Formless}
-use Rattle.uc_words.specs.declared.line.Line.{Line}
 use Rattle.uc_words.specs.declared.line.Expects.{Expects}
 use Rattle.uc_words.specs.declared.line.Expects.TheVariants.{Item, Value, Positional}
 use Rattle.uc_words.specs.Forms.{form_of}
+
+-- the options that were given, each with its value (a flag with the empty one), and the positionals, in order
+pub record Line : Type 0 where
+  pub given : List (Key × List ℕ)
+  pub positionals : List (List ℕ)
 
 -- a reader answers what the words stand for, `Usage` exactly where they have no reading, or that memory is wanted
 abbrev pub Gives : {X : Type 0} → Option X → Result X WordsFault → Type 0
@@ -55,7 +59,7 @@ turn verb Item word = item (form_of verb word) word
 turn verb (Value k) word = if is_value word then Some (with_value k word, Item) else None
 turn verb Positional word = if bytes_eq word [] then None else Some (with_word word, Positional)
 
--- behind the items of a line, those that further words stand for
+-- after the items of a line, those that further words stand for
 abbrev pub onto : Line → Option Line → Option Line
 onto line None = None
 onto line (Some more) = Some (joined line more)
@@ -66,18 +70,10 @@ at_end Item = Some nothing
 at_end (Value k) = None
 at_end Positional = Some nothing
 
--- the items of the words behind the command
+-- the items of the words after the command
 abbrev pub line_of : Verb → Expects → List (List ℕ) → Option Line
 line_of verb expects [] = at_end expects
 line_of verb expects (word ∷ words) = elim (turn verb expects word) [ None ↦ None | Some t ↦ onto t.0 (line_of verb t.1 words) ]
-
--- one word was taken: its items stand behind those of the line, and what may come then is told; or the word has no
--- reading here, or memory is wanted
-abbrev pub Turns : Line → Line → Option (Line × Expects) → Result Expects WordsFault → Type 0
-Turns old new (Some t) (Ok next) = (next ≡ t.1) × (new ≡ joined old t.0)
-Turns old new (Some t) (Err fault) = fault ≡ NoMemory
-Turns old new None (Ok next) = ⊥
-Turns old new None (Err fault) = Unit {0}
 
 -- the options by number
 abbrev pub place : Key → ℕ

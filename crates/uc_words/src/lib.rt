@@ -1,6 +1,7 @@
 //! The command line: from the words after the program's name to one command, or to the fault that they have no reading.
 #![tactic(auto)]
 
+mod application;
 mod command;
 mod digits;
 mod form;

@@ -1,20 +1,23 @@
-// The items of a command line.
+//! The words after the command, sorted into options and positionals for `clap`.
 
-ghost use Rattle.std.specs.Prelude.{◌≡◌, ◌∷◌, ◌++◌, ◌&&◌, [], map, not, bytes_eq, length, option_copied, string_bytes, OnOk, MatchResult};
-ghost use Rattle.uc_words.specs.Lines.{line_of, turn, item, given_value, is_value, joined, nothing, same, stands, is_once, value, Gives, Turns};
+ghost use Rattle.std.specs.Prelude.{◌≡◌, [], map, drop, true, false, codes, string_bytes, IfOk, OnOk};
+ghost use Rattle.uc_words.specs.Application.{option_word};
+ghost use Rattle.uc_words.specs.Lines.{line_of, turn, item, given_value, is_value, with_value, with_word};
+ghost use Rattle.uc_words.specs.Sorted.{IsFormOf, Grows, Turns, GivesAs, sorted_words, behind};
+ghost use Rattle.uc_words.specs.Table.{allows, is_flag};
 ghost use Rattle.uc_words.specs.declared.line.Expects.TheVariants.{Item};
 
+use crate::application::key_name;
 use crate::form::{Form, form_of};
-use crate::table::Key;
+use crate::table::{Key, is_flag};
 use crate::{Verb, WordsFault};
 use std::alloc::{AllocError, Global};
-use uc_term::{Seq, Text};
 
-/// The options that were given, each with its value (a flag with the empty one), and the positionals, in order.
+/// The options, each in one word as `--name=value` or `--name`, and the positionals, in order.
 #[derive(Debug, Drop)]
-pub struct Line {
-    pub given: Seq<(Key, Text)>,
-    pub positionals: Seq<Text>,
+pub struct Sorted {
+    pub options: Vec<String>,
+    pub positionals: Vec<String>,
 }
 
 /// What may come next.
@@ -35,18 +38,37 @@ fn is_value(word: &[u8]) -> bool
     !word.is_empty() && word[0] != b'-'
 }
 
-// One option more.
-fn give(alloc: Global, line: &mut Line, key: Key, value: &[u8]) -> Result<(), AllocError>
-    ensures { OnOk result (line.new ≡ joined line.old (record { given = (key, value.now) ∷ []; positionals = [] })) }
+// An option in one word.
+fn option_word(alloc: Global, key: Key, value: &str) -> Result<String, AllocError>
+    ensures { IfOk result (λ word. string_bytes word ≡ option_word key value.now) }
 {
-    line.given.push((key, Text::from_bytes(alloc, value)?))
+    let mut word = String::from_str(alloc, "--")?;
+    word.push_str(key_name(key))?;
+    if !is_flag(key) {
+        word.push_str("=")?;
+        word.push_str(value)?;
+    }
+    Ok(word)
+}
+
+// One option more.
+fn give(alloc: Global, sorted: &mut Sorted, key: Key, value: &str) -> Result<(), AllocError>
+    ensures { OnOk result (Grows sorted.old sorted.new (with_value key value.now)) }
+{
+    sorted
+        .options
+        .push(option_word(alloc, key, value)?)
+        .map_err(AllocError::from)
 }
 
 // One positional more.
-fn append(alloc: Global, line: &mut Line, word: &[u8]) -> Result<(), AllocError>
-    ensures { OnOk result (line.new ≡ joined line.old (record { given = []; positionals = word.now ∷ [] })) }
+fn append(alloc: Global, sorted: &mut Sorted, word: &str) -> Result<(), AllocError>
+    ensures { OnOk result (Grows sorted.old sorted.new (with_word word.now)) }
 {
-    line.positionals.push(Text::from_bytes(alloc, word)?)
+    sorted
+        .positionals
+        .push(String::from_str(alloc, word)?)
+        .map_err(AllocError::from)
 }
 
 // Takes the next word, and says what may come then.
@@ -54,116 +76,91 @@ fn take_word(
     alloc: Global,
     verb: Verb,
     expects: Expects,
-    word: &[u8],
-    line: &mut Line,
+    word: &str,
+    sorted: &mut Sorted,
 ) -> Result<Expects, WordsFault>
-    ensures { Turns line.old line.new (turn verb expects word.now) result }
+    ensures { Turns sorted.old sorted.new (turn verb expects word.now) result }
 {
     match expects {
-        Expects::Item => take_item(alloc, form_of(verb, word), word, line),
+        Expects::Item => take_item(alloc, verb, form_of(verb, word.as_bytes()), word, sorted),
         Expects::Value(key) => {
-            if !is_value(word) {
+            if !is_value(word.as_bytes()) {
                 return Err(WordsFault::Usage);
             }
-            give(alloc, line, key, word)?;
+            give(alloc, sorted, key, word)?;
             Ok(Expects::Item)
         }
         Expects::Positional => {
             if word.is_empty() {
                 return Err(WordsFault::Usage);
             }
-            append(alloc, line, word)?;
+            append(alloc, sorted, word)?;
             Ok(Expects::Positional)
         }
     }
 }
 
 // Takes the word that begins an item.
-fn take_item(alloc: Global, form: Form, word: &[u8], line: &mut Line) -> Result<Expects, WordsFault>
-    ensures { Turns line.old line.new (item form word.now) result }
+fn take_item(
+    alloc: Global,
+    verb: Verb,
+    form: Form,
+    word: &str,
+    sorted: &mut Sorted,
+) -> Result<Expects, WordsFault>
+    requires { IsFormOf verb word.now form }
+    ensures { Turns sorted.old sorted.new (item form word.now) result }
 {
     match form {
         Form::Plain => {
-            append(alloc, line, word)?;
+            append(alloc, sorted, word)?;
             Ok(Expects::Item)
         }
         Form::Ends => Ok(Expects::Positional),
         Form::Flag(key) => {
-            give(alloc, line, key, b"")?;
+            give(alloc, sorted, key, "")?;
             Ok(Expects::Item)
         }
         Form::Takes(key) => Ok(Expects::Value(key)),
-        Form::Has(key, at) => take_value(alloc, key, &word[at.min(word.len())..], line),
+        Form::Has(key, at) => take_value(alloc, key, at, word, sorted),
         Form::Formless => Err(WordsFault::Usage),
     }
 }
 
-// Takes the value that stands in the same word as its option.
-fn take_value(alloc: Global, key: Key, value: &[u8], line: &mut Line) -> Result<Expects, WordsFault>
-    ensures { Turns line.old line.new (given_value key value.now) result }
+// Takes an option whose value stands in the same word, from this place on.
+fn take_value(
+    alloc: Global,
+    key: Key,
+    at: usize,
+    word: &str,
+    sorted: &mut Sorted,
+) -> Result<Expects, WordsFault>
+    requires { word.now ≡ option_word key (drop at word.now) }
+    ensures { Turns sorted.old sorted.new (given_value key (drop at word.now)) result }
 {
-    if value.is_empty() {
+    if word.len() <= at {
         return Err(WordsFault::Usage);
     }
-    give(alloc, line, key, value)?;
+    let option = String::from_str(alloc, word)?;
+    sorted.options.push(option).map_err(AllocError::from)?;
     Ok(Expects::Item)
 }
 
-// The items of the words behind the command.
-pub fn line_of(alloc: Global, verb: Verb, words: &[String]) -> Result<Line, WordsFault>
-    ensures { Gives (line_of verb Item (map string_bytes words.now)) result }
+/// Sorts the words after the command.
+pub fn sort(alloc: Global, verb: Verb, words: &[String]) -> Result<Sorted, WordsFault>
+    ensures { GivesAs sorted_words (behind ([], []) (line_of verb Item (map string_bytes words.now))) result }
 {
-    let mut line = Line {
-        given: Seq::new(alloc),
-        positionals: Seq::new(alloc),
+    let mut sorted = Sorted {
+        options: Vec::new(alloc),
+        positionals: Vec::new(alloc),
     };
     let mut expects = Expects::Item;
     for word in words {
-        expects = take_word(alloc, verb, expects, word.as_bytes(), &mut line)?;
+        expects = take_word(alloc, verb, expects, word.as_str(), &mut sorted)?;
     }
     match expects {
         Expects::Value(_) => Err(WordsFault::Usage),
-        Expects::Item => Ok(line),
-        Expects::Positional => Ok(line),
+        Expects::Item => Ok(sorted),
+        Expects::Positional => Ok(sorted),
     }
-}
-
-// Whether an option was given.
-pub fn stands(key: Key, given: &[(Key, Text)]) -> bool
-    ensures { result ≡ stands key given.now }
-{
-    given.iter().any(|g| same(g.0, key))
-}
-
-// Whether no option was given twice.
-pub fn is_once(given: &[(Key, Text)]) -> bool
-    ensures { result ≡ is_once given.now }
-{
-    let mut rest = given;
-    while let [first, others @ ..] = rest {
-        if stands(first.0, others) {
-            return false;
-        }
-        rest = others;
-    }
-    true
-}
-
-// The value of an option, where it was given.
-pub fn value(key: Key, given: &[(Key, Text)]) -> Option<&[u8]>
-    ensures { option_copied result ≡ value key given.now }
-{
-    for g in given {
-        if same(g.0, key) {
-            return Some(g.1.as_bytes());
-        }
-    }
-    None
-}
-
-// Whether both are one option.
-fn same(one: Key, other: Key) -> bool
-    ensures { result ≡ same one other }
-{
-    one == other
 }

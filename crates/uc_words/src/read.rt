@@ -1,19 +1,27 @@
 // From the words to the command.
 
-ghost use Rattle.std.specs.Prelude.{◌≡◌, ◌&&◌, IfOk, map, string_bytes, option_copied};
+ghost use Rattle.std.specs.Prelude.{◌≡◌, ◌&&◌, ◌∷◌, ◌++◌, true, false, codes, IfOk, map, string_bytes, option_copied};
 ghost use Rattle.std.specs.List.{list_all};
-ghost use Rattle.uc_words.specs.Lines.{Gives, value};
+ghost use Rattle.uc_words.specs.Application.{canonical_of, verb_name};
+ghost use Rattle.uc_words.specs.Lines.{Gives, Line, is_once, value, stands};
 ghost use Rattle.uc_words.specs.Names.{AreNames, AreWeights, Told};
 ghost use Rattle.uc_words.specs.Reads.{is_printable, is_clean, is_within, limited, order_named, is_alone, AreOptional, IsOrder, numbers_fit, is_fit, says, IsCommand, Reads};
+ghost use Rattle.uc_words.specs.Shown.{AreMatches, IsCanonical, IsFaultOf, IsFlag, IsMatch, StandFor, given_of, line_of, positionals_of};
+ghost use Rattle.uc_words.specs.Sorted.{GivesAs};
+ghost use Rattle.uc_words.specs.Table.{is_flag};
 ghost use Rattle.uc_words.specs.declared.command.Command.{Command};
-ghost use Rattle.uc_words.specs.declared.table.Key.TheVariants.{Precedence, Weights};
+ghost use Rattle.uc_words.specs.declared.command.Verb.{Verb};
+ghost use Rattle.uc_words.specs.declared.table.Key.TheVariants.{Precedence, Weights, Trace};
 
+use crate::application::{application, key_name, verb_name};
 use crate::digits::number;
-use crate::line::{Line, is_once, line_of, stands, value};
+use crate::line::{Sorted, sort};
 use crate::names::{names, weights};
 use crate::table::{Key, fits, verb_named};
 use crate::{Command, OrderWords, Verb, WordsFault};
-use std::alloc::Global;
+use clap::ArgMatches;
+use clap::error::ErrorKind;
+use std::alloc::{AllocError, Global};
 use uc_term::{Seq, Text};
 
 // A word is shorter than this.
@@ -49,12 +57,12 @@ fn is_within(number: Option<u32>, low: u32, high: u32) -> bool
 }
 
 // The number of an option within its limits; the default where the option isn't given.
-fn limited(word: Option<&[u8]>, low: u32, high: u32, default: u32) -> Result<u32, WordsFault>
+fn limited(word: Option<&str>, low: u32, high: u32, default: u32) -> Result<u32, WordsFault>
     ensures { Gives (limited low high default (option_copied word.entry)) result }
 {
     match word {
         Some(word) => {
-            let read = number(word);
+            let read = number(word.as_bytes());
             if !is_within(read, low, high) {
                 return Err(WordsFault::Usage);
             }
@@ -65,14 +73,14 @@ fn limited(word: Option<&[u8]>, low: u32, high: u32, default: u32) -> Result<u32
 }
 
 // Whether the order is the lexicographic path order.
-fn is_lpo(word: Option<&[u8]>) -> Result<bool, WordsFault>
+fn is_lpo(word: Option<&str>) -> Result<bool, WordsFault>
     ensures { Gives (order_named (option_copied word.entry)) result }
 {
     match word {
         Some(word) => {
-            if word == b"kbo".as_slice() {
+            if word == "kbo" {
                 Ok(false)
-            } else if word == b"lpo".as_slice() {
+            } else if word == "lpo" {
                 Ok(true)
             } else {
                 Err(WordsFault::Usage)
@@ -82,44 +90,89 @@ fn is_lpo(word: Option<&[u8]>) -> Result<bool, WordsFault>
     }
 }
 
-// The names of the precedence; none where it isn't given.
-fn precedence_of(alloc: Global, given: &[(Key, Text)]) -> Result<Seq<Text>, WordsFault>
-    ensures { Told (AreOptional AreNames (value Precedence given.now)) result }
+// The value of an option, where clap found it.
+fn value<'a>(key: Key, found: &ArgMatches<'a>) -> Option<&'a str>
+    requires { is_flag key ≡ false }
+    ensures { option_copied result ≡ value key (given_of found.now) }
 {
-    match value(Key::Precedence, given) {
-        Some(text) => names(alloc, text),
+    found.get_str(key_name(key))
+}
+
+// Whether clap found an option.
+fn stands(key: Key, found: &ArgMatches<'_>) -> bool
+    requires { is_flag key ≡ false }
+    ensures { result ≡ stands key (given_of found.now) }
+{
+    value(key, found).is_some()
+}
+
+// Whether clap found the flag.
+fn is_traced(found: &ArgMatches<'_>) -> bool
+    requires { IsFlag found.now }
+    ensures { result ≡ stands Trace (given_of found.now) }
+{
+    found.get_flag(key_name(Key::Trace))
+}
+
+// Copies of words.
+fn copies(alloc: Global, words: &[&str]) -> Result<Seq<Text>, AllocError>
+    ensures { IfOk result (λ texts. texts ≡ map (λ word. word.now) words.now) }
+{
+    let mut texts = Seq::new(alloc);
+    for word in words {
+        texts.push(Text::from_bytes(alloc, word.as_bytes())?)?;
+    }
+    Ok(texts)
+}
+
+// The positionals that clap found.
+fn positionals_of(alloc: Global, found: &ArgMatches<'_>) -> Result<Seq<Text>, AllocError>
+    ensures { IfOk result (λ texts. texts ≡ positionals_of found.now) }
+{
+    match found.get_raw("words") {
+        Some(words) => copies(alloc, words),
+        None => Ok(Seq::new(alloc)),
+    }
+}
+
+// The names of the precedence; none where it isn't given.
+fn precedence_of(alloc: Global, found: &ArgMatches<'_>) -> Result<Seq<Text>, WordsFault>
+    ensures { Told (AreOptional AreNames (value Precedence (given_of found.now))) result }
+{
+    match value(Key::Precedence, found) {
+        Some(text) => names(alloc, text.as_bytes()),
         None => Ok(Seq::new(alloc)),
     }
 }
 
 // The names with their weights; none where they aren't given.
-fn weights_of(alloc: Global, given: &[(Key, Text)]) -> Result<Seq<(Text, u32)>, WordsFault>
-    ensures { Told (AreOptional AreWeights (value Weights given.now)) result }
+fn weights_of(alloc: Global, found: &ArgMatches<'_>) -> Result<Seq<(Text, u32)>, WordsFault>
+    ensures { Told (AreOptional AreWeights (value Weights (given_of found.now))) result }
 {
-    match value(Key::Weights, given) {
-        Some(text) => weights(alloc, text),
+    match value(Key::Weights, found) {
+        Some(text) => weights(alloc, text.as_bytes()),
         None => Ok(Seq::new(alloc)),
     }
 }
 
 // Whether neither weights nor `w0` stand beside the lexicographic path order.
-fn is_alone(lpo: bool, given: &[(Key, Text)]) -> bool
-    ensures { result ≡ is_alone lpo given.now }
+fn is_alone(lpo: bool, found: &ArgMatches<'_>) -> bool
+    ensures { result ≡ is_alone lpo (given_of found.now) }
 {
-    !(lpo && (stands(Key::Weights, given) || stands(Key::W0, given)))
+    !(lpo && (stands(Key::Weights, found) || stands(Key::W0, found)))
 }
 
 // The options on the order.
-fn order_words(alloc: Global, given: &[(Key, Text)]) -> Result<OrderWords, WordsFault>
-    ensures { Told (IsOrder given.now) result }
+fn order_words(alloc: Global, found: &ArgMatches<'_>) -> Result<OrderWords, WordsFault>
+    ensures { Told (IsOrder (given_of found.now)) result }
 {
-    let lpo = is_lpo(value(Key::Order, given))?;
-    if !is_alone(lpo, given) {
+    let lpo = is_lpo(value(Key::Order, found))?;
+    if !is_alone(lpo, found) {
         return Err(WordsFault::Usage);
     }
-    let w0 = limited(value(Key::W0, given), 1, 1_000_000, 1)?;
-    let precedence = precedence_of(alloc, given)?;
-    let weights = weights_of(alloc, given)?;
+    let w0 = limited(value(Key::W0, found), 1, 1_000_000, 1)?;
+    let precedence = precedence_of(alloc, found)?;
+    let weights = weights_of(alloc, found)?;
     Ok(OrderWords {
         lpo,
         precedence,
@@ -144,41 +197,41 @@ fn numbers_fit(verb: Verb, positionals: &[Text]) -> bool
     }
 }
 
-// Whether no option stands twice, and the positionals are such as the command takes.
-fn is_fit(verb: Verb, line: &Line) -> bool
-    ensures { result ≡ is_fit verb line.now }
+// Whether the positionals are such as the command takes.
+fn is_fit(verb: Verb, found: &ArgMatches<'_>, positionals: &[Text]) -> bool
+    requires once { is_once (given_of found.now) ≡ true }
+    requires positionals { positionals.now ≡ positionals_of found.now }
+    ensures { result ≡ is_fit verb (line_of found.now) }
 {
-    is_once(line.given.as_slice())
-        && fits(verb, line.positionals.len())
-        && numbers_fit(verb, line.positionals.as_slice())
+    fits(verb, positionals.len()) && numbers_fit(verb, positionals)
 }
 
 // A copy of the value of an option, where it was given.
-fn optional_text(alloc: Global, text: Option<&[u8]>) -> Result<Option<Text>, WordsFault>
+fn optional_text(alloc: Global, text: Option<&str>) -> Result<Option<Text>, WordsFault>
     ensures { Gives (Some (option_copied text.entry)) result }
 {
     match text {
-        Some(text) => Ok(Some(Text::from_bytes(alloc, text)?)),
+        Some(text) => Ok(Some(Text::from_bytes(alloc, text.as_bytes())?)),
         None => Ok(None),
     }
 }
 
-// The command that the items of a line stand for.
-fn command(alloc: Global, verb: Verb, line: Line) -> Result<Command, WordsFault>
-    ensures { Told (IsCommand verb line) result }
+// The command that clap's matches stand for.
+fn command(alloc: Global, verb: Verb, found: &ArgMatches<'_>) -> Result<Command, WordsFault>
+    requires { IsFlag found.now }
+    ensures { Told (IsCommand verb (line_of found.now)) result }
 {
-    if !is_fit(verb, &line) {
+    let positionals = positionals_of(alloc, found)?;
+    if !is_fit(verb, found, positionals.as_slice()) {
         return Err(WordsFault::Usage);
     }
-    let Line { given, positionals } = line;
-    let given = given.as_slice();
-    let budget = limited(value(Key::Budget, given), 0, 10_000_000, 100_000)?;
-    let pairs = limited(value(Key::Pairs, given), 1, 8_000_000, 1_000_000)?;
-    let workers = limited(value(Key::Workers, given), 1, 64, 1)?;
-    let steps = limited(value(Key::Steps, given), 0, 10_000_000, 100_000)?;
-    let limit = limited(value(Key::Limit, given), 0, 10_000_000, 4_096)?;
-    let root = optional_text(alloc, value(Key::Root, given))?;
-    let order = order_words(alloc, given)?;
+    let budget = limited(value(Key::Budget, found), 0, 10_000_000, 100_000)?;
+    let pairs = limited(value(Key::Pairs, found), 1, 8_000_000, 1_000_000)?;
+    let workers = limited(value(Key::Workers, found), 1, 64, 1)?;
+    let steps = limited(value(Key::Steps, found), 0, 10_000_000, 100_000)?;
+    let limit = limited(value(Key::Limit, found), 0, 10_000_000, 4_096)?;
+    let root = optional_text(alloc, value(Key::Root, found))?;
+    let order = order_words(alloc, found)?;
     Ok(Command {
         verb,
         positionals,
@@ -189,13 +242,51 @@ fn command(alloc: Global, verb: Verb, line: Line) -> Result<Command, WordsFault>
         workers,
         steps,
         limit,
-        trace: stands(Key::Trace, given),
+        trace: is_traced(found),
     })
 }
 
-// The command that the first word names, and the items of the others.
-fn says(alloc: Global, words: &[String]) -> Result<(Verb, Line), WordsFault>
-    ensures { Gives (says (map string_bytes words.now)) result }
+// The command that clap found, with its matches.
+fn found(alloc: Global, matches: &ArgMatches<'_>) -> Result<Command, WordsFault>
+    requires { IsMatch matches.now }
+    ensures { (v : Verb) (line : Line) → AreMatches v line matches.now → Told (IsCommand v line) result }
+{
+    let Some((name, found)) = matches.subcommand() else {
+        return Err(WordsFault::Usage);
+    };
+    let Some(verb) = verb_named(name.as_bytes()) else {
+        return Err(WordsFault::Usage);
+    };
+    command(alloc, verb, found)
+}
+
+// Why clap has no matches.
+fn fault(kind: ErrorKind) -> WordsFault
+    ensures { IsFaultOf kind result }
+{
+    if kind == ErrorKind::OutOfMemory {
+        WordsFault::NoMemory
+    } else {
+        WordsFault::Usage
+    }
+}
+
+// The command that clap reads in the words that stand for a line.
+fn parsed(alloc: Global, words: &[String]) -> Result<Command, WordsFault>
+    requires { IsCanonical (map string_bytes words.now) }
+    ensures { (v : Verb) (line : Line) → StandFor v line (map string_bytes words.now) → Told (IsCommand v line) result }
+{
+    let program = application(alloc)?;
+    match program.try_get_matches_from(words) {
+        Ok(matches) => found(alloc, &matches),
+        Err(error) => Err(fault(error.kind())),
+    }
+}
+
+// The words that stand for the items of the line: the command, its options each in one word, and the positionals after
+// `--`.
+fn canonical(alloc: Global, words: &[String]) -> Result<Vec<String>, WordsFault>
+    ensures { GivesAs (λ words. map string_bytes words.items) (canonical_of (says (map string_bytes words.now))) result }
 {
     let Some((name, others)) = words.split_first() else {
         return Err(WordsFault::Usage);
@@ -203,10 +294,26 @@ fn says(alloc: Global, words: &[String]) -> Result<(Verb, Line), WordsFault>
     let Some(verb) = verb_named(name.as_bytes()) else {
         return Err(WordsFault::Usage);
     };
-    match line_of(alloc, verb, others) {
-        Ok(line) => Ok((verb, line)),
+    match sort(alloc, verb, others) {
+        Ok(sorted) => Ok(told_words(alloc, verb, sorted)?),
         Err(fault) => Err(fault),
     }
+}
+
+// The words of a command.
+fn told_words(alloc: Global, verb: Verb, sorted: Sorted) -> Result<Vec<String>, AllocError>
+    ensures { IfOk result (λ words. map string_bytes words.items ≡ verb_name verb ∷ (map string_bytes sorted.options.items ++ codes "--" ∷ map string_bytes sorted.positionals.items)) }
+{
+    let Sorted {
+        mut options,
+        mut positionals,
+    } = sorted;
+    let mut words = Vec::new(alloc);
+    words.push(String::from_str(alloc, verb_name(verb))?)?;
+    words.append(&mut options)?;
+    words.push(String::from_str(alloc, "--")?)?;
+    words.append(&mut positionals)?;
+    Ok(words)
 }
 
 // Whether all words are so.
@@ -219,7 +326,7 @@ fn are_clean(words: &[String]) -> bool
 /// Reads the words after the program's name.
 ///
 /// The first word is the command. Items follow in any order: options as `--name value` or `--name=value`, the flag
-/// `--trace`, and positionals; behind a word `--` all words are positionals. `Usage` comes exactly where the words have
+/// `--trace`, and positionals; after a word `--` all words are positionals. `Usage` comes exactly where the words have
 /// no reading: an item that the command doesn't have, an option that stands twice, a value that is missing, empty or not
 /// allowed, a value that is a word of its own and begins with a dash, too few or too many positionals, an empty one, or
 /// a word with a byte outside 32 to 126 or with 2^31 bytes or more.
@@ -230,8 +337,8 @@ pub fn read_words(alloc: Global, words: &[String]) -> Result<Command, WordsFault
     if !are_clean(words) {
         return Err(WordsFault::Usage);
     }
-    match says(alloc, words) {
-        Ok((verb, line)) => command(alloc, verb, line),
+    match canonical(alloc, words) {
+        Ok(words) => parsed(alloc, words.as_slice()),
         Err(fault) => Err(fault),
     }
 }
