@@ -1,6 +1,7 @@
 pub mod Folders
 pub mod Fetches
 pub mod Later
+pub mod Faulting
 pub mod Items
 pub mod Includes
 pub mod Sound

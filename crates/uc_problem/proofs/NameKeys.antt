@@ -1,5 +1,5 @@
 -- Texts and names put to sets of keys.
-use Rattle.std.proofs.Common.{◌≡◌, ℕ, List, [], ◌∷◌, ◌++◌, Bool, true, false, ◌≤◌, length, drop, filter, arith, refl, sym, ap, ◌∙◌}
+use Rattle.std.proofs.Common.{◌≡◌, ℕ, List, [], ◌∷◌, ◌++◌, Bool, true, false, ◌≤◌, length, drop, filter, refl, sym, ap, ◌∙◌}
 use Rattle.std.specs.Prelude.{◌||◌, ◌&&◌, bytes_eq, if◌then◌else◌, Vec}
 use Rattle.std.specs.List.{list_any}
 use Rattle.std.proofs.lemmas.List.{drop_all}
@@ -8,7 +8,7 @@ use Rattle.std.specs.declared.alloc.Global.{Global}
 use Rattle.std.specs.Cmp.Lexicographic.{bytes_decides}
 use Rattle.uc_clause.specs.declared.clause.Name.{Name}
 use Rattle.uc_clause.proofs.Seen.{same}
-use Rattle.uc_problem.specs.Loading.{same_name, same_bool}
+use Rattle.uc_problem.specs.Loading.{same_name}
 use Rattle.uc_problem.specs.NameSets.{has_text, has_name}
 
 or_false : (b : Bool) → (b || false) ≡ b

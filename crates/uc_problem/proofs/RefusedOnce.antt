@@ -11,7 +11,7 @@ use Rattle.uc_problem.specs.declared.problem.Problem.{Problem}
 use Rattle.uc_problem.specs.Candidates.{folder_of}
 use Rattle.uc_problem.specs.Loading.{Loaded, LoadsProblem}
 use Rattle.uc_problem.specs.Holds.{Flattens, terms_of, Refuses, is_not_flat, has_clash, has_too_many}
-use Rattle.uc_problem.specs.Filling.{FillsProblem, IsFilled}
+use Rattle.uc_problem.specs.Filling.{IsFilled}
 use Rattle.uc_problem.specs.Refusing.{ReadsShapes, Stops, IsRefused, stops, has_no_signature}
 use Rattle.uc_problem.proofs.Outcomes.{err_once, ok_or_err}
 use Rattle.uc_problem.proofs.LoadsOnce.{problem_once}

@@ -16,7 +16,7 @@ use Rattle.uc_problem.specs.Parts.{IsPart}
 use Rattle.uc_problem.specs.Assembly.{IsFlat, HasNoSignature, clashes, is_too_many}
 use Rattle.uc_problem.specs.Assembly as assembly
 use Rattle.uc_problem.specs.Filling.{WhereTold, FillsProblem}
-use Rattle.uc_problem.specs.Refusing.{IsRefused, stops, has_no_signature, IsStopped, fetch_fails, is_refused, wants_memory}
+use Rattle.uc_problem.specs.Refusing.{stops, has_no_signature, IsStopped, fetch_fails, is_refused, wants_memory}
 use Rattle.uc_problem.proofs.Later.{Grows-refl}
 use Rattle.uc_problem.proofs.Problems.{FileIs}
 use Rattle.uc_problem.proofs.Shapes.{file_shapes}

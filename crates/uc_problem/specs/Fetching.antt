@@ -1,7 +1,7 @@
 -- What fetching files answers.
 use Rattle.std.specs.Prelude.{ℕ, ◌≡◌, List, take, Option, Some, None, Result, Ok, Err}
 use Rattle.uc_edge.specs.Files.{Files}
-use Rattle.uc_edge.specs.Faults.{Rose}
+use Rattle.uc_edge.specs.Faults.{Rose, IsCounted}
 use Rattle.uc_problem.specs.declared.fault.LoadFault.{LoadFault}
 use Rattle.uc_problem.specs.declared.fault.LoadFault.TheVariants.{ReadFault, NoMemory}
 use Rattle.uc_problem.specs.declared.fetch.Found.{Found}
@@ -41,3 +41,19 @@ IsFirst None before now names (Ok answer) = Unit {0}
 IsFirst (Some files) before now names (Ok None) = first_held files names ≡ None
 IsFirst (Some files) before now names (Ok (Some found)) = (whole : List ℕ) × (first_held files names ≡ Some (found.name, whole)) × (found.bytes ≡ cut whole)
 IsFirst holds before now names (Err fault) = IsTriedFault holds before now names fault
+
+-- the file at which the library failed, where that is why there is no problem
+abbrev pub failing_of : LoadFault → Option (List ℕ)
+failing_of (ReadFault file) = Some file
+failing_of why = None
+
+-- What a refusal leaves of the faults of the library: no fetch failed, or, where it is the fault of reading a file, the fetch of that
+-- file and no other. Want of memory comes either way.
+abbrev pub IsFaultedBy : LoadFault → ℕ → ℕ → List (List ℕ) → List (List ℕ) → Type 0
+IsFaultedBy NoMemory before now old new = (file : Option (List ℕ)) × IsCounted file before now old new
+IsFaultedBy why before now old new = IsCounted (failing_of why) before now old new
+
+-- What loading leaves of them: where it succeeds, no fetch failed.
+abbrev pub IsFaulted : {A : Type 0} → Result A LoadFault → ℕ → ℕ → List (List ℕ) → List (List ℕ) → Type 0
+IsFaulted (Ok a) before now old new = IsCounted None before now old new
+IsFaulted (Err why) before now old new = IsFaultedBy why before now old new

@@ -1,7 +1,7 @@
 //! Fetching the first of several files that a library has.
 
 ghost use Rattle.std.specs.Prelude.{◌≡◌, ◌≤◌, Some};
-ghost use Rattle.uc_problem.specs.Fetching.{IsFirst, IsAnswer};
+ghost use Rattle.uc_problem.specs.Fetching.{IsFirst, IsAnswer, IsFaulted};
 
 use crate::LoadFault;
 use std::alloc::Global;
@@ -27,6 +27,7 @@ pub(crate) fn fetch_first<L: Library>(
     ensures first { IsFirst (L.holds library.old) (L.faults library.old) (L.faults library.new) names.now result }
     ensures same { L.holds library.new ≡ L.holds library.old }
     ensures later { L.faults library.old ≤ L.faults library.new }
+    ensures counted { IsFaulted result (L.faults library.old) (L.faults library.new) (L.failed_at library.old) (L.failed_at library.new) }
 {
     for name in names {
         if let Some(bytes) = fetch_text(alloc, library, name)? {
@@ -48,6 +49,7 @@ pub(crate) fn fetch_text<L: Library>(
     ensures answer { IsAnswer (L.holds library.old) (L.faults library.old) (L.faults library.new) name.now result }
     ensures same { L.holds library.new ≡ L.holds library.old }
     ensures later { L.faults library.old ≤ L.faults library.new }
+    ensures counted { IsFaulted result (L.faults library.old) (L.faults library.new) (L.failed_at library.old) (L.failed_at library.new) }
 {
     let Ok(text) = str::from_utf8(name.as_bytes()) else {
         return Ok(None);

@@ -3,7 +3,7 @@
 ghost use Rattle.std.specs.Prelude.{◌≡◌, ◌≤◌, List, ℕ, IfOk};
 ghost use Rattle.std.specs.Option.{option_copied};
 ghost use Rattle.uc_term.specs.Table.{Grows};
-ghost use Rattle.uc_problem.specs.Fetching.{cut};
+ghost use Rattle.uc_problem.specs.Fetching.{cut, IsFaulted};
 ghost use Rattle.uc_problem.specs.Holds.{ReadsAs};
 ghost use Rattle.uc_problem.specs.Filling.{WhereTold, FillsFile, FillsItem, FillsInclude};
 ghost use Rattle.uc_problem.specs.Loading.{LoadsFile};
@@ -50,6 +50,7 @@ pub(crate) fn load_file<L: Library>(
     ensures fills { IfOk result (λ _. WhereTold (L.holds library.old) (λ files. (whole : List ℕ) → bytes.now ≡ cut whole → FillsFile files search.entry.folder.now (option_copied search.entry.root) whole symbols.old symbols.new)) }
     ensures same { L.holds library.new ≡ L.holds library.old }
     ensures later { L.faults library.old ≤ L.faults library.new }
+    ensures counted { IsFaulted result (L.faults library.old) (L.faults library.new) (L.failed_at library.old) (L.failed_at library.new) }
 {
     let items = match read_items(alloc, bytes, symbols) {
         Ok(items) => items,
@@ -94,6 +95,7 @@ fn load_item<L: Library>(
     ensures fills { IfOk result (λ _. WhereTold (L.holds library.old) (λ files. FillsItem files search.entry.folder.now (option_copied search.entry.root) item symbols.old symbols.new)) }
     ensures same { L.holds library.new ≡ L.holds library.old }
     ensures later { L.faults library.old ≤ L.faults library.new }
+    ensures counted { IsFaulted result (L.faults library.old) (L.faults library.new) (L.failed_at library.old) (L.failed_at library.new) }
 {
     match item {
         Item::Clause(clause) => take_clause(alloc, counts, name, clause),
@@ -148,6 +150,7 @@ fn load_include<L: Library>(
     ensures fills { IfOk result (λ _. WhereTold (L.holds library.old) (λ files. FillsInclude files search.entry.folder.now (option_copied search.entry.root) include.now symbols.old symbols.new)) }
     ensures same { L.holds library.new ≡ L.holds library.old }
     ensures later { L.faults library.old ≤ L.faults library.new }
+    ensures counted { IsFaulted result (L.faults library.old) (L.faults library.new) (L.failed_at library.old) (L.failed_at library.new) }
 {
     if depth >= MAX_DEPTH {
         return Err(LoadFault::TooDeep {

@@ -6,6 +6,7 @@ ghost use Rattle.uc_term.specs.Table.{Grows, IsDistinct};
 ghost use Rattle.uc_problem.specs.Holds.{IsProblem, IsLoadFault, Agrees};
 ghost use Rattle.uc_problem.specs.Filling.{WhereTold, FillsProblem, IsFilled};
 ghost use Rattle.uc_problem.specs.Refusing.{IsStopped};
+ghost use Rattle.uc_problem.specs.Fetching.{IsFaulted};
 ghost use Rattle.uc_problem.specs.Assembly.{IsFlat, AreSoundFew};
 
 use crate::assembly::assemble;
@@ -25,8 +26,9 @@ use uc_term::{Seq, Symbols, Text};
 /// the problem file and then in the root, where one is given, and under a name that begins with a slash as it stands. A
 /// selection keeps the clauses of the listed names in the file's order.
 ///
-/// The first refusal in the order of loading is answered. A fetch answers `ReadFault` where the library failed and its count of
-/// faults rose, and `Absent` where there is no such file. A file that isn't read answers `Clause` before all its items. A clause
+/// The first refusal in the order of loading is answered. A fetch answers `ReadFault` where the library failed at this very file,
+/// the only failure of the call, and `Absent` where there is no such file. Every other answer comes with no failure, but for want
+/// of memory, which may also follow one. A file that isn't read answers `Clause` before all its items. A clause
 /// answers `Limit` where it is the 10,001st. An include answers `TooDeep` in a file that is nested 16 deep, then `Limit` where
 /// it is the 257th included file, then what its fetches answer, one after the other up to the first file that is there, then
 /// what the included file answers, and then `NoSuchName` at the first listed name that the file doesn't give. At last the
@@ -48,6 +50,7 @@ pub fn load<L: Library>(
     ensures stopped { IfErr result (λ why. WhereTold (L.holds library.old) (λ files. IsStopped files (option_copied root.entry) name.now symbols.old why)) }
     ensures same { L.holds library.new ≡ L.holds library.old }
     ensures later { L.faults library.old ≤ L.faults library.new }
+    ensures counted { IsFaulted result (L.faults library.old) (L.faults library.new) (L.failed_at library.old) (L.failed_at library.new) }
 {
     let clauses = flat_clauses(alloc, library, root, name, symbols)?;
     let problem = assemble(alloc, clauses, symbols);
@@ -71,6 +74,7 @@ fn flat_clauses<L: Library>(
     ensures stopped { IfErr result (λ why. WhereTold (L.holds library.old) (λ files. IsStopped files (option_copied root.entry) name.now symbols.old why)) }
     ensures same { L.holds library.new ≡ L.holds library.old }
     ensures later { L.faults library.old ≤ L.faults library.new }
+    ensures counted { IsFaulted result (L.faults library.old) (L.faults library.new) (L.failed_at library.old) (L.failed_at library.new) }
 {
     let file = Text::from_bytes(alloc, name)?;
     let Some(bytes) = fetch_text(alloc, library, &file)? else {

@@ -1,4 +1,4 @@
-use Rattle.std.proofs.Common.{◌≡◌, ◌+◌, ℕ, List, [], Err, refl, sym, ◌∙◌, ap, arith}
+use Rattle.std.proofs.Common.{◌≡◌, ◌+◌, ℕ, List, [], None, Err, refl, sym, ◌∙◌, ap, arith}
 use Rattle.std.specs.Option.{option_copied}
 use Rattle.std.proofs.lemmas.Result.{err_from_is_err_and}
 use Rattle.uc_problem.specs.Candidates.{candidates}
@@ -6,6 +6,7 @@ use Rattle.uc_problem.specs.Fetching.{cut}
 use Rattle.uc_problem.specs.Loading.{LoadsFile}
 use Rattle.uc_problem.specs.Holds.{ReadsAs}
 use Rattle.uc_problem.specs.Parts.{ItemComesTo}
+use Rattle.uc_problem.proofs.Faulting.{kept_on, same_refusal, no_failure, unread_fails, taken_faulted, selection_faulted}
 use Rattle.uc_problem.proofs.Later.{Grows-refl, Grows-trans}
 use Rattle.uc_problem.proofs.Items.{begin, go_on, end, stop, unread, none_left, same_part}
 use Rattle.uc_problem.proofs.Includes.{taken, deep, many, failed, missing_of, held_of_names, inside_stops, chosen}
@@ -30,6 +31,7 @@ pub load_file-loop-item-init : goal.load_file-loop-item-init
 load_file-loop-item-init g t c = record {
   same = refl;
   later = omega arith;
+  counted = (refl, refl);
   grows = Grows-refl c.read_items.new.symbols;
   left = rw c.new-clauses.ensures (begin (g.L.Library.holds c.args.library.now) c.args.search.folder.now (option_copied c.args.search.root) c.args.depth c.args.name.now c.args.counts.now c.into_iter-item-iterator.result.rest.items c.read_items.new.symbols);
   fills = leaves_all c.args.search.folder.now (option_copied c.args.search.root) (g.L.Library.holds c.args.library.now) c.into_iter-item-iterator.result.rest.items c.read_items.new.symbols;
@@ -41,6 +43,7 @@ pub load_file-loop-item-preserved : goal.load_file-loop-item-preserved
 load_file-loop-item-preserved g t c = record {
   same = c.in_ok-more.ensures.same ∙ c.loop-item.invariant.same;
   later = omega (arith, c.in_ok-more.ensures.later, c.loop-item.invariant.later);
+  counted = kept_on None _ _ c.loop-item.invariant.counted c.in_ok-more.ensures.counted;
   grows = Grows-trans _ _ _ c.loop-item.invariant.grows c.in_ok-more.ensures.grows;
   left = rw c.in_ok-append.ensures.ok (go_on (g.L.Library.holds c.args.library.now) c.args.search.folder.now (option_copied c.args.search.root) c.args.depth c.args.name.now c.args.counts.now c.into_iter-item-iterator.result.rest.items c.loop-item.symbols c.load_item.new.symbols (g.L.Library.faults c.loop-item.library) (g.L.Library.faults c.load_item.new.library) c.loop-item.counts c.load_item.new.counts c.loop-item.clauses c.in_ok-more.more c.in-Some.item c.next.new.self.rest.items c.in_ok-more.ensures.grows
       (rw c.in-Some.ensures.steps.0 at c.loop-item.invariant.left)
@@ -117,3 +120,27 @@ load_include-returns-clause-fills g t c =
 
 pub load_item-returns-in-Clause-clause-fills : goal.load_item-returns-in-Clause-clause-fills
 load_item-returns-in-Clause-clause-fills g t c = rw c.in-Clause.is (taken_filled c.args.search.folder.now (option_copied c.args.search.root) (g.L.Library.holds c.args.library.now) c.in-Clause.clause c.args.symbols.now c.take_clause.result)
+
+pub load_file-returns-in_err-more-clause-counted : goal.load_file-returns-in_err-more-clause-counted
+load_file-returns-in_err-more-clause-counted g t c =
+    let p = err_from_is_err_and c.from_residual.result c.from_residual.ensures.1 in
+    rw (p.1, p.2) (same_refusal c.in_err-more.field-0.0 _ _ c.loop-item.invariant.counted c.in_err-more.ensures.counted)
+
+pub load_file-returns-in-Err-clause-counted : goal.load_file-returns-in-Err-clause-counted
+load_file-returns-in-Err-clause-counted g t c = no_failure c.not_read.result (unread_fails c.args.name.now c.in-Err.fault c.not_read.result c.not_read.ensures) (refl, refl)
+
+pub load_item-returns-in-Clause-clause-counted : goal.load_item-returns-in-Clause-clause-counted
+load_item-returns-in-Clause-clause-counted g t c = taken_faulted c.args.name.now c.in-Clause.clause c.args.counts.now c.take_clause.new.counts c.take_clause.result _ _ c.take_clause.ensures
+
+pub load_include-returns-in_err-found-clause-counted : goal.load_include-returns-in_err-found-clause-counted
+load_include-returns-in_err-found-clause-counted g t c =
+    let p = err_from_is_err_and c.from_residual-in_err-found.result c.from_residual-in_err-found.ensures.1 in
+    rw (p.1, p.2) (same_refusal c.in_err-found.field-0.0 _ _ (refl, refl) c.in_err-found.ensures.counted)
+
+pub load_include-returns-in_err-given-clause-counted : goal.load_include-returns-in_err-given-clause-counted
+load_include-returns-in_err-given-clause-counted g t c =
+    let p = err_from_is_err_and c.from_residual-in_err-given.result c.from_residual-in_err-given.ensures.1 in
+    rw (p.1, p.2) (same_refusal c.in_err-given.field-0.0 _ _ c.in_ok-found.ensures.counted c.in_err-given.ensures.counted)
+
+pub load_include-returns-clause-counted : goal.load_include-returns-clause-counted
+load_include-returns-clause-counted g t c = selection_faulted c.args.name.now c.args.include.now c.in_ok-given.given c.select.result c.select.ensures (kept_on None _ _ c.in_ok-found.ensures.counted c.in_ok-given.ensures.counted)

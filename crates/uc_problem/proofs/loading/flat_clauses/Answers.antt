@@ -1,5 +1,7 @@
+use Rattle.std.proofs.Common.{refl}
 use Rattle.std.specs.Option.{option_copied}
 use Rattle.std.proofs.lemmas.Result.{err_from_is_err_and}
+use Rattle.uc_problem.proofs.Faulting.{same_refusal, faulted_after}
 use Rattle.uc_problem.proofs.Problems.{no_fetch_of, no_file, of_fetched}
 use Rattle.uc_problem.proofs.Fillings.{fetched_filled}
 use Rattle.uc_problem.proofs.Stopping.{memory_stops, no_file_stops, no_fetch_stops, fetched_stops}
@@ -42,3 +44,11 @@ pub returns-in_err-file-clause-stopped : goal.returns-in_err-file-clause-stopped
 returns-in_err-file-clause-stopped g c =
     let p = err_from_is_err_and c.from_residual.result c.from_residual.ensures.1 in
     rw (p.1, p.2) (memory_stops (option_copied c.args.root) c.args.name.now c.args.symbols.now (g.L.Library.holds c.args.library.now))
+
+pub returns-in_err-bytes-clause-counted : goal.returns-in_err-bytes-clause-counted
+returns-in_err-bytes-clause-counted g c =
+    let p = err_from_is_err_and c.from_residual-in_err-bytes.result c.from_residual-in_err-bytes.ensures.1 in
+    rw (p.1, p.2) (same_refusal c.in_err-bytes.field-0.0 _ _ (refl, refl) c.in_err-bytes.ensures.counted)
+
+pub returns-clause-counted : goal.returns-clause-counted
+returns-clause-counted g c = faulted_after c.load_file.result _ _ c.in_ok-bytes.ensures.counted c.load_file.ensures.counted
