@@ -8,7 +8,7 @@ use std::alloc::Global;
 use std::sync::Wait;
 use std::test::Fail;
 use uc_fact::{Equation, Joinable, Origin, Overlap, Side};
-use uc_final::final_pass;
+use uc_final::{FinalPasses, final_pass};
 use uc_machine::{Missing, Outcome, Stage};
 use uc_order::Order;
 use uc_shelf::{Front, Shelf};
@@ -28,7 +28,8 @@ fn pass<O: Order>(
     if axioms.len() > 9 || stages.len() > 9 {
         return Err(Fail::from("too many"));
     }
-    Ok(final_pass(alloc, shelf, front, axioms, stages, order)?)
+    let mut passes = FinalPasses::none();
+    Ok(final_pass(alloc, shelf, front, axioms, stages, order, &mut passes)?)
 }
 
 fn outcome_on(

@@ -13,7 +13,7 @@ use crate::trouble::{Trouble, check};
 use std::alloc::Global;
 use std::sync::Wait;
 use uc_book::{Audited, Book};
-use uc_final::final_pass;
+use uc_final::{FinalPasses, final_pass};
 use uc_machine::{Missing, Outcome};
 use uc_order::Order;
 use uc_shelf::Shelf;
@@ -36,7 +36,16 @@ pub fn end_round<R: Wait, O: Order>(
     let stages = book.stages(alloc)?;
     let front = book.front();
     let axioms = book.axioms();
-    let outcome = final_pass(alloc, shelf, front, axioms, stages.as_slice(), order)?;
+    let mut passes = FinalPasses::none();
+    let outcome = final_pass(
+        alloc,
+        shelf,
+        front,
+        axioms,
+        stages.as_slice(),
+        order,
+        &mut passes,
+    )?;
     match missing_or_end(outcome) {
         Ok(all) => audit_all(rt, alloc, book, machine, all),
         Err(end) => {

@@ -27,9 +27,10 @@ use Rattle.uc_rows.specs.TaskRows.{HasFront}
 use Rattle.uc_book.specs.Answers.{reply_of}
 use Rattle.uc_book.specs.Parts.{state_of, closings, Fit, IsAtHead, IsSteady}
 use Rattle.uc_book.specs.Drawing.{HasRoomToGive, CanGive}
+use Rattle.uc_book.specs.Dropping.{SameOthers}
 use Rattle.uc_rows.specs.Jobs.{AreJobs}
 use Rattle.uc_book.proofs.Fitting.{joins}
-use Rattle.uc_book.proofs.Steady.{closings_few}
+use Rattle.uc_book.proofs.Steady.{closings_few, others_fit}
 use Rattle.uc_book.proofs.Rules.{Gives, due_drawn, unmet_drawn}
 
 -- a task with this ticket, job and front is the answer of a draw
@@ -58,30 +59,24 @@ more_later o s u b (Some jobs) e c r f h =
     let k : s.counted + s.reserved < o.budget = ltb-true (s.counted + s.reserved) o.budget (sym e ∙ h.0) in
     (omega arith, subst (λ (found : Option (At Target)). AreJobs More found jobs) (sym f) h.1)
 
--- a task may be given after orphans were dropped, as many as waited at most
-pub dropped_give : (shelf : Shelves) (o : Opening) (p q : Parts) → CanGive shelf o p → HasRoomToGive p → q.facts ≡ p.facts → q.tasks ≡ p.tasks → q.next ≡ p.next → q.counted ≡ p.counted → q.reserved ≡ p.reserved → q.numbers ≡ p.numbers → q.verdict ≡ p.verdict
-    → p.pairs.spare ≤ q.pairs.spare → next_ticket (state_of q) ≡ next_ticket (state_of p) → vec_len q.history ≤ vec_len p.history + length (queue (state_of p)) → vec_capacity q.history ≡ vec_capacity p.history → CanGive shelf o q
-dropped_give shelf o p q can h facts tasks next counted reserved numbers verdict spare ticket history capacity =
-    let l : length q.tasks.items ≡ length p.tasks.items = ap (λ (ts : Vec TaskRow Global). length ts.items) tasks in
-    let j : joins q.tasks.items ≡ joins p.tasks.items = ap (λ (ts : Vec TaskRow Global). joins ts.items) tasks in
+-- a task may be given after orphans were dropped
+pub dropped_give : (shelf : Shelves) (o : Opening) (p q : Parts) → CanGive shelf o p → HasRoomToGive q → SameOthers p q → p.pairs.spare ≤ q.pairs.spare → next_ticket (state_of q) ≡ next_ticket (state_of p) → CanGive shelf o q
+dropped_give shelf o p q can h s spare ticket =
+    let l : length q.tasks.items ≡ length p.tasks.items = ap (λ (ts : Vec TaskRow Global). length ts.items) s.tasks in
+    let j : joins q.tasks.items ≡ joins p.tasks.items = ap (λ (ts : Vec TaskRow Global). joins ts.items) s.tasks in
     let v : closings q.verdict ≤ 1 = closings_few q.verdict in
     let w : p.counted + p.reserved ≤ o.budget = can.sound.within in
+    let c : q.counted ≡ p.counted = s.counted in
+    let r : q.reserved ≡ p.reserved = s.reserved in
+    let n : q.next ≡ p.next = s.next in
     let m : p.next < 2 ^ 63 = can.sound.next in
     let i : joins p.tasks.items ≤ p.pairs.spare = can.room.waiting in
-    let t : vec_len q.tasks ≡ vec_len p.tasks = ap (λ (ts : Vec TaskRow Global). vec_len ts) tasks in
-    let d : vec_capacity q.tasks ≡ vec_capacity p.tasks = ap (λ (ts : Vec TaskRow Global). vec_capacity ts) tasks in
-    let few : length p.tasks.items + 1 < 2 ^ 32 = h.few in
-    let room : vec_len p.tasks < vec_capacity p.tasks = h.tasks in
-    let events : vec_len p.history + (length (queue (state_of p)) + length p.tasks.items + 3) ≤ vec_capacity p.history = h.events in
+    let few : length q.tasks.items + 2 < 2 ^ 32 = h.few in
+    let room : vec_len q.tasks < vec_capacity q.tasks = h.tasks in
+    let events : vec_len q.history + (length q.tasks.items + 3) ≤ vec_capacity q.history = h.events in
     record {
-      sound = record { small = subst (λ (ns : Vec Numbers Global). AreSmall ns.items) (sym numbers) can.sound.small; within = omega arith; budget = can.sound.budget; next = omega arith };
-      fit = record {
-        front = subst (λ (fs : FactsView). IsOf shelf fs.front) (sym facts) can.fit.front;
-        next = next ∙ can.fit.next ∙ sym ticket;
-        fronts = subst (λ (fs : FactsView). Each (HasFront shelf fs.front.entries) q.tasks.items) (sym facts) (subst (λ (ts : Vec TaskRow Global). Each (HasFront shelf p.facts.front.entries) ts.items) (sym tasks) can.fit.fronts);
-        few = omega (arith, can.fit.few);
-        workers = ap (λ (ns : Vec Numbers Global). length ns.items) numbers ∙ can.fit.workers;
-      };
+      sound = record { small = subst (λ (ns : Vec Numbers Global). AreSmall ns.items) (sym s.numbers) can.sound.small; within = omega arith; budget = can.sound.budget; next = omega arith };
+      fit = others_fit shelf p q s ticket can.fit;
       room = record { events = omega arith; waiting = omega arith };
       few = omega arith;
       room_tasks = omega arith;

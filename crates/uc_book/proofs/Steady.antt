@@ -6,9 +6,10 @@ use Rattle.boxcar.specs.Table.{Shelves}
 use Rattle.uc_shelf.specs.Fronts.{IsOf}
 use Rattle.uc_shelf.specs.Sights.{Sight}
 use Rattle.uc_machine.specs.declared.event.Event.{Event}
+use Rattle.uc_machine.specs.declared.state.Numbers.{Numbers}
 use Rattle.uc_machine.specs.declared.event.Verdict.{Verdict}
 use Rattle.uc_machine.specs.Lists.{Each}
-use Rattle.uc_machine.specs.State.{Opening, State, Target, queue, queue_from}
+use Rattle.uc_machine.specs.State.{Opening, State, Target}
 use Rattle.uc_machine.specs.Effects.{next_ticket}
 use Rattle.uc_book.specs.declared.parts.Parts.{Parts}
 use Rattle.uc_rows.specs.declared.tasks.TaskRow.{TaskRow}
@@ -17,6 +18,7 @@ use Rattle.uc_rows.specs.Bounds.{AreSmall}
 use Rattle.uc_rows.specs.TaskRows.{HasFront}
 use Rattle.uc_book.specs.Parts.{state_of, closings, Fit, HasRoom, IsSteady}
 use Rattle.uc_book.specs.Drawing.{IsSound, HasRoomToGive, CanGive}
+use Rattle.uc_book.specs.Dropping.{SameOthers}
 use Rattle.uc_book.proofs.Fitting.{joins}
 
 -- what holds where a call gives up holds of any result
@@ -74,30 +76,29 @@ steady_sound o p q s k =
       next = omega arith;
     }
 
--- room to give a task stays as long as tasks, history and pairs do
-pub give_on : (p q : Parts) → q.tasks ≡ p.tasks → q.history ≡ p.history → q.pairs ≡ p.pairs → HasRoomToGive p → HasRoomToGive q
-give_on p q tasks history pairs h =
+-- room to give a task stays as long as tasks and history do
+pub give_on : (p q : Parts) → q.tasks ≡ p.tasks → q.history ≡ p.history → HasRoomToGive p → HasRoomToGive q
+give_on p q tasks history h =
     let l : length q.tasks.items ≡ length p.tasks.items = ap (λ (ts : Vec TaskRow Global). length ts.items) tasks in
-    let m : vec_len q.tasks ≡ vec_len p.tasks = ap (λ (ts : Vec TaskRow Global). vec_len ts) tasks in
-    let n : vec_capacity q.tasks ≡ vec_capacity p.tasks = ap (λ (ts : Vec TaskRow Global). vec_capacity ts) tasks in
+    let t : vec_len q.tasks ≡ vec_len p.tasks = ap (λ (ts : Vec TaskRow Global). vec_len ts) tasks in
+    let d : vec_capacity q.tasks ≡ vec_capacity p.tasks = ap (λ (ts : Vec TaskRow Global). vec_capacity ts) tasks in
     let e : vec_len q.history ≡ vec_len p.history = ap (λ (es : Vec Event Global). vec_len es) history in
     let k : vec_capacity q.history ≡ vec_capacity p.history = ap (λ (es : Vec Event Global). vec_capacity es) history in
-    let w : length (queue (state_of q)) ≡ length (queue (state_of p)) = ap (λ (v : PairsView). length (queue_from 0 v.pairs)) pairs in
-    let few : length p.tasks.items + 1 < 2 ^ 32 = h.few in
+    let few : length p.tasks.items + 2 < 2 ^ 32 = h.few in
     let room : vec_len p.tasks < vec_capacity p.tasks = h.tasks in
-    let events : vec_len p.history + (length (queue (state_of p)) + length p.tasks.items + 3) ≤ vec_capacity p.history = h.events in
+    let events : vec_len p.history + (length p.tasks.items + 3) ≤ vec_capacity p.history = h.events in
     record { few = omega arith; tasks = omega arith; events = omega arith }
 
 -- a task may be given where there is such room
 pub steady_give : (shelf : Shelves) (o : Opening) (p q : Parts) → IsSteady p q → IsSound o p → Fit shelf p → HasRoom p → HasRoomToGive q → CanGive shelf o q
 steady_give shelf o p q s k f r h =
     let v : closings q.verdict ≤ 1 = closings_few q.verdict in
-    let events : vec_len q.history + (length (queue (state_of q)) + length q.tasks.items + 3) ≤ vec_capacity q.history = h.events in
+    let events : vec_len q.history + (length q.tasks.items + 3) ≤ vec_capacity q.history = h.events in
     record {
       sound = steady_sound o p q s k;
       fit = steady_fit shelf p q s f;
       room = steady_room p q s r;
-      few = h.few;
+      few = omega (arith, h.few);
       room_tasks = h.tasks;
       room_events = omega arith;
     }
@@ -175,4 +176,35 @@ fit_as shelf p q f front tasks next ticket numbers = record {
   fronts = subst (Each (HasFront shelf q.facts.front.entries)) (sym tasks) (subst (λ (x : Sight). Each (HasFront shelf x.entries) p.tasks.items) (sym front) f.fronts);
   few = subst (λ (ts : List TaskRow). length ts < 2 ^ 32) (sym tasks) f.few;
   workers = ap length numbers ∙ f.workers;
+}
+
+-- parts fit together after drops
+pub others_fit : (shelf : Shelves) (p q : Parts) → SameOthers p q → next_ticket (state_of q) ≡ next_ticket (state_of p) → Fit shelf p → Fit shelf q
+others_fit shelf p q s ticket f =
+    fit_as shelf p q f (ap (λ (fs : FactsView). fs.front) s.facts) (ap (λ (ts : Vec TaskRow Global). ts.items) s.tasks) s.next ticket (ap (λ (ns : Vec Numbers Global). ns.items) s.numbers)
+
+-- drops that were taken back leave the parts as they were
+pub others_steady : (p q : Parts) → SameOthers p q → state_of q ≡ state_of p → vec_capacity p.history ≤ vec_capacity q.history → p.pairs.spare ≤ q.pairs.spare → IsSteady p q
+others_steady p q s state capacity spare = record {
+  state = state;
+  front = ap (λ (fs : FactsView). fs.front) s.facts;
+  tasks = ap (λ (ts : Vec TaskRow Global). ts.items) s.tasks;
+  next = s.next;
+  capacity = capacity;
+  spare = spare;
+}
+
+pub others_self : (p : Parts) → SameOthers p p
+others_self p = record { facts = refl; goals = refl; tasks = refl; next = refl; counted = refl; reserved = refl; verdict = refl; numbers = refl }
+
+pub others_after : (p q r : Parts) → SameOthers p q → SameOthers q r → SameOthers p r
+others_after p q r a b = record {
+  facts = b.facts ∙ a.facts;
+  goals = b.goals ∙ a.goals;
+  tasks = b.tasks ∙ a.tasks;
+  next = b.next ∙ a.next;
+  counted = b.counted ∙ a.counted;
+  reserved = b.reserved ∙ a.reserved;
+  verdict = b.verdict ∙ a.verdict;
+  numbers = b.numbers ∙ a.numbers;
 }

@@ -139,20 +139,19 @@ impl Parts {
     {
         let has_budget = self.counted + self.reserved < opening.budget();
         let more = more_jobs(alloc, &mut self.goals, has_budget)?;
-        self.drop_orphans(worker);
+        self.drop_orphans(worker)?;
         Ok(self.draw_late(worker, opening, fronts, more))
     }
 
-    /// Makes room for a task, and for the events of its draw, of its end and of a close.
+    /// Makes room for a task, and for the events of its draw, of its end and of a close, whatever waits.
     fn make_room(&mut self) -> Result<(), AllocError>
         ensures steady { IsSteady self.old self.new }
         ensures room { OnOk result (HasRoomToGive self.new) }
+        ensures refused { OnErr result (HasRoomToGive self.old → ⊥) }
     {
         check_tasks(self.tasks.len())?;
         self.tasks.reserve(1)?;
-        let ends = self.tasks.len() + 3;
-        let events = ends.saturating_add(self.pairs.waiting());
-        self.history.reserve(events)
+        self.history.reserve(self.tasks.len() + 3)
     }
 
     /// The front of all entries, for a task and for the book.
@@ -196,29 +195,6 @@ impl Parts {
             job,
             front,
             opening,
-        }
-    }
-
-    /// Draws orphans from the queue, until there is none at its head.
-    fn drop_orphans(&mut self, worker: u32)
-        requires met { NoneUnmet (state_of self.old) }
-        requires room { vec_len self.old.history + length (queue (state_of self.old)) ≤ vec_capacity self.old.history }
-        ensures leads { (o : Opening) (r : Reply) (u : State) → Draws o worker (state_of self.new) r u → Draws o worker (state_of self.old) r u }
-        ensures late { IsLate (state_of self.new) }
-        ensures facts { self.new.facts ≡ self.old.facts }
-        ensures goals { self.new.goals ≡ self.old.goals }
-        ensures tasks { self.new.tasks ≡ self.old.tasks }
-        ensures next { self.new.next ≡ self.old.next }
-        ensures counts { (self.new.counted ≡ self.old.counted) × (self.new.reserved ≡ self.old.reserved) }
-        ensures numbers { self.new.numbers ≡ self.old.numbers }
-        ensures verdict { self.new.verdict ≡ self.old.verdict }
-        ensures spare { self.old.pairs.spare ≤ self.new.pairs.spare }
-        ensures ticket { next_ticket (state_of self.new) ≡ next_ticket (state_of self.old) }
-        ensures history { vec_len self.new.history ≤ vec_len self.old.history + length (queue (state_of self.old)) }
-        ensures capacity { vec_capacity self.new.history ≡ vec_capacity self.old.history }
-    {
-        while let Some(number) = self.orphan_at_head() {
-            self.drop_head(worker, number);
         }
     }
 

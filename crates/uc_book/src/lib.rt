@@ -9,6 +9,7 @@ mod auditing;
 mod book;
 mod committing;
 mod drawing;
+mod drops;
 mod limits;
 mod opened;
 mod parts;

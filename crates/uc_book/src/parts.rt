@@ -139,7 +139,8 @@ impl Parts {
         ensures subjects { (self.new.facts ≡ self.old.facts) × (self.new.goals ≡ self.old.goals) }
         ensures tasks { (self.new.tasks ≡ self.old.tasks) × (self.new.next ≡ self.old.next) }
         ensures counts { (self.new.numbers ≡ self.old.numbers) × (self.new.counted ≡ self.old.counted) × (self.new.reserved ≡ self.old.reserved) × (self.new.verdict ≡ self.old.verdict) }
-        ensures spare { self.old.pairs.spare ≤ self.new.pairs.spare }
+        ensures spare { self.new.pairs.spare ≡ self.old.pairs.spare + 1 }
+        ensures modulo { self.old.pairs.draws < 5 }
         ensures history { vec_len self.new.history ≡ vec_len self.old.history + 1 }
         ensures capacity { vec_capacity self.new.history ≡ vec_capacity self.old.history }
     {

@@ -7,6 +7,7 @@
 #![tactic(auto)]
 
 mod answering;
+mod counted;
 mod laws;
 mod overlapping;
 mod passing;
@@ -14,5 +15,6 @@ mod searching;
 mod selecting;
 mod testing;
 
+pub use counted::FinalPasses;
 pub use laws::{convergent_decides, convergent_joins};
 pub use passing::final_pass;

@@ -1,12 +1,13 @@
 //! The final pass.
 
-ghost use Rattle.std.specs.Prelude.{◌≡◌, ◌<◌, ◌^◌, length, IfOk};
+ghost use Rattle.std.specs.Prelude.{◌≡◌, ◌+◌, ◌-◌, ◌<◌, ◌^◌, length, min, IfOk};
 ghost use Rattle.uc_shelf.specs.Fronts.{IsOf};
 ghost use Rattle.uc_machine.specs.State.{State};
 ghost use Rattle.uc_machine.specs.Finals.{IsFinal};
 ghost use Rattle.uc_final.specs.Stages.{stages_of};
 
 use crate::answering::answer;
+use crate::counted::FinalPasses;
 use crate::overlapping::all_overlaps;
 use crate::selecting::origins;
 use crate::testing::missing_among;
@@ -24,7 +25,8 @@ use uc_task::live_facts;
 /// inner fact and the order of their overlaps, but those that are too large: both sides are normalised by the facts that live,
 /// with 4,096 steps each, and tested for ground joinability. The answer is the first of these that holds: `Missing`, where
 /// some of them aren't joined, with all that aren't, in this order; `Large`, where some overlap is too large, with the first;
-/// `GoalUnsettled`, where some goal is `Stuck`, with the first; `Convergent`, with the facts that live, in order.
+/// `GoalUnsettled`, where some goal is `Stuck`, with the first; `Convergent`, with the facts that live, in order. The pass is
+/// counted, also where it is refused for want of memory.
 pub fn final_pass<O: Order>(
     alloc: Global,
     shelf: &Shelf,
@@ -32,12 +34,15 @@ pub fn final_pass<O: Order>(
     axioms: &[Equation],
     stages: &[Stage],
     order: &O,
+    passes: &mut FinalPasses,
 ) -> Result<Outcome, AllocError>
     requires of { IsOf shelf.now front.now }
     requires few_axioms { length axioms.now < 2 ^ 31 }
     requires few_goals { length stages.now < 2 ^ 31 }
-    ensures { IfOk result (λ outcome. (s : State) → s.entries ≡ front.now.entries → stages_of s.goals ≡ stages.now → IsFinal (O.meaning order.now) axioms.now s outcome) }
+    ensures outcome { IfOk result (λ outcome. (s : State) → s.entries ≡ front.now.entries → stages_of s.goals ≡ stages.now → IsFinal (O.meaning order.now) axioms.now s outcome) }
+    ensures passes { passes.new ≡ min (passes.old + 1) (2 ^ 64 - 1) }
 {
+    passes.count();
     let facts = live_facts(alloc, shelf, front)?;
     let overlaps = all_overlaps(alloc, facts.as_slice(), order)?;
     let origins = origins(alloc, axioms, overlaps.as_slice())?;

@@ -107,6 +107,13 @@ impl Ledger {
         self.turn(number, State::Waiting, State::Orphan)
     }
 
+    /// Lets an orphan wait again.
+    pub fn readmit(&mut self, number: u64) -> Result<(), NotThere>
+        ensures { MatchResult result (λ _. Turns number Orphan Waiting self.old self.new) (λ e. StaysAs e.0 number Orphan self.old self.new) }
+    {
+        self.turn(number, State::Orphan, State::Waiting)
+    }
+
     /// The state of the pair of this number; none where the number wasn't met.
     pub fn state(&self, number: u64) -> Option<State>
         ensures { result ≡ slice_get self.now.states number }

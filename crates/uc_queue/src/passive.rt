@@ -211,6 +211,8 @@ impl Passive {
         ensures room { IfSome result (λ _. self.new.spare ≡ self.old.spare + 1) }
         ensures empty { IfNone result (self.old.waiting ≡ []) }
         ensures same { IfNone result (self.new ≡ self.old) }
+        // of every queue
+        ensures modulo { self.old.draws < 5 }
     {
         let slot = next_slot(self.draws, &self.entries, &self.lightest, &self.earliest)?;
         let number = self.entries[slot].number;
@@ -222,5 +224,18 @@ impl Passive {
         );
         self.draws = (self.draws + 1) % 5;
         Some(number)
+    }
+
+    /// Takes a draw back: its number waits again, with this weight, in room that is there, and the draw doesn't count.
+    pub fn undraw(&mut self, weight: u32, number: u64)
+        requires new { IsNew number self.old.waiting }
+        requires room { 1 ≤ self.old.spare }
+        ensures added { self.new.waiting ≡ with_entry (record { weight = weight; number = number }) self.old.waiting }
+        ensures draws { (self.new.draws + 1) % 5 ≡ self.old.draws }
+        ensures modulo { self.new.draws < 5 }
+        ensures room { self.new.spare + 1 ≡ self.old.spare }
+    {
+        self.back(weight, number);
+        self.draws = (self.draws + 4) % 5;
     }
 }

@@ -13,7 +13,7 @@ use std::marker::Model;
 use std::mem::size_of;
 use uc_fact::Origin;
 use uc_ledger::{Ledger, State};
-use uc_queue::Passive;
+use uc_queue::{Entry, Passive};
 
 /// What a pair comes from, and how many nodes its two sides have together.
 #[derive(Clone, Copy)]
@@ -22,8 +22,12 @@ pub struct PairRow {
     pub weight: u32,
 }
 
-// with the 24 bytes of its entry in the queue and the 8 of its state, a pair that waits takes 60
-const _: () = prove!(size_of::<PairRow>() <= 28);
+// a pair takes a row and a state; one that waits takes an entry of the queue and a place in each of its two trees besides
+const _: () = prove!(size_of::<PairRow>() + size_of::<State>() <= 36);
+
+const _: () = prove!(
+    size_of::<PairRow>() + size_of::<State>() + size_of::<Entry>() + 2 * size_of::<u32>() <= 60
+);
 
 /// All pairs, by number, with their states. The queue holds those that wait.
 #[derive(Drop)]
@@ -162,9 +166,28 @@ impl Pairs {
         ensures draws { self.new.draws ≡ next_draws self.old.draws }
         ensures room { self.new.room ≡ self.old.room }
         ensures spare { self.new.spare ≡ self.old.spare + 1 }
+        ensures modulo { self.old.draws < 5 }
     {
         self.queue.draw();
         match self.states.orphan(number) {
+            Ok(()) => (),
+            Err(_) => prove!(false),
+        }
+    }
+
+    /// Takes the last drop back: its pair waits again, and its draw doesn't count.
+    pub fn undrop(&mut self, number: u64)
+        requires orphan { map_option (λ (x : Pair). x.condition) (slice_get self.old.pairs number) ≡ Some Orphan }
+        requires spare { 1 ≤ self.old.spare }
+        ensures pairs { self.new.pairs ≡ change (λ (x : Pair). record x { condition = Waiting }) self.old.pairs number }
+        ensures draws { next_draws self.new.draws ≡ self.old.draws }
+        ensures modulo { self.new.draws < 5 }
+        ensures room { self.new.room ≡ self.old.room }
+        ensures spare { self.new.spare + 1 ≡ self.old.spare }
+    {
+        let weight = self.rows[number as usize].weight;
+        self.queue.undraw(weight, number);
+        match self.states.readmit(number) {
             Ok(()) => (),
             Err(_) => prove!(false),
         }

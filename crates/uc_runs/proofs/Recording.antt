@@ -24,13 +24,13 @@ use Rattle.uc_machine.specs.Runs.{AuditReply, Audits, is_closed, is_spent, is_ke
 use Rattle.uc_machine.specs.State.{Opening, State, Out}
 use Rattle.uc_runs.specs.Later.{Continues, Calls, draws_next, commits_result, reclaims_task, recalls_tasks, audits_missing, closes_drained, Later, no_call, one_more_call, IsRecorded, at_start, by_call}
 
-none : (h : List Event) → Continues h h
+pub none : (h : List Event) → Continues h h
 none h = record { more = []; is = sym (append-nil h) }
 
 one : (h : List Event) (e : Event) → Continues h (h ++ e ∷ [])
 one h e = record { more = e ∷ []; is = refl }
 
-further : (h i j : List Event) → Continues h i → Continues i j → Continues h j
+pub further : (h i j : List Event) → Continues h i → Continues i j → Continues h j
 further h i j a b = record { more = a.more ++ b.more; is = b.is ∙ ap (λ z. z ++ b.more) a.is ∙ append_assoc h a.more b.more }
 
 after_same : (h i j : List Event) → i ≡ j → Continues h j → Continues h i
@@ -100,7 +100,7 @@ closes_record s _ _ _ has_large = one s.history _
 closes_record s _ _ _ has_stuck = one s.history _
 
 module _ (m : Meaning) (o : Opening) where
-  call_records : (s u : State) → Calls m o s u → Continues s.history u.history
+  pub call_records : (s u : State) → Calls m o s u → Continues s.history u.history
   call_records s u (draws_next {r = r} w l d) = draws_record o w s r u d
   call_records s u (commits_result {f = f} t at right c) = commits_record o t f s u c
   call_records s _ (reclaims_task t at) = reclaims_record t s

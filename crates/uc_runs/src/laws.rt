@@ -49,10 +49,10 @@ pub fn mores_go_on<O: Order>(order: &O)
     ensures { (o : Opening) (s : State) → Reaches (O.meaning order.now) o s → MoresGoOn s }
 {}
 
-/// From an end of each goal that is Continued, and of each More that is out, an ordered step is possible by the facts that live
-/// in the front of a task: in some earlier list of entries.
+/// Each goal that is Continued, and each More that is out, has its ends by the commit of a task about it. That task was drawn over
+/// its front, as its event says, and from one of the ends an ordered step is possible by the facts that live there.
 pub fn continued_go_further<O: Order>(order: &O)
-    ensures { (o : Opening) (s : State) → Reaches (O.meaning order.now) o s → ContinuedGoFurther (O.meaning order.now) s }
+    ensures { (o : Opening) (s : State) → Reaches (O.meaning order.now) o s → ContinuedGoFurther (O.meaning order.now) o s }
 {}
 
 /// Each pair that isn't too large comes from an axiom of the problem, a fact that is born, or an overlap that is in the list of

@@ -16,3 +16,4 @@ pub mod Distinct
 pub mod Loads
 pub mod Fits
 pub mod Bounded
+pub mod Endless

@@ -3,14 +3,12 @@
 #![tactic(auto)]
 
 mod computing;
-mod counted;
 mod facts;
 mod laws;
 mod rounds;
 mod working;
 
 pub use computing::compute;
-pub use counted::FinalPasses;
 pub use facts::{all_facts, live_system};
 pub use laws::{limits_have_causes, one_search, search_is_a_run, searches_are_bounded};
 pub use rounds::{search_alone, search_counting};

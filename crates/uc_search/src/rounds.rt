@@ -1,6 +1,6 @@
 //! The rounds of a search.
 
-ghost use Rattle.std.specs.Prelude.{◌≡◌, ℕ, [], Some, IfOk, IfErr, OnOk};
+ghost use Rattle.std.specs.Prelude.{◌≡◌, ◌<◌, ◌^◌, ℕ, [], Some, IfOk, IfErr, OnOk};
 ghost use Rattle.uc_book.specs.Openings.{opening_of};
 ghost use Rattle.uc_book.specs.Answers.{IsSameBook, IsAnEnd};
 ghost use Rattle.uc_machine.specs.Events.{commits_by};
@@ -11,11 +11,11 @@ ghost use Rattle.uc_search.specs.Working.{Counts, IsSamePass};
 ghost use Rattle.uc_search.specs.Searching.{AuditsAll, EndsRound, Searches};
 ghost use Rattle.uc_search.specs.Bounds.{CountedRound, CountedSearch, counted_on};
 
-use crate::counted::{FinalPasses, has_few_passes};
 use crate::working::{Ended, has_few_commits, work_alone};
 use std::alloc::{AllocError, Global};
 use std::sync::Wait;
 use uc_book::{Audited, Book, Pass};
+use uc_final::{FinalPasses, final_pass};
 use uc_machine::{Missing, Outcome, Verdict};
 use uc_order::Order;
 use uc_problem::Encoded;
@@ -74,13 +74,13 @@ pub fn search_counting<R: Wait, O: Order>(
 {
     has_few_commits(book, pass);
     has_few_passes(passes);
-    // Each round adds to the history, which no memory holds at so many rounds.
-    for _ in 0..u64::MAX {
+    for made in 0..u64::MAX {
         if let Some(verdict) = round(rt, alloc, book, shelf, problem, order, pass, passes)? {
             return Ok(verdict);
         }
     }
-    Err(AllocError)
+    has_few_units(book);
+    unreachable!()
 }
 
 /// Works on a book until it is drained or has a verdict, and makes the final pass where it is drained. None where no verdict
@@ -137,7 +137,15 @@ fn end_round<R: Wait, O: Order>(
     let stages = book.stages(alloc)?;
     let front = book.front();
     let axioms = book.axioms();
-    let outcome = passes.make(alloc, shelf, front, axioms, stages.as_slice(), order)?;
+    let outcome = final_pass(
+        alloc,
+        shelf,
+        front,
+        axioms,
+        stages.as_slice(),
+        order,
+        passes,
+    )?;
     match missing_or_end(outcome) {
         Ok(all) => audit_all(rt, alloc, book, all),
         Err(end) => Ok(Some(book.close(&end))),
@@ -186,4 +194,18 @@ fn is_reached<O: Order>(book: &Book<O>)
     ensures { Reaches (O.meaning book.now.order) (opening_of book.now.opening) book.now.state }
 {
     let _events = book.history();
+}
+
+/// The count is a number of its type.
+fn has_few_passes(passes: &FinalPasses)
+    ensures { passes.now < 2 ^ 64 }
+{
+    let _made = passes.made();
+}
+
+/// The units are counted by a number of 32 bits.
+fn has_few_units<O: Order>(book: &Book<O>)
+    ensures { book.now.state.counted < 2 ^ 32 }
+{
+    let _counted = book.counted();
 }

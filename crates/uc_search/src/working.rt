@@ -36,6 +36,9 @@ enum Turn {
     Ends(Ended),
 }
 
+/// More turns than a history can have commits.
+const TURNS: u128 = 1 << 64;
+
 /// Draws task after task and commits the result of each before the next draw, until nothing waits or the book has a verdict.
 /// No task is out when it returns.
 pub fn work_alone<R: Wait, O: Order>(
@@ -59,13 +62,13 @@ pub fn work_alone<R: Wait, O: Order>(
     ensures count { Counts pass.old pass.new book.old.state book.new.state }
 {
     has_few_commits(book, pass);
-    // Each turn adds to the history, which no memory holds at so many turns.
-    for _ in 0..u64::MAX {
+    for turn in 0..TURNS {
         if let Turn::Ends(why) = take_turn(rt, alloc, book, shelf, problem, order, pass) {
             return why;
         }
     }
-    Ended::NoMemory
+    has_few_commits(book, pass);
+    unreachable!()
 }
 
 /// Draws a task and commits its result, or says why there is none.

@@ -11,7 +11,7 @@ use std::alloc::{AllocError, Global};
 use std::sync::Wait;
 use std::test::Fail;
 use uc_book::{Book, CommitFault, Done, Drawn, Opened, Pass, Task, copy_job};
-use uc_final::final_pass;
+use uc_final::{FinalPasses, final_pass};
 use uc_machine::{Outcome, Verdict};
 use uc_order::Order;
 use uc_problem::Encoded;
@@ -187,7 +187,16 @@ fn outcome<O: Order>(
     let stages = book.stages(alloc)?;
     let front = book.front();
     let axioms = book.axioms();
-    let outcome = final_pass(alloc, shelf, front, axioms, stages.as_slice(), order)?;
+    let mut passes = FinalPasses::none();
+    let outcome = final_pass(
+        alloc,
+        shelf,
+        front,
+        axioms,
+        stages.as_slice(),
+        order,
+        &mut passes,
+    )?;
     Ok(outcome)
 }
 

@@ -29,8 +29,8 @@ missing_among-requires-clause-known g c =
     let from : c.as_slice-3.result.now ≡ axioms_from 0 axioms ++ small_ones fs = c.as_slice-3.ensures.value ∙ c.in_ok-origins.ensures ∙ ap (λ l. axioms_from 0 axioms ++ small_ones l) c.as_slice-2.ensures in
     subst (Each (IsKnownOrigin m axioms es)) (sym from) (all_known m es axioms fs (subst (λ js. AllOverlaps m js js fs) is c.in_ok-overlaps.ensures))
 
-pub returns : goal.returns
-returns g c =
+pub returns-clause-outcome : goal.returns-clause-outcome
+returns-clause-outcome g c =
     let m = g.O.Order.meaning c.args.order.now in
     let axioms = c.args.axioms.now in
     let es = c.args.front.now.entries in

@@ -26,24 +26,24 @@ pub drop_orphans-requires-clause-met : goal.drop_orphans-requires-clause-met
 drop_orphans-requires-clause-met c = subst NoneUnmet (sym (with_goals c.args.self.now c.more_jobs.new.goals c.more_jobs.ensures.same).state) c.requires.met
 
 pub drop_orphans-requires-clause-room : goal.drop_orphans-requires-clause-room
-drop_orphans-requires-clause-room c = omega (arith, c.requires.events.events)
+drop_orphans-requires-clause-room c = give_on c.args.self.now (record c.args.self.now { goals = c.more_jobs.new.goals }) refl refl c.requires.events
 
 pub draw_late-requires-clause-can : goal.draw_late-requires-clause-can
 draw_late-requires-clause-can c =
     let p = c.args.self.now in
     let q : Parts = record p { goals = c.more_jobs.new.goals } in
     let e = c.drop_orphans.ensures in
-    let can : CanGive c.args.opening.shelf (opening_of c.args.opening) q = steady_give c.args.opening.shelf (opening_of c.args.opening) p q (with_goals p c.more_jobs.new.goals c.more_jobs.ensures.same) c.requires.can.sound c.requires.can.fit c.requires.can.room (give_on p q refl refl refl c.requires.events) in
-    dropped_give c.args.opening.shelf (opening_of c.args.opening) q c.drop_orphans.new.self can (give_on p q refl refl refl c.requires.events) e.facts e.tasks e.next e.counts.0 e.counts.1 e.numbers e.verdict e.spare e.ticket e.history e.capacity
+    let can : CanGive c.args.opening.shelf (opening_of c.args.opening) q = steady_give c.args.opening.shelf (opening_of c.args.opening) p q (with_goals p c.more_jobs.new.goals c.more_jobs.ensures.same) c.requires.can.sound c.requires.can.fit c.requires.can.room (give_on p q refl refl c.requires.events) in
+    dropped_give c.args.opening.shelf (opening_of c.args.opening) q c.drop_orphans.new.self can c.in_ok-drop_orphans.ensures.room e.others e.spare e.ticket
 
 pub draw_late-requires-clause-more : goal.draw_late-requires-clause-more
 draw_late-requires-clause-more c =
-    let e = c.drop_orphans.ensures in
-    more_later (opening_of c.args.opening) (state_of c.args.self.now) (state_of c.drop_orphans.new.self) (nat_lt (c.args.self.now.counted + c.args.self.now.reserved) c.budget.result) c.in_ok-more.more (ap (λ n. nat_lt (c.args.self.now.counted + c.args.self.now.reserved) n) c.budget.ensures) e.counts.0 e.counts.1
+    let e = c.drop_orphans.ensures.others in
+    more_later (opening_of c.args.opening) (state_of c.args.self.now) (state_of c.drop_orphans.new.self) (nat_lt (c.args.self.now.counted + c.args.self.now.reserved) c.budget.result) c.in_ok-more.more (ap (λ n. nat_lt (c.args.self.now.counted + c.args.self.now.reserved) n) c.budget.ensures) e.counted e.reserved
     (ap (λ gs. first (λ (g : Target). is_continued g.stage) gs) (e.goals ∙ c.more_jobs.ensures.same)) c.in_ok-more.ensures.jobs
 
 pub returns-clause-drawn : goal.returns-clause-drawn
 returns-clause-drawn c =
     let s = (with_goals c.args.self.now c.more_jobs.new.goals c.more_jobs.ensures.same).state in
     subst (λ (x : State). Draws (opening_of c.args.opening) c.args.worker x (reply_of c.args.worker c.draw_late.result) (state_of c.draw_late.new.self)) s
-    (c.drop_orphans.ensures.leads (opening_of c.args.opening) (reply_of c.args.worker c.draw_late.result) (state_of c.draw_late.new.self) c.draw_late.ensures.drawn)
+    (c.in_ok-drop_orphans.ensures.leads (opening_of c.args.opening) (reply_of c.args.worker c.draw_late.result) (state_of c.draw_late.new.self) c.draw_late.ensures.drawn)

@@ -18,7 +18,7 @@ use Rattle.uc_book.proofs.parts.Parts.draw_fact.Goals as goal
 pub give-requires-clause-can : goal.give-requires-clause-can
 give-requires-clause-can c =
     let q : Parts = record c.args.self.now { facts = c.first_unmet.new.self } in
-    steady_give c.args.opening.shelf (opening_of c.args.opening) c.args.self.now q (steady_self c.args.self.now c.first_unmet.new.self c.first_unmet.ensures.same) c.requires.can.sound c.requires.can.fit c.requires.can.room (give_on c.args.self.now q refl refl refl c.requires.events)
+    steady_give c.args.opening.shelf (opening_of c.args.opening) c.args.self.now q (steady_self c.args.self.now c.first_unmet.new.self c.first_unmet.ensures.same) c.requires.can.sound c.requires.can.fit c.requires.can.room (give_on c.args.self.now q refl refl c.requires.events)
 
 pub returns-in-Some-clause-drawn : goal.returns-in-Some-clause-drawn
 returns-in-Some-clause-drawn c =
@@ -44,10 +44,10 @@ draw_behind-requires-clause-met c =
 pub draw_behind-requires-clause-can : goal.draw_behind-requires-clause-can
 draw_behind-requires-clause-can c =
     let q : Parts = record c.args.self.now { facts = c.first_unmet.new.self } in
-    steady_give c.args.opening.shelf (opening_of c.args.opening) c.args.self.now q (steady_self c.args.self.now c.first_unmet.new.self c.first_unmet.ensures.same) c.requires.can.sound c.requires.can.fit c.requires.can.room (give_on c.args.self.now q refl refl refl c.requires.events)
+    steady_give c.args.opening.shelf (opening_of c.args.opening) c.args.self.now q (steady_self c.args.self.now c.first_unmet.new.self c.first_unmet.ensures.same) c.requires.can.sound c.requires.can.fit c.requires.can.room (give_on c.args.self.now q refl refl c.requires.events)
 
 pub draw_behind-requires-clause-events : goal.draw_behind-requires-clause-events
-draw_behind-requires-clause-events c = give_on c.args.self.now (record c.args.self.now { facts = c.first_unmet.new.self }) refl refl refl c.requires.events
+draw_behind-requires-clause-events c = give_on c.args.self.now (record c.args.self.now { facts = c.first_unmet.new.self }) refl refl c.requires.events
 
 pub returns-in-None-clause-drawn : goal.returns-in-None-clause-drawn
 returns-in-None-clause-drawn c =

@@ -62,7 +62,7 @@ pub give-requires-clause-can : goal.give-requires-clause-can
 give-requires-clause-can c =
     let q : Parts = record c.make_room.new.self { goals = c.due_jobs.new.self } in
     steady_give c.args.opening.shelf (opening_of c.args.opening) c.args.self.now q (steady_on c.args.self.now c.make_room.new.self q c.make_room.ensures.steady refl refl refl c.due_jobs.ensures.same refl refl refl refl refl refl refl) c.requires.sound c.requires.fit c.requires.room
-    (give_on c.make_room.new.self q refl refl refl c.in_ok-make_room.ensures.room)
+    (give_on c.make_room.new.self q refl refl c.in_ok-make_room.ensures.room)
 
 pub give-requires-clause-jobs : goal.give-requires-clause-jobs
 give-requires-clause-jobs c = (let a = rw c.in-Some.is at c.in_ok-jobs.ensures.jobs in same_jobs Goal (first (λ (g : Target). is_due g.stage) c.make_room.new.self.goals) c.in-Some.jobs a)
@@ -89,10 +89,10 @@ pub draw_fact-requires-clause-can : goal.draw_fact-requires-clause-can
 draw_fact-requires-clause-can c =
     let q : Parts = record c.make_room.new.self { goals = c.due_jobs.new.self } in
     steady_give c.args.opening.shelf (opening_of c.args.opening) c.args.self.now q (steady_on c.args.self.now c.make_room.new.self q c.make_room.ensures.steady refl refl refl c.due_jobs.ensures.same refl refl refl refl refl refl refl) c.requires.sound c.requires.fit c.requires.room
-    (give_on c.make_room.new.self q refl refl refl c.in_ok-make_room.ensures.room)
+    (give_on c.make_room.new.self q refl refl c.in_ok-make_room.ensures.room)
 
 pub draw_fact-requires-clause-events : goal.draw_fact-requires-clause-events
-draw_fact-requires-clause-events c = give_on c.make_room.new.self (record c.make_room.new.self { goals = c.due_jobs.new.self }) refl refl refl c.in_ok-make_room.ensures.room
+draw_fact-requires-clause-events c = give_on c.make_room.new.self (record c.make_room.new.self { goals = c.due_jobs.new.self }) refl refl c.in_ok-make_room.ensures.room
 
 pub returns-in-Some-clause-task : goal.returns-in-Some-clause-task
 returns-in-Some-clause-task c = (ap (λ (t : Task). t.opening) c.give.ensures.task, ap (λ (t : Task). t.front) c.give.ensures.task ∙ c.make_room.ensures.steady.front)
