@@ -27,9 +27,6 @@ pub record Completes (text : List ℕ) (ts : List Token) (at : ℕ) : Type 0 whe
   pub within : at ≤ length text
   pub from : (rest : Result (List Token) ℕ) → Cut text at rest → Cut text 0 (before ts rest)
 
-pub completes_none : (text : List ℕ) → Completes text [] 0
-completes_none text = record { within = omega arith; from = λ rest cut. cut }
-
 pub completes_gap : (text : List ℕ) (ts : List Token) (at n : ℕ) → Completes text ts at → at < length text → Skips (drop at text) n → Completes text ts (at + n)
 completes_gap text ts at n done some skips = record {
   within = omega (arith, skips.within, length-drop at text);

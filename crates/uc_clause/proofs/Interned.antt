@@ -12,9 +12,6 @@ use Rattle.uc_clause.specs.Interning.{is_entry_of, with_symbol, with_term, with_
 use Rattle.uc_clause.proofs.Means.{append}
 use Rattle.uc_clause.proofs.Stack.{Frame}
 
-yes_and_no : {b : Bool} → b ≡ true → b ≡ false → ⊥
-yes_and_no e f = absurd cc
-
 -- an entry is the one of its own name and arity
 is_own : (name : List ℕ) (arity : ℕ) → is_entry_of name arity (record { name = name; arity = arity }) ≡ true
 is_own name arity = ap₂ (λ a b. a && b) ((bytes_decides name name).1 refl) (eq-eqb arity arity refl)

@@ -110,10 +110,6 @@ unequal_stands rest = unequal_at (33 ∷ 61 ∷ rest) (omega arith) refl refl
 pub blank_skips : (rest : List ℕ) → Skips (32 ∷ rest) 1
 blank_skips rest = white_at (32 ∷ rest) (omega arith) refl
 
--- quoted words
-needs_escape : (b : ℕ) → (b == 92 || b == 39) ≡ true → (b == 92 || b == 39) ≡ true
-needs_escape b e = e
-
 escape_closes : (b : ℕ) (y : List ℕ) → (b == 92 || b == 39) ≡ true → closes 39 (92 ∷ b ∷ y) ≡ closes 39 y
 escape_closes b y e = rw e refl
 

@@ -1,21 +1,16 @@
 -- Where a table has all symbols of what is read, reading leaves it as it is.
-use Rattle.std.proofs.Common.{◌≡◌, ℕ, zero, suc, ◌<◌, List, [], ◌∷◌, ◌++◌, length, slice_get, Some, refl, ap, ◌∙◌, subst, arith}
+use Rattle.std.proofs.Common.{◌≡◌, ℕ, zero, suc, ◌<◌, List, [], ◌∷◌, ◌++◌, length, slice_get, Some, refl, ap, ◌∙◌, arith}
 use Rattle.uc_term.specs.declared.node.Sym.{Sym}
 use Rattle.uc_term.specs.Tree.{Tree, Trees}
 use Rattle.uc_term.specs.Over.{IsOver, AreOver}
 use Rattle.uc_term.specs.Table.{Table, Has, Grows, IsSymbol}
 use Rattle.uc_clause.specs.declared.token.Token.{Token}
 use Rattle.uc_clause.specs.Terminals.{word_at}
-use Rattle.uc_clause.specs.Rules.{Outcome, read}
-use Rattle.uc_clause.specs.Parse.{Parse, Parses, Sides, count_all}
-use Rattle.uc_clause.specs.Items.{equals_alone}
+use Rattle.uc_clause.specs.Parse.{Parse, Parses, count_all}
 use Rattle.uc_clause.specs.Meaning.{Variables, Means, MeanAll, variable_means, functor_means, none_mean, more_mean}
-use Rattle.uc_clause.specs.Interning.{with_symbol, with_term, with_terms, with_sides, InternsEquation}
-use Rattle.uc_clause.specs.Reading.{ReadsEquation}
+use Rattle.uc_clause.specs.Interning.{with_symbol, with_term, with_terms}
 use Rattle.uc_clause.proofs.Means.{count_mean_all}
 use Rattle.uc_clause.proofs.Interned.{symbol_kept}
-use Rattle.uc_clause.proofs.Once.{tokens_once}
-use Rattle.uc_clause.proofs.Alone.{equals_alone_once}
 
 -- what a longer list has at an early place the shorter one has
 get_early : {A : Type 0} (xs ys : List A) (i : ℕ) (x : A) → i < length xs → slice_get (xs ++ ys) i ≡ Some x → slice_get xs i ≡ Some x
@@ -39,16 +34,3 @@ module _ (old new : Table) (grows : Grows old new) (P : Sym → Type 0) (has : (
       terms_kept : {ps : Parses} {ts : Trees} → MeanAll bytes tokens new seen ps ts → AreOver P arity K ts → with_terms bytes tokens old ps ≡ old
       terms_kept none_mean o = refl
       terms_kept (more_mean {ps = ps} m all) o = ap (λ t. with_terms bytes tokens t ps) (term_kept m o.0) ∙ terms_kept all o.1
-
-  same_parse : {p q : Sides} {k l : ℕ} → Path (Outcome Sides) (read p k) (read q l) → p ≡ q
-  same_parse e = cc
-
-  -- an equation of terms whose symbols the old table has
-  pub equation_kept : (word : List ℕ) (sides : Tree × Tree) → InternsEquation word old new → ReadsEquation word new sides → IsOver P arity K sides.0 → IsOver P arity K sides.1 → new ≡ old
-  equation_kept word sides i r left right =
-      let tokens : i.tokens ≡ r.tokens = tokens_once i.are_tokens r.are_tokens in
-      let reads = subst (λ ts. equals_alone word ts 0 (read i.parse i.end)) tokens i.reads in
-      let parses : i.parse ≡ r.parse = same_parse (equals_alone_once word r.tokens 0 (read i.parse i.end) (read r.parse r.end) reads r.reads) in
-      let on_left = term_kept word r.tokens _ r.means.means_left left in
-      let on_right = term_kept word r.tokens _ r.means.means_right right in
-      i.new_is ∙ ap (λ ts. with_sides word ts old i.parse) tokens ∙ ap (with_sides word r.tokens old) parses ∙ ap (λ t. with_term word r.tokens t r.parse.right) on_left ∙ on_right

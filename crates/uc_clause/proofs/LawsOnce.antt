@@ -6,7 +6,7 @@ use Rattle.uc_term.specs.Table.{Table, IsDistinct}
 use Rattle.uc_clause.specs.declared.clause.Item.{Item}
 use Rattle.uc_clause.specs.declared.fault.ClauseFault.{ClauseFault}
 use Rattle.uc_clause.specs.Items.{Items, term_alone, equals_alone}
-use Rattle.uc_clause.specs.Reading.{ReadsBy, Refuses, RefusesFile, is_too_long, isnt_items, SaysItems, SaysTerm, SaysSides, ReadsOrRefusesFile, ReadsOrRefusesTerm, ReadsOrRefusesEquation}
+use Rattle.uc_clause.specs.Reading.{ReadsBy, RefusesFile, is_too_long, isnt_items, SaysItems, SaysTerm, SaysSides, ReadsOrRefusesFile, ReadsOrRefusesTerm, ReadsOrRefusesEquation}
 use Rattle.uc_clause.proofs.Whole.{reads_or_not, refused_once, read_once}
 use Rattle.uc_clause.proofs.Alone.{term_alone_once, equals_alone_once, says_term_once, says_sides_once}
 use Rattle.uc_clause.proofs.ItemsOnce.{items_once, says_items_once}

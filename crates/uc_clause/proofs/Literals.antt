@@ -11,7 +11,7 @@ use Rattle.uc_clause.specs.declared.grammar.literal.Equation.{Equation}
 use Rattle.uc_clause.specs.declared.grammar.stop.Why.TheVariants.{NoSign, NoToken, NoEnd}
 use Rattle.uc_clause.specs.declared.grammar.stop.Stop.{Stop}
 use Rattle.uc_clause.specs.Terminals.{terminal_at, place_at}
-use Rattle.uc_clause.specs.Rules.{stop, Stops, read_or_stop, goes_on, stops_first, is_first, is_second}
+use Rattle.uc_clause.specs.Rules.{stop, Stops, read_or_stop, goes_on, stops_first, is_first}
 use Rattle.uc_clause.specs.Parse.{leaves}
 use Rattle.uc_clause.specs.Terms.{Term}
 use Rattle.uc_clause.specs.Items.{equals, equals_in_brackets, denied, equation, literal, sign_of, Clause, is_bare, is_bracketed, is_not_closed, stops_in_brackets}
@@ -83,12 +83,6 @@ module _ (bytes : List ℕ) (tokens : List Token) (from : ℕ) where
       are_sides = r.are_sides;
     }
 
-  pub equation_is_literal : (seen last_seen : Variables) (new : Table) (e : Equation) → terminal_at bytes tokens from ≢ Tilde → ReadsLiteral (equation bytes tokens) bytes tokens from seen last_seen new e → ReadsLiteral (literal bytes tokens) bytes tokens from seen last_seen new e
-  equation_is_literal seen last_seen new e n r = record { literal = r.literal; reads = is_second n r.reads; positive = r.positive; are_sides = r.are_sides }
-
-  pub equation_stops_literal : (err : Stop) → terminal_at bytes tokens from ≢ Tilde → Stops (equation bytes tokens from) err → Stops (literal bytes tokens from) err
-  equation_stops_literal err n h = passes (equation bytes tokens from) (literal bytes tokens from) err (λ why k s. is_second n s) h
-
   -- behind an opening bracket
   module _ (bracket : terminal_at bytes tokens from ≡ Open) where
     pub bracketed_stops : (err : Stop) → Stops (equals bytes tokens (from + 1)) err → Stops (equals_in_brackets bytes tokens from) err
@@ -151,9 +145,6 @@ module _ (bytes : List ℕ) (tokens : List Token) (from : ℕ) (old : Table) whe
       reads = is_first tilde (goes_on {v = tt} {middle = from + 1} (tilde, refl) (goes_on r.reads refl));
       new_is = r.new_is;
     }
-
-    pub literal_interns : terminal_at bytes tokens from ≢ Tilde → InternsAt (equation bytes tokens from) (with_literal bytes tokens) old new end → InternsAt (literal bytes tokens from) (with_literal bytes tokens) old new end
-    literal_interns n r = record { parse = r.parse; reads = is_second n r.reads; new_is = r.new_is }
 
     pub bracketed_interns : terminal_at bytes tokens from ≡ Open → InternsAt (equals bytes tokens (from + 1)) (with_sides bytes tokens) old new end → terminal_at bytes tokens end ≡ Close → (p : ℕ) → p ≡ end + 1 → InternsAt (equals_in_brackets bytes tokens from) (with_sides bytes tokens) old new p
     bracketed_interns bracket r e p same = subst (λ k. InternsAt (equals_in_brackets bytes tokens from) (with_sides bytes tokens) old new k) (sym same) (record {

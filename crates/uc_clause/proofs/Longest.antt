@@ -260,14 +260,3 @@ stuck_token b bs a kind (suc n) = no_test (spells kind (b ∷ take n bs)) (λ s.
 pub stuck_at : (text : List ℕ) → 0 < length text → Alien (get_or text 0 0) → Stuck text
 stuck_at [] some a = absurd (omega arith)
 stuck_at (b ∷ bs) some a = record { no_gap = λ n fits. stuck_gap b bs a n; no_token = λ block kind n fits. stuck_token b bs a kind n }
-
-pub nothing_at : (text : List ℕ) → length text ≡ 0 → Stuck text
-nothing_at [] none = record { no_gap = λ n fits. refl_gap n; no_token = λ block kind n fits. refl_token kind n } where
-  refl_gap : (n : ℕ) → is_gap (take n []) ≡ false
-  refl_gap zero = refl
-  refl_gap (suc n) = refl
-
-  refl_token : (kind : Kind) (n : ℕ) → spells kind (take n []) ≡ false
-  refl_token kind zero = nothing_spells kind
-  refl_token kind (suc n) = nothing_spells kind
-nothing_at (b ∷ bs) none = absurd (omega arith)

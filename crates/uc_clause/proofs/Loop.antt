@@ -100,9 +100,6 @@ module _ (bytes : List ℕ) (tokens : List Token) (from : ℕ) (seen : Variables
   has : {s : State} → Keeps s → s.behind_term ≡ true → Has s
   has {s} k e = subst (λ b. KeepsAt b s) e k
 
-  pub begins : Keeps (record { at = from; behind_term = false; nodes = []; places = []; pending = []; seen = seen; table = table })
-  begins = record { frames = []; stacked = refl; nodes = refl; places = refl; pending = refl; seen_is = refl; mean = tt; grows = grows_not table; table_is = refl }
-
   names_more : (ks : List ℕ) (k : ℕ) (old : Variables) → old ≡ with_names seen (names_at ks) → with_name old (bytes_at bytes tokens k) ≡ with_names seen (names_at (ks ++ k ∷ []))
   names_more ks k old e = rw (map-append (bytes_at bytes tokens) ks (k ∷ []), with_names_both seen (names_at ks) (bytes_at bytes tokens k ∷ []), e) refl
 

@@ -7,12 +7,12 @@ use Rattle.uc_clause.specs.declared.terminal.Terminal.TheVariants.{End, Comma, C
 use Rattle.uc_clause.specs.declared.grammar.note.Bracket.{Bracket}
 use Rattle.uc_clause.specs.declared.grammar.note.Piece.{Piece}
 use Rattle.uc_clause.specs.declared.grammar.note.Piece.TheVariants.{Behind, Misplaced}
-use Rattle.uc_clause.specs.declared.grammar.stop.Why.TheVariants.{NoToken, NoEnd}
+use Rattle.uc_clause.specs.declared.grammar.stop.Why.TheVariants.{NoToken}
 use Rattle.uc_clause.specs.declared.grammar.stop.Stop.{Stop}
 use Rattle.uc_clause.specs.declared.grammar.stop.Stop.TheVariants.{At, NoMemory}
 use Rattle.uc_clause.specs.Terminals.{terminal_at}
-use Rattle.uc_clause.specs.Rules.{read, Stops, Goes, goes_on, stops_first, is_first, is_second, the}
-use Rattle.uc_clause.specs.Items.{piece_of, piece_at, Rest, Note, is_note, notes, more_notes, first_note}
+use Rattle.uc_clause.specs.Rules.{read, Stops, Goes, goes_on, stops_first, is_first, the}
+use Rattle.uc_clause.specs.Items.{piece_of, piece_at, Rest, Note, is_note, notes, more_notes}
 use Rattle.uc_clause.proofs.Ends.{some_token}
 use Rattle.uc_clause.proofs.Sequences.{passes}
 
@@ -33,24 +33,11 @@ module _ (bytes : List ℕ) (tokens : List Token) (from : ℕ) where
   pub note_reads : (e : Stop) → piece_at bytes tokens [] from ≢ Behind → Stops (Rest bytes tokens [] from) e → Stops (Note bytes tokens from) e
   note_reads e n h = passes (Rest bytes tokens [] from) (Note bytes tokens from) e (λ why k s. is_note n s) h
 
-  first_stops : terminal_at bytes tokens from ≡ Comma → (e : Stop) → Stops (Note bytes tokens (from + 1)) e → Stops (first_note bytes tokens from) e
-  first_stops c e h = passes (Note bytes tokens (from + 1)) (first_note bytes tokens from) e (λ why k s. goes_on {v = tt} {middle = from + 1} (c, refl) (stops_first s)) h
-
   pub notes_comma_stops : terminal_at bytes tokens from ≡ Comma → (e : Stop) → Stops (Note bytes tokens (from + 1)) e → Stops (notes bytes tokens from) e
   notes_comma_stops c e h = passes (Note bytes tokens (from + 1)) (notes bytes tokens from) e (λ why k s. is_first c (goes_on {v = tt} {middle = from + 1} (c, refl) (stops_first s))) h
 
   pub more_comma_stops : terminal_at bytes tokens from ≡ Comma → (e : Stop) → Stops (Note bytes tokens (from + 1)) e → Stops (more_notes bytes tokens from) e
   more_comma_stops c e h = passes (Note bytes tokens (from + 1)) (more_notes bytes tokens from) e (λ why k s. is_first c (goes_on {v = tt} {middle = from + 1} (c, refl) (stops_first s))) h
-
-  pub notes_close : terminal_at bytes tokens from ≢ Comma → (r : Result ℕ Stop) → Goes (the bytes tokens Close NoEnd from) r → Goes (notes bytes tokens from) r
-  notes_close n (Ok end) g = is_second n g
-  notes_close n (Err (At why k)) g = is_second n g
-  notes_close n (Err NoMemory) g = tt
-
-  pub more_close : terminal_at bytes tokens from ≢ Comma → (r : Result ℕ Stop) → Goes (the bytes tokens Close NoToken from) r → Goes (more_notes bytes tokens from) r
-  more_close n (Ok end) g = is_second n g
-  more_close n (Err (At why k)) g = is_second n g
-  more_close n (Err NoMemory) g = tt
 
   pub notes_first : terminal_at bytes tokens from ≡ Comma → (middle : ℕ) → Note bytes tokens (from + 1) (read tt middle) → (r : Result ℕ Stop) → Goes (more_notes bytes tokens middle) r → Goes (notes bytes tokens from) r
   notes_first c middle x (Ok end) g = is_first c (goes_on {v = tt} {middle = from + 1} (c, refl) (goes_on {v = tt} x g))

@@ -2,7 +2,7 @@
 use Rattle.std.proofs.Common.{◌≡◌, ℕ, zero, suc, ◌+◌, ◌-◌, ◌<◌, ◌≤◌, List, [], ◌∷◌, length, take, drop, length-drop, refl, sym, ap, ◌∙◌, subst, arith, Bool, true, false, not, ◌&&◌, ◌||◌}
 use Rattle.std.specs.Prelude.{◌==◌, nat_le}
 use Rattle.std.specs.List.{list_all}
-use Rattle.std.specs.Prelude.{Result, Ok, Err, Option, Some, slice_get}
+use Rattle.std.specs.Prelude.{Result, Ok, Err}
 use Rattle.std.specs.Result.{IfOk}
 use Rattle.std.proofs.lemmas.Result.{IfOk-weaker}
 use Rattle.std.proofs.lemmas.Bool.{both_ways, and_parts, and_from, le-leb}
@@ -11,7 +11,7 @@ use Rattle.uc_clause.specs.declared.token.Kind.{Kind}
 use Rattle.uc_clause.specs.declared.token.Kind.TheVariants.{Lower, Upper, Quoted, Distinct, Integer, Dollar, Unequal, Mark}
 use Rattle.uc_clause.specs.declared.token.Token.{Token}
 use Rattle.uc_clause.specs.declared.token.Place.{Place}
-use Rattle.uc_clause.specs.Tokens.{Cut, end, gap, token, stuck, onto, token_at, Stands, Skips, Stuck, spells, Spans, AreTokens, StopsAt, IsWithin, place_of}
+use Rattle.uc_clause.specs.Tokens.{Cut, end, gap, token, stuck, onto, token_at, Stands, Skips, Stuck, spells, Spans, AreTokens, StopsAt, place_of}
 use Rattle.uc_clause.specs.Bytes.{is_gap, is_lower, is_upper, is_digit, is_sign, is_white, is_word, is_mark, is_name, closes, opens_block}
 
 -- the first byte of a token, and how many bytes it may have
@@ -168,12 +168,3 @@ cut_spans (end h) = tt
 cut_spans {text} {at} {r} (gap {n = n} h s cut) = IfOk-weaker r (λ ts. Spans text (at + n) ts) (λ ts. Spans text at ts) (λ ts. spans_from text at (at + n) ts (omega arith)) (cut_spans cut)
 cut_spans {text} {at} (token {n = n} {kind = kind} {rest = rest} h s cut) = spans_onto text at n kind rest s (cut_spans cut)
 cut_spans (stuck h s) = tt
-
-some_once : (t u : Token) → Path (Option Token) (Some t) (Some u) → t ≡ u
-some_once t u e = cc
-
--- each of them is within the text
-pub span_at : (text : List ℕ) (at : ℕ) (ts : List Token) (i : ℕ) (t : Token) → Spans text at ts → slice_get ts i ≡ Some t → IsWithin text t
-span_at text at [] i t spans e = cc
-span_at text at (u ∷ ts) zero t spans e = subst (IsWithin text) (some_once u t e) (spans.1, spans.2)
-span_at text at (u ∷ ts) (suc i) t spans e = span_at text u.to ts i t spans.5 e

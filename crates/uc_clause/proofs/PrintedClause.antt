@@ -108,9 +108,6 @@ role_name Corollary = refl
 role_name Plain = refl
 role_name NegatedConjecture = refl
 
-mark_apart : (b : ℕ) (ps : List Piece) → Stands (b ∷ joined ps) Mark 1 → AreApart ps → AreApart (lexeme Mark (b ∷ []) ∷ ps)
-mark_apart b ps s apart = (s, apart)
-
 close_apart : (ps : List Piece) → AreApart ps → AreApart (close_pieces ps)
 close_apart ps apart = (mark_stands 41 (46 ∷ joined ps) refl refl (λ h. omega arith) (λ h. omega arith) (λ h. omega arith), (mark_stands 46 (joined ps) refl refl (λ h. omega arith) (λ h. omega arith) (λ h. omega arith), apart))
 

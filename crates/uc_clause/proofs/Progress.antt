@@ -100,9 +100,6 @@ module _ (bytes : List ℕ) (tokens : List Token) where
   pub term_ahead : GoesAhead (items.term bytes tokens)
   term_ahead at o x = term_ahead_at x
 
-  term_not_back : GoesNotBack (items.term bytes tokens)
-  term_not_back = not_back (items.term bytes tokens) term_ahead
-
   token_then : {W : Type 0} (terminal : Terminal) (why : Why) (next : Unit {0} → Rule W) → ((u : Unit {0}) → GoesNotBack (next u)) → GoesAhead (Then (the bytes tokens terminal why) next)
   token_then terminal why next b = ahead_then (the bytes tokens terminal why) next (the_ahead terminal why) b
 
@@ -111,9 +108,6 @@ module _ (bytes : List ℕ) (tokens : List Token) where
 
   term_then : {W : Type 0} (next : Parse → Rule W) → ((p : Parse) → GoesNotBack (next p)) → GoesAhead (Then (items.term bytes tokens) next)
   term_then next b = ahead_then (items.term bytes tokens) next term_ahead b
-
-  sign_not_back : (first : ℕ) → GoesNotBack (items.sign bytes tokens first)
-  sign_not_back first = not_back (items.sign bytes tokens first) (λ at o x. pick_ahead_at _ _ at o x)
 
   last_term : {W : Type 0} (next : Parse → Rule W) → ((p : Parse) → GoesNotBack (next p)) → GoesNotBack (Then (items.term bytes tokens) next)
   last_term next b = not_back (Then (items.term bytes tokens) next) (term_then next b)

@@ -118,11 +118,6 @@ ends_here (c ∷ x) h zero g = g
 ends_here (c ∷ x) (inl h) (suc n) g = cc
 ends_here (c ∷ x) (inr h) (suc n) g = both_ways (c == 39) g (eq-eqb c 39 h)
 
-pub quoted_lone : (text : List ℕ) → length text ≡ 1 → get_or text 0 0 ≡ 39 → Stuck text
-quoted_lone [] one e = absurd (omega arith)
-quoted_lone (b ∷ []) one e = stuck_quote b [] GoesOn (inl e) (λ kind y t. goes_on_only b y kind e t) (ends_here [] (inl refl))
-quoted_lone (b ∷ c ∷ x) one e = absurd (omega arith)
-
 pub quoted_empty : (text : List ℕ) → 0 < length text → get_or text 0 0 ≡ 39 → (length text ≡ 1 → ⊥) → get_or text 1 0 ≡ 39 → Stuck text
 quoted_empty [] some e l k = absurd (omega arith)
 quoted_empty (b ∷ []) some e l k = absurd (l (omega arith))

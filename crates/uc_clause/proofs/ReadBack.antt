@@ -12,7 +12,6 @@ use Rattle.uc_term.specs.Variables.{variables, variables_all}
 use Rattle.uc_term.proofs.Terms.{nodes_pos}
 use Rattle.uc_clause.specs.declared.token.Kind.TheVariants.{Upper, Mark}
 use Rattle.uc_clause.specs.declared.token.Token.{Token}
-use Rattle.uc_clause.specs.declared.terminal.Terminal.{Terminal}
 use Rattle.uc_clause.specs.declared.terminal.Terminal.TheVariants as terminal
 use Rattle.uc_clause.specs.declared.grammar.head.Head.TheVariants.{Functor}
 use Rattle.uc_clause.specs.Bytes.{is_name}
@@ -102,9 +101,6 @@ module _ (table : Table) (text : List ℕ) (tokens : List Token) where
         let behind = passed t (at + 1) (pos + 1) (rest_pieces table ts ps) printable.0 comma.next in
         let rest = passed_rest ts (at + 1 + width t) behind.0 ps printable.1 behind.1 in
         (rest.0, moved text tokens (at + 1 + width t + rest_width ts) (at + (1 + width t + rest_width ts)) rest.0 ps (omega arith) rest.1)
-
-  no_open_mark : (t : Terminal) → t ≢ terminal.Open → (at : ℕ) → terminal_at text tokens at ≡ t → terminal_at text tokens at ≢ terminal.Open
-  no_open_mark t n at e h = n (sym e ∙ h)
 
   -- behind an argument no bracket opens
   not_open : (ts : Trees) (at pos : ℕ) (ps : List Piece) → Here text tokens at pos (rest_pieces table ts ps) → terminal_at text tokens at ≢ terminal.Open
