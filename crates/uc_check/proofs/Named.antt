@@ -100,7 +100,3 @@ pub all_named : (parents : List ℕ) (steps : List LineStep) (index named : ℕ)
 all_named parents steps index named n h =
     let e = named_all parents steps index named n h in
     (λ q. sym (e ∙ take-whole parents named q), λ q. whole-take parents named n.within (q ∙ e))
-
--- a test that is made one parent after another
-pub among_any : (x : ℕ) (xs : List ℕ) (b : Bool) → is_among x xs ≡ b → is_among x xs ≡ b
-among_any x xs b e = e

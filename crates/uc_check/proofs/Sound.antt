@@ -1,5 +1,5 @@
 -- What right lines say follows from the premises, so a refutation shows that a goal follows from the axioms.
-use Rattle.std.proofs.Common.{◌≡◌, ℕ, zero, suc, ◌<◌, ◌⊎◌, inl, inr, Bool, true, false, if◌then◌else◌, List, [], ◌∷◌, length, map, slice_get, Option, Some, None, option_and_then, Ok, refl, sym, ap₂, ◌∙◌, subst, arith}
+use Rattle.std.proofs.Common.{◌≡◌, ℕ, zero, suc, ◌<◌, ◌⊎◌, inl, inr, Bool, true, false, if◌then◌else◌, List, [], ◌∷◌, length, map, slice_get, Option, Some, None, option_and_then, Result, Ok, Err, refl, sym, ap₂, ◌∙◌, subst, arith}
 use Rattle.uc_term.specs.declared.fresh.Fresh.{Fresh}
 use Rattle.uc_term.specs.declared.equation.Equation.{Equation}
 use Rattle.uc_term.specs.Tree.{Tree, var, app, Trees, none, more, apply, apply_all}
@@ -17,8 +17,10 @@ use Rattle.uc_check.specs.declared.proof.LineSource.{LineSource}
 use Rattle.uc_check.specs.declared.proof.LineSource.TheVariants.{File, Chain, Reflexive, EncodeGoal, Refute}
 use Rattle.uc_check.specs.Clauses.{equation_of, axioms_of, goals_of, premises_of, AreFresh, HasGoalIfEncoded}
 use Rattle.uc_check.specs.Variants.{renamed}
-use Rattle.uc_check.specs.Replacements.{IsRefutation, from_side, to_side, IsReplacement, Leads, arrives, goes_on}
-use Rattle.uc_check.specs.Lines.{IsClause, IsFile, IsChain, AreEarlier, ReadsReflexive, ReadsGoal, RefutesGround, Tested, file_right, chain_right, reflexive_right, goal_right, refute_right}
+use Rattle.uc_check.specs.Replacements.{IsRefutation, from_side, to_side, IsReplacement, Leads}
+use Rattle.uc_check.specs.Tests.{Test, passes}
+use Rattle.uc_check.specs.Lines.{IsClause, IsFile, IsChain, AreEarlier, ReadsReflexive, ReadsGoal, RefutesGround, RefutesEncoded, EndsRight, Tested}
+use Rattle.uc_check.specs.declared.checker.Cause.{Cause}
 use Rattle.uc_check.specs.declared.checker.Checked.{Checked}
 use Rattle.uc_check.specs.declared.checker.Checked.TheVariants.{Accepted}
 use Rattle.uc_check.specs.Checks.{AreRightBefore, EndsInRefutation, IsChecked, accepted, rejected, no_line, no_refutation}
@@ -66,6 +68,13 @@ goal_from (c ∷ cs) j e h = go (λ i x. goal_from cs i e x) c.clause.positive j
     go rec true j h = later (rec j h)
     go rec false zero h = (0, c, refl, cc)
     go rec false (suc j) h = later (rec j h)
+
+-- what passes all tests passes the first, and those behind it
+passed : {P : Type 0} {cause : Cause} {behind : Option Cause → Type 0} → Test P (Some cause) behind None → P × behind None
+passed (passes p x) = (p, x)
+
+stepped : {P : Type 0} {cause : Cause} {behind : Result Tree Cause → Type 0} {end : Tree} → Test P (Err cause) behind (Ok end) → P × behind (Ok end)
+stepped (passes p x) = (p, x)
 
 -- a conversion of a subterm is one of the term
 module _ (es : List Equation) where
@@ -133,9 +142,12 @@ module _ (clauses : List Sourced) (fresh : Option Fresh) (lines : List Line) whe
       let d : Conv Es r.part (apply r.σ (to_side step.left_to_right r.line)) = subst (λ (t : Tree). Conv Es t (apply r.σ (to_side step.left_to_right r.line))) r.from_is (Conv-apply Es r.σ c) in
       subst (λ (t : Tree). Conv Es before t) r.to_is (conv_within Es step.path before r.part (apply r.σ (to_side step.left_to_right r.line)) r.part_is d)
 
-  leads_says : (k : ℕ) → ((j : ℕ) → j < k → Says j) → {t end : Tree} {steps : List LineStep} → Leads lines k t steps (Ok end) → Conv Es t end
-  leads_says k says arrives = Conv-refl Es _
-  leads_says k says (goes_on {t = t} {step = step} h r l) = Conv-trans Es (replaces k t step says h r) (leads_says k says l)
+  leads_says : (k : ℕ) → ((j : ℕ) → j < k → Says j) → (t end : Tree) (steps : List LineStep) → Leads lines k t steps (Ok end) → Conv Es t end
+  leads_says k says t end [] e = let same : end ≡ t = cc in rw same (Conv-refl Es t)
+  leads_says k says t end (step ∷ steps) x =
+      let earlier = stepped x in
+      let replaced = stepped earlier.1 in
+      Conv-trans Es (replaces k t step says earlier.0 replaced.0) (leads_says k says step.to end steps replaced.1)
 
 reflexive_conv : (m : Fresh) (clauses : List Sourced) → Conv (premises_of (Some m) clauses) (pair_term m (var 0) (var 0)) (yes_term m)
 reflexive_conv m clauses =
@@ -164,12 +176,9 @@ no_chain_refutes (Refute parents) c r = c
 
 module _ (clauses : List Sourced) (fresh : Option Fresh) (lines : List Line) where
   -- a file line that is right has a clause of the problem
-  file_clause : {k : ℕ} {line : Line} {source : LineSource} → Tested clauses fresh lines k line source None → IsFile source → (name : Name) × IsClause clauses name line.positive line.left line.right
-  file_clause (file_right {name = name} c) f = (name, c)
-  file_clause (chain_right s p e n) f = absurd f
-  file_clause (reflexive_right e r) f = absurd f
-  file_clause (goal_right e r) f = absurd f
-  file_clause (refute_right e r) f = absurd f
+  file_clause : (k : ℕ) (line : Line) (source : LineSource) → Tested clauses fresh lines k line source None → IsFile source → (name : Name) × IsClause clauses name line.positive line.left line.right
+  file_clause k line (File name) x f = (name, (passed x).0)
+  file_clause k line source x f = absurd f
 
   abbrev RightBefore : ℕ → Type 0
   RightBefore k = AreRightBefore clauses fresh lines k
@@ -185,7 +194,7 @@ module _ (clauses : List Sourced) (fresh : Option Fresh) (lines : List Line) whe
 
   goal_says : (k : ℕ) (parents : List ℕ) (line : Line) → RightBefore k → AreEarlier k parents → ReadsGoal fresh lines parents line → Conv (premises_of fresh clauses) line.left line.right
   goal_says k parents line before e r =
-      let c = file_clause (before r.parent (earlier k parents r.parent [] r.parents_are e) r.goal r.goal_is) r.reads.denial.0 in
+      let c = file_clause r.parent r.goal r.goal.source (before r.parent (earlier k parents r.parent [] r.parents_are e) r.goal r.goal_is) r.reads.denial.0 in
       let s = c.1.sourced.clause in
       let at = goal_in clauses c.1.number c.1.sourced c.1.sourced_is (c.1.same.polarity ∙ r.reads.denial.1) in
       let es = premises_of (Some r.marks) clauses in
@@ -195,12 +204,16 @@ module _ (clauses : List Sourced) (fresh : Option Fresh) (lines : List Line) whe
       let four : Conv es line.left line.right = rw (← r.reads.variants.left_forth, ← r.reads.variants.right_forth) three in
       subst (λ (f : Option Fresh). Conv (premises_of f clauses) line.left line.right) (sym r.marks_are) four
 
-  by_source : (k : ℕ) (line : Line) {source : LineSource} → RightBefore k → SaysBefore k → Tested clauses fresh lines k line source None → line.positive ≡ true → (IsRefutation source → ⊥) → Conv (premises_of fresh clauses) line.left line.right
-  by_source k line before says (file_right {name = name} c) p n = file_says clauses fresh lines name line p c
-  by_source k line before says (chain_right {end = end} s l e q) p n = let c = leads_says clauses fresh lines k says l in rw (← s, ← e) c
-  by_source k line before says (reflexive_right {parents = ps} e r) p n = reflexive_says ps line r
-  by_source k line before says (goal_right {parents = ps} e r) p n = goal_says k ps line before e r
-  by_source k line before says (refute_right e r) p n = absurd (n tt)
+  by_source : (k : ℕ) (line : Line) (source : LineSource) → RightBefore k → SaysBefore k → Tested clauses fresh lines k line source None → line.positive ≡ true → (IsRefutation source → ⊥) → Conv (premises_of fresh clauses) line.left line.right
+  by_source k line (File name) before says x p n = file_says clauses fresh lines name line p (passed x).0
+  by_source k line (Chain start steps parents) before says x p n = chain_says (passed x).1.end (passed x).1.leads (passed x).1.ends
+    where
+      chain_says : (end : Result Tree Cause) → Leads lines k start steps end → EndsRight clauses fresh lines k line steps parents end None → Conv (premises_of fresh clauses) line.left line.right
+      chain_says (Ok end) l e = let c = leads_says clauses fresh lines k says start end steps l in rw (← (passed x).0, ← (passed e).0) c
+      chain_says (Err cause) l e = absurd cc
+  by_source k line (Reflexive parents) before says x p n = reflexive_says parents line (passed (passed x).1).0
+  by_source k line (EncodeGoal parents) before says x p n = goal_says k parents line before (passed x).0 (passed (passed x).1).0
+  by_source k line (Refute parents) before says x p n = absurd (n tt)
 
   pub says_all : (n : ℕ) → RightBefore n → SaysBefore n
   says_all zero right k h = absurd (omega arith)
@@ -211,7 +224,7 @@ module _ (clauses : List Sourced) (fresh : Option Fresh) (lines : List Line) whe
 
       go : (k < n) ⊎ (n ≡ k) → SaysBefore n → Says clauses fresh lines k
       go (inl l) says = says k l
-      go (inr e) says = subst (Says clauses fresh lines) e (λ line at p not. by_source n line (λ j i. right j (omega arith)) says (right n (omega arith) line at) p not)
+      go (inr e) says = subst (Says clauses fresh lines) e (λ line at p not. by_source n line line.source (λ j i. right j (omega arith)) says (right n (omega arith) line at) p not)
 
 axioms_lack : (m : Fresh) (clauses : List Sourced) → AreFresh (Some m) clauses → LackAll m (axioms_of clauses)
 axioms_lack m clauses are j e h =
@@ -240,7 +253,7 @@ module _ (clauses : List Sourced) (fresh : Option Fresh) (lines : List Line) (ar
   ground_follows k parents before e r =
       let first = earlier k parents r.first (r.second ∷ []) r.parents_are e in
       let second = later_earlier k parents r.first r.second r.parents_are e in
-      let c = file_clause clauses fresh lines (before r.first first r.goal r.goal_is) r.shows.denial.0 in
+      let c = file_clause clauses fresh lines r.first r.goal r.goal.source (before r.first first r.goal r.goal_is) r.shows.denial.0 in
       let s = c.1.sourced.clause in
       let ρ = c.1.same.variants.forth in
       let at = goal_in clauses c.1.number c.1.sourced c.1.sourced_is (c.1.same.polarity ∙ r.shows.denial.1) in
@@ -255,20 +268,20 @@ module _ (clauses : List Sourced) (fresh : Option Fresh) (lines : List Line) (ar
       let c' : Conv (premises_of (Some m) clauses) (yes_term m) (no_term m) = subst (λ (f : Option Fresh). Conv (premises_of f clauses) (yes_term m) (no_term m)) e c in
       goal_follows m (axioms_of clauses) (goals_of clauses) are'.0 (axioms_lack m clauses are') (goals_lack m clauses are') has' c'
 
-  refuted_follows : (k : ℕ) (line : Line) {source : LineSource} → AreRightBefore clauses fresh lines k → Tested clauses fresh lines k line source None → IsRefutation source → Aim
-  refuted_follows k line before (file_right c) r = absurd r
-  refuted_follows k line before (chain_right s p e n) r = absurd r
-  refuted_follows k line before (reflexive_right e h) r = absurd r
-  refuted_follows k line before (goal_right e h) r = absurd r
-  refuted_follows k line before (refute_right {parents = ps} e (inl g)) r = ground_follows k ps before e g
-  refuted_follows k line before (refute_right {parents = ps} e (inr g)) r =
-      let says = says_all clauses fresh lines k before g.parent (earlier k ps g.parent [] g.parents_are e) g.chain g.chain_is g.shows.derived.1 (no_chain_refutes g.chain.source g.shows.derived.0) in
-      encoded_follows g.marks g.marks_are (rw (← g.shows.left_is, ← g.shows.right_is) says)
+  refuted_follows : (k : ℕ) (line : Line) (source : LineSource) → AreRightBefore clauses fresh lines k → Tested clauses fresh lines k line source None → IsRefutation source → Aim
+  refuted_follows k line (Refute parents) before x r = shown (passed x).0 (passed (passed x).1).0
+    where
+      shown : AreEarlier k parents → RefutesGround lines parents ⊎ RefutesEncoded fresh lines parents → Aim
+      shown e (inl g) = ground_follows k parents before e g
+      shown e (inr g) =
+          let says = says_all clauses fresh lines k before g.parent (earlier k parents g.parent [] g.parents_are e) g.chain g.chain_is g.shows.derived.1 (no_chain_refutes g.chain.source g.shows.derived.0) in
+          encoded_follows g.marks g.marks_are (rw (← g.shows.left_is, ← g.shows.right_is) says)
+  refuted_follows k line source before x r = absurd r
 
   pub goal_shown : AreRightBefore clauses fresh lines (length lines) → EndsInRefutation lines → Aim
   goal_shown right end =
       let inside : end.last < length lines = let l = end.last_is in omega arith in
-      refuted_follows end.last end.line (λ j h. right j (let l = end.last_is in omega arith)) (right end.last inside end.line end.line_is) end.refutes
+      refuted_follows end.last end.line end.line.source (λ j h. right j (let l = end.last_is in omega arith)) (right end.last inside end.line end.line_is) end.refutes
 
 -- an answer that says accepted has found a goal that follows
 pub accepted_follows : (clauses : List Sourced) (fresh : Option Fresh) (lines : List Line) → AreFresh fresh clauses → HasGoalIfEncoded fresh clauses → (answer : Checked) → IsChecked clauses fresh lines answer → answer ≡ Accepted → SomeFollows (axioms_of clauses) (goals_of clauses)

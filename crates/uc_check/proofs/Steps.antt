@@ -8,7 +8,8 @@ use Rattle.uc_check.specs.declared.proof.Line.{Line}
 use Rattle.uc_check.specs.declared.proof.LineStep.{LineStep}
 use Rattle.uc_check.specs.declared.checker.Cause.{Cause}
 use Rattle.uc_check.specs.declared.checker.Cause.TheVariants.{NotEarlier, NotAReplacement}
-use Rattle.uc_check.specs.Replacements.{IsRefutation, from_side, to_side, IsReplacement, ReplacesAt, Leads, arrives, not_earlier, no_replacement, goes_on, chain_end}
+use Rattle.uc_check.specs.Replacements.{IsRefutation, from_side, to_side, IsReplacement, ReplacesAt, Leads, chain_end}
+use Rattle.uc_check.specs.Tests.{passes, fails}
 
 -- a replacement by the named line is one at the place that the position names
 module _ (lines : List Line) (before : Tree) (step : LineStep) (line : Line) (line_is : slice_get lines step.by ≡ Some line) (positive : line.positive ≡ true) (equation : IsRefutation line.source → ⊥) (place : ℕ) (at : IsPlaceOf before step.path place) (way : Bool) (way_is : step.left_to_right ≡ way) where
@@ -50,18 +51,18 @@ Back lines k before rest start steps = (end : Result Tree Cause) → Leads lines
 
 module _ (lines : List Line) (k : ℕ) (start before : Tree) (steps rest behind : List LineStep) (step : LineStep) (back : Back lines k before rest start steps) (at : rest ≡ step ∷ behind) where
   pub stops_early : k ≤ step.by → Leads lines k start steps (Err NotEarlier)
-  stops_early h = back (Err NotEarlier) (subst (λ (l : List LineStep). Leads lines k before l (Err NotEarlier)) (sym at) (not_earlier (λ b. absurd (omega arith))))
+  stops_early h = back (Err NotEarlier) (subst (λ (l : List LineStep). Leads lines k before l (Err NotEarlier)) (sym at) (fails (λ b. absurd (omega arith))))
 
   pub stops_wrong : step.by < k → (IsReplacement lines before step → ⊥) → Leads lines k start steps (Err NotAReplacement)
-  stops_wrong h n = back (Err NotAReplacement) (subst (λ (l : List LineStep). Leads lines k before l (Err NotAReplacement)) (sym at) (no_replacement h n))
+  stops_wrong h n = back (Err NotAReplacement) (subst (λ (l : List LineStep). Leads lines k before l (Err NotAReplacement)) (sym at) (passes h (fails n)))
 
   pub steps_on : step.by < k → IsReplacement lines before step → Back lines k step.to behind start steps
-  steps_on h r end l = back end (subst (λ (s : List LineStep). Leads lines k before s end) (sym at) (goes_on h r l))
+  steps_on h r end l = back end (subst (λ (s : List LineStep). Leads lines k before s end) (sym at) (passes h (passes r l)))
 
 pub all_stepped : (lines : List Line) (k : ℕ) (start before : Tree) (steps rest : List LineStep) → Back lines k before rest start steps → rest ≡ [] → chain_end start steps ≡ chain_end before rest → Leads lines k start steps (Ok (chain_end start steps))
 all_stepped lines k start before steps rest back none same =
     let end : before ≡ chain_end start steps = sym (same ∙ ap (chain_end before) none) in
-    subst (λ (t : Tree). Leads lines k start steps (Ok t)) end (back (Ok before) (subst (λ (s : List LineStep). Leads lines k before s (Ok before)) (sym none) arrives))
+    subst (λ (t : Tree). Leads lines k start steps (Ok t)) end (back (Ok before) (subst (λ (s : List LineStep). Leads lines k before s (Ok before)) (sym none) refl))
 
 -- the last step's term is the chain's last term
 ends_at : (start : Tree) (steps : List LineStep) (n : ℕ) (step : LineStep) → n + 1 ≡ length steps → slice_get steps n ≡ Some step → step.to ≡ chain_end start steps

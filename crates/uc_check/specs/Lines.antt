@@ -1,5 +1,5 @@
 -- When a line of a proof is right, and else which of its tests is the first that fails.
-use Rattle.std.specs.Prelude.{ℕ, ◌≡◌, ◌<◌, ◌⊎◌, Bool, true, false, ◌||◌, List, [], ◌∷◌, map, slice_get, Option, Some, None, Ok, Err}
+use Rattle.std.specs.Prelude.{ℕ, ◌≡◌, ◌<◌, ◌⊎◌, Bool, true, false, ◌||◌, List, [], ◌∷◌, map, slice_get, Option, Some, None, Result, Ok, Err}
 use Rattle.uc_term.specs.declared.fresh.Fresh.{Fresh}
 use Rattle.uc_term.specs.Tree.{Tree, var}
 use Rattle.uc_term.specs.Variables.{firsts, has_variable}
@@ -15,6 +15,7 @@ use Rattle.uc_check.specs.declared.checker.Cause.{Cause}
 use Rattle.uc_check.specs.declared.checker.Cause.TheVariants.{NotAProblemClause, NotEarlier, EndsDiffer, WrongParents, NoGoal}
 use Rattle.uc_check.specs.Variants.{AreVariants}
 use Rattle.uc_check.specs.Replacements.{Leads}
+use Rattle.uc_check.specs.Tests.{Test}
 
 -- the clause has this name, this polarity and this equation, sides in order, up to a renaming
 pub record SaysSame (clause : Clause) (name : Name) (positive : Bool) (l r : Tree) : Type 0 where
@@ -119,22 +120,25 @@ pub record RefutesEncoded (fresh : Option Fresh) (lines : List Line) (parents : 
   pub chain_is : slice_get lines parent ≡ Some chain
   pub shows : ShowsFalse marks chain
 
+-- no test is left
+abbrev pub Passed : Option Cause → Type 0
+Passed outcome = outcome ≡ None
+
 -- The outcome of the tests of line k, in their order: None where all are passed, and else the cause of the first that fails.
 module _ (clauses : List Sourced) (fresh : Option Fresh) (lines : List Line) (k : ℕ) (line : Line) where
-  pub data Tested : LineSource → Option Cause → Type 0 where
-    file_right : {name : Name} → IsClause clauses name line.positive line.left line.right → Tested (File name) None
-    file_wrong : {name : Name} → (IsClause clauses name line.positive line.left line.right → ⊥) → Tested (File name) (Some NotAProblemClause)
-    chain_right : {start end : Tree} {steps : List LineStep} {parents : List ℕ} → start ≡ line.left → Leads lines k start steps (Ok end) → end ≡ line.right → parents ≡ named_by steps → Tested (Chain start steps parents) None
-    chain_start : {start : Tree} {steps : List LineStep} {parents : List ℕ} → (start ≡ line.left → ⊥) → Tested (Chain start steps parents) (Some EndsDiffer)
-    chain_step : {start : Tree} {steps : List LineStep} {parents : List ℕ} {cause : Cause} → start ≡ line.left → Leads lines k start steps (Err cause) → Tested (Chain start steps parents) (Some cause)
-    chain_end : {start end : Tree} {steps : List LineStep} {parents : List ℕ} → start ≡ line.left → Leads lines k start steps (Ok end) → (end ≡ line.right → ⊥) → Tested (Chain start steps parents) (Some EndsDiffer)
-    chain_parents : {start end : Tree} {steps : List LineStep} {parents : List ℕ} → start ≡ line.left → Leads lines k start steps (Ok end) → end ≡ line.right → (parents ≡ named_by steps → ⊥) → Tested (Chain start steps parents) (Some WrongParents)
-    reflexive_right : {parents : List ℕ} → AreEarlier k parents → ReadsReflexive fresh parents line → Tested (Reflexive parents) None
-    reflexive_early : {parents : List ℕ} → (AreEarlier k parents → ⊥) → Tested (Reflexive parents) (Some NotEarlier)
-    reflexive_wrong : {parents : List ℕ} → AreEarlier k parents → (ReadsReflexive fresh parents line → ⊥) → Tested (Reflexive parents) (Some NotAProblemClause)
-    goal_right : {parents : List ℕ} → AreEarlier k parents → ReadsGoal fresh lines parents line → Tested (EncodeGoal parents) None
-    goal_early : {parents : List ℕ} → (AreEarlier k parents → ⊥) → Tested (EncodeGoal parents) (Some NotEarlier)
-    goal_wrong : {parents : List ℕ} → AreEarlier k parents → (ReadsGoal fresh lines parents line → ⊥) → Tested (EncodeGoal parents) (Some NotAProblemClause)
-    refute_right : {parents : List ℕ} → AreEarlier k parents → RefutesGround lines parents ⊎ RefutesEncoded fresh lines parents → Tested (Refute parents) None
-    refute_early : {parents : List ℕ} → (AreEarlier k parents → ⊥) → Tested (Refute parents) (Some NotEarlier)
-    refute_wrong : {parents : List ℕ} → AreEarlier k parents → (RefutesGround lines parents → ⊥) → (RefutesEncoded fresh lines parents → ⊥) → Tested (Refute parents) (Some NoGoal)
+  -- where a chain's steps lead to a term: it is the right side, and the parents are the lines that the steps name
+  abbrev pub EndsRight : List LineStep → List ℕ → Result Tree Cause → Option Cause → Type 0
+  EndsRight steps parents (Ok end) outcome = Test (end ≡ line.right) (Some EndsDiffer) (Test (parents ≡ named_by steps) (Some WrongParents) Passed) outcome
+  EndsRight steps parents (Err cause) outcome = outcome ≡ Some cause
+
+  pub record StepsTested (start : Tree) (steps : List LineStep) (parents : List ℕ) (outcome : Option Cause) : Type 0 where
+    pub end : Result Tree Cause
+    pub leads : Leads lines k start steps end
+    pub ends : EndsRight steps parents end outcome
+
+  abbrev pub Tested : LineSource → Option Cause → Type 0
+  Tested (File name) outcome = Test (IsClause clauses name line.positive line.left line.right) (Some NotAProblemClause) Passed outcome
+  Tested (Chain start steps parents) outcome = Test (start ≡ line.left) (Some EndsDiffer) (StepsTested start steps parents) outcome
+  Tested (Reflexive parents) outcome = Test (AreEarlier k parents) (Some NotEarlier) (Test (ReadsReflexive fresh parents line) (Some NotAProblemClause) Passed) outcome
+  Tested (EncodeGoal parents) outcome = Test (AreEarlier k parents) (Some NotEarlier) (Test (ReadsGoal fresh lines parents line) (Some NotAProblemClause) Passed) outcome
+  Tested (Refute parents) outcome = Test (AreEarlier k parents) (Some NotEarlier) (Test (RefutesGround lines parents ⊎ RefutesEncoded fresh lines parents) (Some NoGoal) Passed) outcome

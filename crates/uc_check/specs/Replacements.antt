@@ -8,6 +8,7 @@ use Rattle.uc_check.specs.declared.proof.LineSource.{LineSource}
 use Rattle.uc_check.specs.declared.proof.LineSource.TheVariants.{Refute}
 use Rattle.uc_check.specs.declared.checker.Cause.{Cause}
 use Rattle.uc_check.specs.declared.checker.Cause.TheVariants.{NotEarlier, NotAReplacement}
+use Rattle.uc_check.specs.Tests.{Test}
 
 abbrev pub IsRefutation : LineSource → Type 0
 IsRefutation (Refute parents) = Unit {0}
@@ -35,11 +36,9 @@ pub record IsReplacement (lines : List Line) (before : Tree) (step : LineStep) :
 
 -- What the steps of line k come to from a term on: the last term, or the first test that fails. Each step names an earlier
 -- line, and is a replacement by it.
-pub data Leads (lines : List Line) (k : ℕ) : Tree → List LineStep → Result Tree Cause → Type 0 where
-  arrives : {t : Tree} → Leads lines k t [] (Ok t)
-  not_earlier : {t : Tree} {step : LineStep} {steps : List LineStep} → (step.by < k → ⊥) → Leads lines k t (step ∷ steps) (Err NotEarlier)
-  no_replacement : {t : Tree} {step : LineStep} {steps : List LineStep} → step.by < k → (IsReplacement lines t step → ⊥) → Leads lines k t (step ∷ steps) (Err NotAReplacement)
-  goes_on : {t : Tree} {step : LineStep} {steps : List LineStep} {end : Result Tree Cause} → step.by < k → IsReplacement lines t step → Leads lines k step.to steps end → Leads lines k t (step ∷ steps) end
+abbrev pub Leads : List Line → ℕ → Tree → List LineStep → Result Tree Cause → Type 0
+Leads lines k t [] end = end ≡ Ok t
+Leads lines k t (step ∷ steps) end = Test (step.by < k) (Err NotEarlier) (Test (IsReplacement lines t step) (Err NotAReplacement) (Leads lines k step.to steps)) end
 
 -- the last term of a chain
 abbrev pub chain_end : Tree → List LineStep → Tree

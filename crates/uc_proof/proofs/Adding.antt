@@ -70,10 +70,6 @@ axiom_added Is is n s old new e a = subst (λ (ps : List Part). Adds Is ps old n
 pub axiom_passed : (Is : Part → Type 0) (is : Source → Bool) (n : ℕ) (s : Source) (old new : List Part) → is s ≡ false → new ≡ old → Adds Is (axioms_where is n (s ∷ [])) old new
 axiom_passed Is is n s old new e q = subst (λ (l : List Part). Adds Is (axioms_where is n (s ∷ [])) old l) (sym q) (subst (λ (ps : List Part). Adds Is ps old old) (sym (ap (λ (b : Bool). if b then part.Axiom n ∷ [] else []) e)) (adds_none Is old))
 
-pub chosen_is : (clauses : Bool) (s : Source) → (if clauses then is_clause else is_encoding) s ≡ (if clauses then is_clause s else is_encoding s)
-chosen_is true s = refl
-chosen_is false s = refl
-
 pub encoding_is : (s : Source) (b : Bool) → is_clause s ≡ b → is_encoding s ≡ (if b then false else true)
 encoding_is (source.Clause c) true e = refl
 encoding_is (source.Clause c) false e = absurd cc

@@ -124,11 +124,6 @@ fact_among n zero i h = absurd (omega arith)
 fact_among n (suc many) zero h = inl (let q : n ≡ n + 0 = omega arith in ap part.Fact q)
 fact_among n (suc many) (suc i) h = let q : n + 1 + i ≡ n + suc i = omega arith in inr (subst (λ (k : ℕ). IsAmong (part.Fact k) (facts_from (n + 1) many)) q (fact_among (n + 1) many i (omega arith)))
 
-pub denial_among : (cs : List ℕ) (i c : ℕ) → slice_get cs i ≡ Some c → IsAmong (part.Denial c) (map part.Denial cs)
-denial_among [] i c e = absurd cc
-denial_among (x ∷ cs) zero c e = inl (let q : x ≡ c = cc in ap part.Denial q)
-denial_among (x ∷ cs) (suc i) c e = inr (denial_among cs i c e)
-
 pub turn : {A B Q : Type 0} → (A ↔ (Q ⊎ B)) → (A ↔ (B ⊎ Q))
 turn h = (λ a. elim (h.0 a) [ inl q ↦ inr q | inr b ↦ inl b ], λ s. elim s [ inl b ↦ h.1 (inr b) | inr q ↦ h.1 (inl q) ])
 

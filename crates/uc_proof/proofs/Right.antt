@@ -13,8 +13,9 @@ use Rattle.uc_check.specs.declared.proof.Line.{Line}
 use Rattle.uc_check.specs.declared.proof.LineStep.{LineStep}
 use Rattle.uc_check.specs.declared.proof.LineSource.TheVariants.{Chain as ByChain, Reflexive, EncodeGoal}
 use Rattle.uc_check.specs.Variants.{AreVariants}
-use Rattle.uc_check.specs.Replacements.{IsRefutation, from_side, to_side, IsReplacement as IsLineReplacement, Leads, arrives, goes_on}
-use Rattle.uc_check.specs.Lines.{IsChain, IsDenial, IsDerived, is_open, named_by, Tested, file_right, chain_right, reflexive_right, goal_right, refute_right}
+use Rattle.uc_check.specs.Replacements.{IsRefutation, from_side, to_side, IsReplacement as IsLineReplacement, Leads}
+use Rattle.uc_check.specs.Tests.{passes}
+use Rattle.uc_check.specs.Lines.{IsChain, IsDenial, IsDerived, is_open, named_by, Tested}
 use Rattle.uc_check.specs.Clauses.{equation_of as clause_equation}
 use Rattle.uc_check.specs.Checks.{EndsInRefutation, IsRightLine, AreRightBefore}
 use Rattle.uc_tstp.specs.Printable.{line_variables, renumbered_step, renumbered_source, renumbered_line}
@@ -243,13 +244,13 @@ module _ (problem : Problem) (enc : Encoded) (facts : List Fact) (conclusion : C
           }
 
       leads : (u : Tree) (steps : List Step) (ws : List LineStep) → AreReplacements enc.axioms fs u steps → AreStepsFor plan u steps ws → Leads lines k (renumbered_by xs u) (map (renumbered_step xs) ws) (Ok (renumbered_by xs (last_term u steps)))
-      leads u [] [] a s = arrives
+      leads u [] [] a s = refl
       leads u [] (w ∷ ws) a s = absurd s
       leads u (step ∷ steps) [] a s = absurd s
       leads u (step ∷ steps) (w ∷ ws) a s =
           let e = a.0.equation in
           let before : w.by < k = earlier w.by k (part_of step.by) p s.0.by at_k (widen step.by e a.0.equation_is).1 in
-          goes_on before (replaced u step w a.0 s.0) (subst (λ (t : Tree). Leads lines k (renumbered_by xs t) (map (renumbered_step xs) ws) (Ok (renumbered_by xs (last_term step.to steps)))) (sym s.0.to) (leads step.to steps ws a.1 s.1))
+          passes before (passes (replaced u step w a.0 s.0) (subst (λ (t : Tree). Leads lines k (renumbered_by xs t) (map (renumbered_step xs) ws) (Ok (renumbered_by xs (last_term step.to steps)))) (sym s.0.to) (leads step.to steps ws a.1 s.1)))
 
     -- a line whose chain replays
     chain_tested : (k : ℕ) (p : Part) (name : List ℕ) (fs : List Fact) (chain : Chain) (e : Equation) (ws : List LineStep) → slice_get plan k ≡ Some p → ((by : By) (d : Equation) → named enc.axioms fs by ≡ Some d → (named enc.axioms facts by ≡ Some d) × (rank (part_of by) < rank p)) → LeadsFrom enc.axioms fs chain e.left e.right → AreStepsFor plan chain.start chain.steps ws → (line : Line) → line ≡ renumbered_line (equation_line name (chain_source chain.start ws) e) → Tested problem.clauses enc.fresh lines k line line.source None
@@ -257,7 +258,11 @@ module _ (problem : Problem) (enc : Encoded) (facts : List Fact) (conclusion : C
         let said = equation_line name (chain_source chain.start ws) e in
         let xs = line_variables said in
         subst (λ (l : Line). Tested problem.clauses enc.fresh lines k l l.source None) (sym q)
-        (chain_right (ap (renumbered_by xs) r.start_is) (leads xs k p at_k fs widen chain.start chain.steps ws r.replays s) (ap (renumbered_by xs) r.end_is) (ap firsts (sym (same_lines_named xs ws))))
+        (passes (ap (renumbered_by xs) r.start_is) (record {
+          end = Ok (renumbered_by xs (last_term chain.start chain.steps));
+          leads = leads xs k p at_k fs widen chain.start chain.steps ws r.replays s;
+          ends = passes (ap (renumbered_by xs) r.end_is) (passes (ap firsts (sym (same_lines_named xs ws))) refl);
+        }))
 
     -- what is named among the facts stands before the chain of a fact behind them, and before the goal's
     widen_fact : (n : ℕ) (by : By) (e : Equation) → named enc.axioms (take n facts) by ≡ Some e → (named enc.axioms facts by ≡ Some e) × (rank (part_of by) < 3 + n)
@@ -285,12 +290,12 @@ module _ (problem : Problem) (enc : Encoded) (facts : List Fact) (conclusion : C
     clause_tested k c name s line there q =
         let said = clause_line name s.clause in
         subst (λ (l : Line). Tested problem.clauses enc.fresh lines k l l.source None) (sym q)
-        (file_right (record {
+        (passes (record {
           number = c;
           sourced = s;
           sourced_is = there;
           same = record { name_is = refl; polarity = refl; variants = numbered_variants (line_variables said) s.clause.left s.clause.right (covers_left said) (covers_right said) };
-        }))
+        }) refl)
 
     -- the line of a goal's clause
     pub record IsDenialOf (c i : ℕ) : Type 0 where
@@ -368,7 +373,7 @@ module _ (problem : Problem) (enc : Encoded) (facts : List Fact) (conclusion : C
             let r = reflexive marks in
             let own : line ≡ renumbered_line (equation_line name (Reflexive []) r) = q ∙ ap (λ (x : Equation). renumbered_line (equation_line name (Reflexive []) x)) same in
             subst (λ (l : Line). Tested problem.clauses enc.fresh lines k l l.source None) (sym own)
-            (reflexive_right tt (record { marks = marks; marks_are = f; parents_are = refl; positive = refl; left_is = refl; right_is = refl }))
+            (passes tt (passes (record { marks = marks; marks_are = f; parents_are = refl; positive = refl; left_is = refl; right_is = refl }) refl))
 
     -- the names of a goal's sides are those of its encoded equation
     same_names : (marks : Fresh) (name : List ℕ) (s : Sourced) (denial : ℕ) → line_variables (clause_line [] s.clause) ≡ line_variables (equation_line name (EncodeGoal (denial ∷ [])) (refuted marks (clause_equation s.clause)))
@@ -404,7 +409,7 @@ module _ (problem : Problem) (enc : Encoded) (facts : List Fact) (conclusion : C
             let opened : is_open g.line ≡ true =
             ap₂ (λ a b. a || b) (ap has_variable left ∙ open_renamed (place_of xs) s.clause.left) (ap has_variable right ∙ open_renamed (place_of xs) s.clause.right) ∙ kind.1 in
             subst (λ (l : Line). Tested problem.clauses enc.fresh lines k l l.source None) (sym own)
-            (goal_right (before, tt) (record {
+            (passes (before, tt) (passes (record {
               marks = marks;
               marks_are = f;
               parent = denial;
@@ -417,7 +422,7 @@ module _ (problem : Problem) (enc : Encoded) (facts : List Fact) (conclusion : C
                 positive = refl;
                 variants = subst (λ (t : Tree). AreVariants (pair_term marks g.line.left g.line.right) (no_term marks) t (no_term marks)) pair (same_variants (pair_term marks g.line.left g.line.right) (no_term marks));
               };
-            }))
+            }) refl))
 
     -- the refutation of a ground goal, and of the encoding's
     ground_refuted : (k c denial chain : ℕ) (e : Equation) (name : List ℕ) (line : Line) → slice_get enc.goals goal ≡ Some e → slice_get plan k ≡ Some part.Refutation → slice_get enc.goal_clauses goal ≡ Some (Some c) → slice_get plan denial ≡ Some (part.Denial c) → slice_get plan chain ≡ Some part.Conclusion → line ≡ renumbered_line (refute_line name (denial ∷ chain ∷ [])) → Tested problem.clauses enc.fresh lines k line line.source None
@@ -441,7 +446,7 @@ module _ (problem : Problem) (enc : Encoded) (facts : List Fact) (conclusion : C
             let first : denial < k = earlier denial k (part.Denial c) part.Refutation d at_k (omega arith) in
             let second : chain < k = earlier chain k part.Conclusion part.Refutation at_chain at_k (omega arith) in
             subst (λ (l : Line). Tested problem.clauses enc.fresh lines k l l.source None) (sym q)
-            (refute_right (first, (second, tt)) (inl (record {
+            (passes (first, (second, tt)) (passes (inl (record {
               first = denial;
               second = chain;
               parents_are = refl;
@@ -456,7 +461,7 @@ module _ (problem : Problem) (enc : Encoded) (facts : List Fact) (conclusion : C
                 left_same = chain_left ∙ sym left;
                 right_same = chain_right ∙ sym right;
               };
-            })))
+            })) refl))
 
     encoding_refuted : (k chain : ℕ) (e : Equation) (name : List ℕ) (line : Line) → slice_get enc.goals goal ≡ Some e → slice_get plan k ≡ Some part.Refutation → slice_get enc.goal_clauses goal ≡ Some None → slice_get plan chain ≡ Some part.Conclusion → line ≡ renumbered_line (refute_line name (chain ∷ [])) → Tested problem.clauses enc.fresh lines k line line.source None
     encoding_refuted k chain e name line h at_k at at_chain q = go (goal_asked problem enc is goal e h)
@@ -467,7 +472,7 @@ module _ (problem : Problem) (enc : Encoded) (facts : List Fact) (conclusion : C
             let n = conclusion_at e chain h at_chain in
             let before : chain < k = earlier chain k part.Conclusion part.Refutation at_chain at_k (omega arith) in
             subst (λ (l : Line). Tested problem.clauses enc.fresh lines k l l.source None) (sym q)
-            (refute_right (before, tt) (inr (record {
+            (passes (before, tt) (passes (inr (record {
               marks = marks;
               marks_are = f;
               parent = chain;
@@ -479,7 +484,7 @@ module _ (problem : Problem) (enc : Encoded) (facts : List Fact) (conclusion : C
                 left_is = n.left_is ∙ ap (λ (x : Equation). renumbered_by n.names x.left) same;
                 right_is = n.right_is ∙ ap (λ (x : Equation). renumbered_by n.names x.right) same;
               };
-            })))
+            })) refl))
 
     -- each line passes its tests
     module _ (replay : FactsReplay enc.axioms facts) (e : Equation) (e_is : slice_get enc.goals goal ≡ Some e) (leads_to : LeadsFrom enc.axioms facts conclusion e.left e.right) where

@@ -20,21 +20,10 @@ use Rattle.uc_proof.specs.declared.part.Part.TheVariants as part
 use Rattle.uc_proof.specs.Written.{clause_line, equation_line, refute_line, Says, says_clause, says_denial, says_reflexive, says_goal, says_fact, says_conclusion, refutes_denied, refutes_encoded}
 use Rattle.uc_proof.specs.Making.{IsSourceReady, IsGoalReady, IsChainLine}
 
--- what is at a number of a list
-pub get_inside : {A : Type 0} (xs : List A) (n : ℕ) (x : A) → slice_get xs n ≡ Some x → n < length xs
-get_inside [] n x e = absurd cc
-get_inside (y ∷ ys) zero x e = omega arith
-get_inside (y ∷ ys) (suc n) x e = let l = get_inside ys n x e in omega arith
-
 pub get_is : {A : Type 0} (xs : List A) (n : ℕ) (x d : A) → slice_get xs n ≡ Some x → get_or xs n d ≡ x
 get_is [] n x d e = absurd cc
 get_is (y ∷ ys) zero x d e = let q : Some y ≡ Some x = e in cc
 get_is (y ∷ ys) (suc n) x d e = get_is ys n x d e
-
-pub mapped_inside : {A B : Type 0} (f : A → B) (xs : List A) (n : ℕ) (y : B) → slice_get (map f xs) n ≡ Some y → n < length xs
-mapped_inside f [] n y e = absurd cc
-mapped_inside f (x ∷ xs) zero y e = omega arith
-mapped_inside f (x ∷ xs) (suc n) y e = let l = mapped_inside f xs n y e in omega arith
 
 pub mapped_is : {A B : Type 0} (f : A → B) (xs : List A) (n : ℕ) (d : A) (y : B) → slice_get (map f xs) n ≡ Some y → f (get_or xs n d) ≡ y
 mapped_is f [] n d y e = absurd cc

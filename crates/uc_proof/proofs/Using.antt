@@ -26,11 +26,6 @@ pub record Uses (facts : List Fact) (initial : List Part) (number : ℕ) (now : 
   pub sound : (conclusion : Chain) → ((p : Part) → IsAmong p initial → IsUsedPart facts conclusion p) → (p : Part) → IsAmong p now → IsUsedPart facts conclusion p
   pub closed : (n : ℕ) (fact : Fact) → number ≤ n → slice_get facts n ≡ Some fact → IsAmong (part.Fact n) now → (p : Part) → IsNamedPart fact.chain.steps p → IsAmong p now
 
-pub uses_begin : (facts : List Fact) (initial : List Part) (number : ℕ) → number ≡ length facts → Uses facts initial number initial
-uses_begin facts initial number e = record {
-  grows = λ p h. h;
-  sound = λ conclusion s. s;
-  closed = λ n fact l g. let i = inside facts n fact g in absurd (omega (arith, e));
 }
 
 module _ (facts : List Fact) (earlier : NameEarlier facts) (initial : List Part) (number k : ℕ) (now next : List Part) (u : Uses facts initial number now) (down : number ≡ k + 1) (own : Fact) (own_is : slice_get facts k ≡ Some own) (add : (p : Part) → IsAmong p next ↔ (IsAmong p now ⊎ (IsAmong (part.Fact k) now × IsNamedPart own.chain.steps p))) where
@@ -78,9 +73,6 @@ module _ (facts : List Fact) (initial now : List Part) (u : Uses facts initial 0
 pub record Denies (sources : List Source) (initial : List Part) (i : ℕ) (now : List Part) : Type 0 where
   pub same : (k : ℕ) → IsAmong (part.Axiom k) now ↔ IsAmong (part.Axiom k) initial
   pub rest : (p : Part) → (IsAmong p now ⊎ IsDeniedFrom i (drop i sources) initial p) ↔ (IsAmong p initial ⊎ IsDeniedFrom 0 sources initial p)
-
-pub denies_begin : (sources : List Source) (initial : List Part) → Denies sources initial 0 initial
-denies_begin sources initial = record { same = λ k. (λ h. h, λ h. h); rest = λ p. (λ h. h, λ h. h) }
 
 no_axiom : (s : Source) (k : ℕ) → IsGoalOf s (part.Axiom k) → ⊥
 no_axiom (source.Clause c) k h = h
