@@ -99,18 +99,6 @@ module _ (is : Sourced → Bool) (ss : List Sourced) (goals : List ℕ) (i n d :
   pub skip_here : (numbers same : List ℕ) → is s ≡ false → same ≡ numbers → numbers ++ filter (is_at is ss) (drop i goals) ≡ filter (is_at is ss) goals → same ++ filter (is_at is ss) (drop (i + 1) goals) ≡ filter (is_at is ss) goals
   skip_here numbers same e q kept = rw q (ap (λ l. numbers ++ l) (sym (passed_here e)) ∙ kept)
 
--- a goal with a variable is small where none is too large
-both : (a b : Bool) → (a && b ≡ true → ⊥) → a ≡ true → b ≡ false
-both true true n e = absurd (n refl)
-both true false n e = refl
-both false b n e = absurd cc
-
-pub is_small : (ss : List Sourced) (i : ℕ) (d s : Sourced) → i < length ss → s ≡ get_or ss i d → list_any is_too_large ss ≡ false → is_open_goal s ≡ true → nodes s.clause.left + nodes s.clause.right ≤ 4095
-is_small ss i d s h at none varies =
-    let not_large : (is_too_large s ≡ true → ⊥) = λ e. let some : list_any is_too_large ss ≡ true = list_any_at is_too_large ss i d h (ap is_too_large (sym at) ∙ e) in absurd cc in
-    let few : nat_lt 4095 (nodes s.clause.left + nodes s.clause.right) ≡ false = both (is_open_goal s) (nat_lt 4095 (nodes s.clause.left + nodes s.clause.right)) not_large varies in
-    grind (arith, nat_tests)
-
 -- what was made is the encoding
 module _ (table : Table) (problem : Problem) where
   encodes : (T : Table) (fresh : Option Fresh) → IsMarked table problem (Ok fresh) → Grows table T → Encodes T problem (Ok (encoding_of problem fresh))

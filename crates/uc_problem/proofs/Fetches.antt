@@ -33,10 +33,6 @@ abbrev pub Passed : Option Files → List (List ℕ) → List (List ℕ) → Typ
 Passed None names rest = Unit {0}
 Passed (Some files) names rest = (first_held files names ≡ first_held files rest) × ((file : List ℕ) → IsTried files file rest → IsTried files file names)
 
-pub none_passed : (holds : Option Files) (names : List (List ℕ)) → Passed holds names names
-none_passed None names = tt
-none_passed (Some files) names = (refl, λ file t. t)
-
 rest_at : (names : List (List ℕ)) (i : ℕ) (name d : List ℕ) → i < length names → name ≡ get_or names i d → drop i names ≡ name ∷ drop (i + 1) names
 rest_at names i name d h e = rw (e, add-one, drop-cons names i d) refl
 

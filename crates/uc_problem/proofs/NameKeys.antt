@@ -82,11 +82,6 @@ has_name-integer words integers new k name text kind e n = go n.integer refl
     go true i = rw (i, kind, ← text) (has_text-insert integers new k e n.text ∙ ap (λ b. has_text integers n.text || b) (sym (and_true (bytes_eq k.items n.text))))
     go false i = rw (i, kind, ← text) (sym (ap (λ b. has_text words n.text || b) (and_false (bytes_eq k.items n.text)) ∙ or_false (has_text words n.text)))
 
--- tests that agree keep the same members
-pub filter-same : {X : Type 0} (p q : X → Bool) (xs : List X) → ((x : X) → p x ≡ q x) → filter p xs ≡ filter q xs
-filter-same p q [] same_test = refl
-filter-same p q (x ∷ xs) same_test = rw (same_test x, filter-same p q xs same_test) refl
-
 -- what is among the members so far or among those behind is among all, once none is left
 pub nothing_behind : {X : Type 0} (test : List X → Bool) (xs : List X) (n : ℕ) (b : Bool) → test [] ≡ false → test xs ≡ (b || test (drop n xs)) → length xs ≤ n → b ≡ test xs
 nothing_behind test xs n b none all end = sym (all ∙ ap (λ r. b || r) (ap test (drop_all n xs end) ∙ none) ∙ or_false b)

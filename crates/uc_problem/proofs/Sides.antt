@@ -140,28 +140,3 @@ module _ (table : Table) where
 
   pub has_symbol : (ss : List Sourced) (term : ℕ) (pos : Pos) (f : Sym) → AreSound table ss → StandsAt ss term pos f → Has table f
   has_symbol ss term pos f h s = has_nodes table s.tree (terms_sound table ss h term s.tree s.tree_at) pos.0 f s.count s.node_at
-
--- the term and its node, as the code finds them
-pub within_terms : (ss : List Sourced) (term : ℕ) (pos : Pos) → HasSymbolAt ss term pos → term < length (terms_of ss)
-within_terms ss term pos s = slice_get_within (terms_of ss) term s.stands.tree s.stands.tree_at
-
-module _ (ss : List Sourced) (term : ℕ) (pos : Pos) (s : HasSymbolAt ss term pos) (t : Tree) (at : slice_get (terms_of ss) term ≡ Some t) where
-  tree_is : s.stands.tree ≡ t
-  tree_is = let both : Some s.stands.tree ≡ Some t = sym s.stands.tree_at ∙ at in cc
-
-  node_is : slice_get (flat t) pos.0 ≡ Some (App s.symbol s.stands.count)
-  node_is = subst (λ (u : Tree). slice_get (flat u) pos.0 ≡ Some (App s.symbol s.stands.count)) tree_is s.stands.node_at
-
-  pub node_within : (ns : List Node) → ns ≡ flat t → pos.0 < length ns
-  node_within ns e = rw e (slice_get_within (flat t) pos.0 (App s.symbol s.stands.count) node_is)
-
-  node_or : (d : Node) → get_or (flat t) pos.0 d ≡ App s.symbol s.stands.count
-  node_or d = get_or_from_slice_get (flat t) pos.0 (App s.symbol s.stands.count) d node_is
-
-  pub no_variable : (ns : List Node) (d : Node) (x : ℕ) → ns ≡ flat t → get_or ns pos.0 d ≡ Var x → ⊥
-  no_variable ns d x e v = let both : Var x ≡ App s.symbol s.stands.count = sym v ∙ ap (λ (l : List Node). get_or l pos.0 d) e ∙ node_or d in absurd cc
-
-  pub symbol_stands : (ns : List Node) (d : Node) (f : Sym) (n : ℕ) → ns ≡ flat t → get_or ns pos.0 d ≡ App f n → StandsAt ss term pos f
-  symbol_stands ns d f n e v =
-      let both : App f n ≡ App s.symbol s.stands.count = sym v ∙ ap (λ (l : List Node). get_or l pos.0 d) e ∙ node_or d in
-      record { tree = t; count = n; tree_at = at; node_at = node_is ∙ ap Some (sym both) }

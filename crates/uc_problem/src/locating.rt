@@ -47,7 +47,8 @@ pub(crate) fn refusal(
                 what: What::Symbols,
             })
         }
-        TermFault::TooLarge | TermFault::NoSuchPosition | TermFault::NoMemory => Err(AllocError),
+        TermFault::NoMemory => Err(AllocError),
+        TermFault::TooLarge | TermFault::NoSuchPosition => unreachable!(),
     }
 }
 

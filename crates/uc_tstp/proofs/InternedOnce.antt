@@ -1,5 +1,5 @@
 -- The table that reading a proof leaves is one.
-use Rattle.std.proofs.Common.{◌≡◌, ℕ, List, Result, Ok, Err, IfOk, sym, ap, ap₂, ◌∙◌, subst}
+use Rattle.std.proofs.Common.{◌≡◌, ℕ, List, Result, Ok, Err, IfOk, sym, ap₂, ◌∙◌, subst}
 use Rattle.uc_term.specs.Table.{Table}
 use Rattle.uc_clause.specs.declared.token.Token.{Token}
 use Rattle.uc_check.specs.declared.proof.Proof.{Proof}

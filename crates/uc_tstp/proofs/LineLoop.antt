@@ -1,5 +1,5 @@
 -- How lines are gathered.
-use Rattle.std.proofs.Common.{◌≡◌, ℕ, ◌+◌, Bool, true, false, List, [], ◌∷◌, ◌++◌, length, length-append, refl, sym, ap, ◌∙◌, subst, arith, append-nil}
+use Rattle.std.proofs.Common.{◌≡◌, ℕ, Bool, true, false, List, [], ◌∷◌, ◌++◌, length, refl, sym, ap, ◌∙◌, subst, arith, append-nil}
 use Rattle.std.specs.Prelude.{◌≢◌, ◌||◌, bytes_eq}
 use Rattle.std.specs.List.{list_any}
 use Rattle.std.proofs.lemmas.List.{map-append}
@@ -118,9 +118,6 @@ module _ (bytes : List ℕ) (tokens : List Token) where
 -- a new name makes one name more
 pub new_name : (names : List (List ℕ)) (x : List ℕ) → list_any (bytes_eq x) names ≡ false → with_name names x ≡ names ++ x ∷ []
 new_name names x e = rw e refl
-
-pub one_name_more : (names more_names : List (List ℕ)) (x : List ℕ) → more_names ≡ names ++ x ∷ [] → length more_names ≡ length names + 1
-one_name_more names more_names x e = rw e (length-append names (x ∷ []))
 
 pub as_many : {bytes : List ℕ} {tokens : List Token} {table : Table} {ls : List Line} {ds : List LineDraft} → SayLines bytes tokens table ls ds → length ds ≡ length (names_of bytes tokens ls)
 as_many say_no_line = refl

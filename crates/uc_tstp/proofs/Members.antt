@@ -31,9 +31,6 @@ module _ (bytes : List ℕ) (tokens : List Token) {V : Type 0} (member : Rule V)
   pub ahead_on : (vs : List V) (more : Bool) (at : ℕ) → more ≡ true → Ahead vs more at → Ahead vs true at
   ahead_on vs more at e a = subst (λ b. Ahead vs b at) e a
 
-  pub ahead_off : (vs : List V) (more : Bool) (at : ℕ) → more ≡ false → Ahead vs more at → Members bytes tokens member from (read vs at)
-  ahead_off vs more at e a = subst (λ b. Ahead vs b at) e a
-
   pub ahead_more : (vs : List V) (v : V) (at end : ℕ) (more : Bool) → Ahead vs true at → member at (read v end) → IsNext bytes tokens end more → Ahead (vs ++ v ∷ []) more (end + 1)
   ahead_more vs v at end true ahead h next = λ o m. subst (λ p. Members bytes tokens member from p) (mapped_more vs v o) (ahead (mapped (λ us. v ∷ us) o) (is_member h next m))
   ahead_more vs v at end false ahead h next = ahead (read (v ∷ []) (end + 1)) (is_last_member h next)

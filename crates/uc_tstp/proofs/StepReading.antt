@@ -1,5 +1,5 @@
 -- How steps are read of their parts, and how a loop reads them.
-use Rattle.std.proofs.Common.{◌≡◌, ◌≢◌, ℕ, ◌+◌, Bool, true, false, List, [], ◌∷◌, ◌++◌, append-nil, refl, sym, ap, ◌∙◌}
+use Rattle.std.proofs.Common.{◌≡◌, ◌≢◌, ℕ, ◌+◌, Bool, true, List, [], ◌∷◌, ◌++◌, append-nil, refl, sym, ap, ◌∙◌}
 use Rattle.std.proofs.lemmas.Grind.{flat_map-append}
 use Rattle.uc_term.specs.Table.{Table, Grows}
 use Rattle.uc_term.specs.Tree.{Tree}
@@ -22,7 +22,7 @@ use Rattle.uc_tstp.specs.Parts.{step_variables, ReadsStepAt, ReadsStepsBy}
 use Rattle.uc_clause.specs.Interning.{with_term, InternsAt}
 use Rattle.uc_tstp.specs.Interning.{with_steps}
 use Rattle.uc_tstp.proofs.BodyReading.{made_by}
-use Rattle.uc_tstp.proofs.Members.{Ahead, ahead_none, ahead_on, ahead_off, ahead_more, ahead_stops, ahead_behind}
+use Rattle.uc_tstp.proofs.Members.{Ahead, ahead_none, ahead_on, ahead_more, ahead_stops, ahead_behind}
 
 module _ (bytes : List ℕ) (tokens : List Token) where
   module _ (from : ℕ) where
@@ -78,8 +78,6 @@ module _ (bytes : List ℕ) (tokens : List Token) where
     kept_none = record { steps = []; ahead = ahead_none bytes tokens (lines.step bytes tokens) from; seen_is = refl; says = say_nothing; table_is = refl }
 
     module _ (more : Bool) (at : ℕ) (now_seen : Variables) (table : Table) (drafts : List StepDraft) (k : Kept more at now_seen table drafts) where
-      pub kept_all : more ≡ false → ReadsStepsBy bytes tokens (lines.members bytes tokens (lines.step bytes tokens)) from at seen now_seen old table drafts
-      kept_all e = record { steps = k.steps; reads = ahead_off bytes tokens (lines.step bytes tokens) from k.steps more at e k.ahead; seen_is = k.seen_is; says = k.says; table_is = k.table_is }
 
       module _ (on : more ≡ true) where
         pub kept_stops : (err : Stop) → Stops (lines.step bytes tokens at) err → Stops (lines.members bytes tokens (lines.step bytes tokens) from) err

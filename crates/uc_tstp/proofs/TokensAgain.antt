@@ -157,9 +157,6 @@ module _ (text : List ℕ) (tokens : List Token) where
   abbrev pub IsComma : (List Piece → List Piece) → Type 0
   IsComma gap = (at : ℕ) (ps : List Piece) → At at (gap ps) → MarkHere terminal.Comma at ps
 
-  no_first : (t : Terminal) (at : ℕ) → terminal_at text tokens at ≡ t → t ≢ terminal.CloseSquare → terminal_at text tokens at ≢ terminal.CloseSquare
-  no_first t at e n h = n (sym e ∙ h)
-
   module _ {A V : Type 0} (member : Rule V) (On : A → V → Type 0) (between : List ℕ) (printed : A → List ℕ) (gap : List Piece → List Piece) (pieces : A → List Piece → List Piece) (is_comma : IsComma gap) where
     abbrev pub IsRead : A → Type 0
     IsRead x = (at : ℕ) (ps : List Piece) → At at (pieces x ps) → Member member On x at ps

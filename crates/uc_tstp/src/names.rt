@@ -1,6 +1,6 @@
 //! The names of lines.
 
-ghost use Rattle.std.specs.Prelude.{◌≡◌, ◌<◌, ◌^◌, [], length, position, bytes_eq, IfOk, OnErr};
+ghost use Rattle.std.specs.Prelude.{◌≡◌, ◌-◌, ◌<◌, ◌≤◌, ◌^◌, [], length, position, bytes_eq, IfOk, OnOk, OnErr};
 ghost use Rattle.std.specs.List.{list_any};
 ghost use Rattle.uc_clause.specs.Meaning.{with_name};
 
@@ -41,9 +41,7 @@ impl Names {
         ensures small { IfOk result (λ _. length self.new < 2 ^ 31) }
         ensures err { OnErr result (self.new ≡ self.old) }
     {
-        if self.names.len() >= MOST {
-            return Err(AllocError);
-        }
+        check_names(self.names.len())?;
         let name = Vec::from_slice(alloc, name)?;
         self.names.insert(name)?;
         Ok(())
@@ -75,4 +73,16 @@ impl Names {
     }
 }
 
-const MOST: usize = 2_147_483_647;
+/// The most names.
+const MOST: usize = i32::MAX as usize;
+
+/// Refuses a name more exactly where there are the most.
+fn check_names(count: usize) -> Result<(), AllocError>
+    ensures few { OnOk result (count < 2 ^ 31 - 1) }
+    ensures refused { OnErr result (2 ^ 31 - 1 ≤ count) }
+{
+    if count >= MOST {
+        return Err(AllocError);
+    }
+    Ok(())
+}

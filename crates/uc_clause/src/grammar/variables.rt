@@ -1,6 +1,6 @@
 //! The names of variables.
 
-ghost use Rattle.std.specs.Prelude.{◌≡◌, [], Some, slice_get, length, IfOk, OnErr};
+ghost use Rattle.std.specs.Prelude.{◌≡◌, ◌-◌, ◌<◌, ◌≤◌, ◌^◌, [], Some, slice_get, length, IfOk, OnOk, OnErr};
 ghost use Rattle.uc_clause.specs.Distinct.{AreDistinct};
 ghost use Rattle.uc_clause.specs.Meaning.{with_name};
 
@@ -51,13 +51,23 @@ impl Variables {
         ensures number { IfOk result (λ n. slice_get self.new n ≡ Some name.now) }
         ensures err { OnErr result (self.new ≡ self.old) }
     {
-        if self.names.len() >= MOST {
-            return Err(AllocError);
-        }
+        check_names(self.names.len())?;
         let name = Vec::from_slice(alloc, name)?;
         let (index, _) = self.names.insert_full(name)?;
         Ok(index as u32)
     }
 }
 
+/// The most names.
 const MOST: usize = u32::MAX as usize;
+
+/// Refuses a name more exactly where there are the most.
+fn check_names(count: usize) -> Result<(), AllocError>
+    ensures few { OnOk result (count < 2 ^ 32 - 1) }
+    ensures refused { OnErr result (2 ^ 32 - 1 ≤ count) }
+{
+    if count >= MOST {
+        return Err(AllocError);
+    }
+    Ok(())
+}

@@ -1,22 +1,17 @@
 use Rattle.std.proofs.Common.{refl}
-use Rattle.std.proofs.lemmas.Result.{err_from_is_err_and}
 use Rattle.uc_clause.specs.declared.grammar.item.Opening.TheVariants.{OpensClause, OpensInclude, OpensNothing}
 use Rattle.uc_clause.specs.Rules.{read, stop}
 use Rattle.uc_clause.specs.Parse.{formula, inclusion}
 use Rattle.uc_clause.specs.Items as items
-use Rattle.uc_clause.proofs.Sequences.{passes}
+use Rattle.uc_clause.proofs.Sequences.{exits_err}
 use Rattle.uc_clause.proofs.Gathered.{opening_is}
 use Rattle.uc_clause.proofs.grammar.file.item_in.Goals as goal
 
 pub returns-in_err-clause-in-OpensClause-clause-stops : goal.returns-in_err-clause-in-OpensClause-clause-stops
-returns-in_err-clause-in-OpensClause-clause-stops c =
-    let p = err_from_is_err_and c.from_residual.result c.from_residual.ensures.1 in
-    rw (p.1, p.2) (passes (items.cnf c.args.bytes.now c.args.tokens.now c.args.from) (items.Item c.args.bytes.now c.args.tokens.now c.args.from) c.in_err-clause-in-OpensClause.field-0.0 (λ why k h. items.is_clause {outcome = stop why k} (opening_is c.args.bytes.now c.args.tokens.now c.args.from c.terminal_at.result c.spelling_at.result.now c.opening_of.result OpensClause c.terminal_at.ensures c.spelling_at.ensures c.opening_of.ensures c.in-OpensClause.is) h) c.in_err-clause-in-OpensClause.ensures.stops)
+returns-in_err-clause-in-OpensClause-clause-stops c = exits_err (items.cnf c.args.bytes.now c.args.tokens.now c.args.from) (items.Item c.args.bytes.now c.args.tokens.now c.args.from) _ _ c.from_residual.ensures.1 (λ why k h. items.is_clause {outcome = stop why k} (opening_is c.args.bytes.now c.args.tokens.now c.args.from c.terminal_at.result c.spelling_at.result.now c.opening_of.result OpensClause c.terminal_at.ensures c.spelling_at.ensures c.opening_of.ensures c.in-OpensClause.is) h) c.in_err-clause-in-OpensClause.ensures.stops
 
 pub returns-in_err-inclusion-in-OpensInclude-clause-stops : goal.returns-in_err-inclusion-in-OpensInclude-clause-stops
-returns-in_err-inclusion-in-OpensInclude-clause-stops c =
-    let p = err_from_is_err_and c.from_residual-in_err-inclusion-in-OpensInclude.result c.from_residual-in_err-inclusion-in-OpensInclude.ensures.1 in
-    rw (p.1, p.2) (passes (items.include c.args.bytes.now c.args.tokens.now c.args.from) (items.Item c.args.bytes.now c.args.tokens.now c.args.from) c.in_err-inclusion-in-OpensInclude.field-0.0 (λ why k h. items.is_include {outcome = stop why k} (opening_is c.args.bytes.now c.args.tokens.now c.args.from c.terminal_at.result c.spelling_at.result.now c.opening_of.result OpensInclude c.terminal_at.ensures c.spelling_at.ensures c.opening_of.ensures c.in-OpensInclude.is) h) c.in_err-inclusion-in-OpensInclude.ensures)
+returns-in_err-inclusion-in-OpensInclude-clause-stops c = exits_err (items.include c.args.bytes.now c.args.tokens.now c.args.from) (items.Item c.args.bytes.now c.args.tokens.now c.args.from) _ _ c.from_residual-in_err-inclusion-in-OpensInclude.ensures.1 (λ why k h. items.is_include {outcome = stop why k} (opening_is c.args.bytes.now c.args.tokens.now c.args.from c.terminal_at.result c.spelling_at.result.now c.opening_of.result OpensInclude c.terminal_at.ensures c.spelling_at.ensures c.opening_of.ensures c.in-OpensInclude.is) h) c.in_err-inclusion-in-OpensInclude.ensures
 
 pub returns-in_ok-clause-in-OpensClause-clause-reads : goal.returns-in_ok-clause-in-OpensClause-clause-reads
 returns-in_ok-clause-in-OpensClause-clause-reads c =

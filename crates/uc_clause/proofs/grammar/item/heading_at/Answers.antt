@@ -1,41 +1,28 @@
 use Rattle.std.proofs.Common.{refl}
-use Rattle.std.proofs.lemmas.Result.{err_from_is_err_and}
 use Rattle.uc_clause.specs.declared.terminal.Terminal.TheVariants.{Lower, Open, Comma}
 use Rattle.uc_clause.specs.declared.grammar.stop.Why.TheVariants.{NoItem, NoToken}
 use Rattle.uc_clause.specs.Rules.{the, goes_on, stops_first}
 use Rattle.uc_clause.specs.Items as items
-use Rattle.uc_clause.proofs.Sequences.{passes}
+use Rattle.uc_clause.proofs.Sequences.{exits}
 use Rattle.uc_clause.proofs.grammar.item.heading_at.Goals as goal
 
 pub returns-in_err-at : goal.returns-in_err-at
-returns-in_err-at c =
-    let p = err_from_is_err_and c.from_residual.result c.from_residual.ensures.1 in
-    rw (p.1, p.2) (passes (the c.args.bytes.now c.args.tokens.now Lower NoItem c.args.from) (items.heading c.args.bytes.now c.args.tokens.now c.args.from) c.in_err-at.field-0.0 (λ why k h. (goes_on {v = c.args.from} {middle = c.args.from} refl (stops_first h))) c.in_err-at.ensures)
+returns-in_err-at c = exits (the c.args.bytes.now c.args.tokens.now Lower NoItem c.args.from) (items.heading c.args.bytes.now c.args.tokens.now c.args.from) _ _ c.from_residual.ensures.1 (λ why k h. (goes_on {v = c.args.from} {middle = c.args.from} refl (stops_first h))) c.in_err-at.ensures
 
 pub returns-in_err-at-2 : goal.returns-in_err-at-2
-returns-in_err-at-2 c =
-    let p = err_from_is_err_and c.from_residual-in_err-at-2.result c.from_residual-in_err-at-2.ensures.1 in
-    rw (p.1, p.2) (passes (the c.args.bytes.now c.args.tokens.now Open NoToken c.in_ok-at.at) (items.heading c.args.bytes.now c.args.tokens.now c.args.from) c.in_err-at-2.field-0.0 (λ why k h. (goes_on {v = c.args.from} {middle = c.args.from} refl (goes_on {v = tt} c.in_ok-at.ensures (stops_first h)))) c.in_err-at-2.ensures)
+returns-in_err-at-2 c = exits (the c.args.bytes.now c.args.tokens.now Open NoToken c.in_ok-at.at) (items.heading c.args.bytes.now c.args.tokens.now c.args.from) _ _ c.from_residual-in_err-at-2.ensures.1 (λ why k h. (goes_on {v = c.args.from} {middle = c.args.from} refl (goes_on {v = tt} c.in_ok-at.ensures (stops_first h)))) c.in_err-at-2.ensures
 
 pub returns-in_err-name : goal.returns-in_err-name
-returns-in_err-name c =
-    let p = err_from_is_err_and c.from_residual-in_err-name.result c.from_residual-in_err-name.ensures.1 in
-    rw (p.1, p.2) (passes (items.name c.args.bytes.now c.args.tokens.now c.in_ok-at-2.at) (items.heading c.args.bytes.now c.args.tokens.now c.args.from) c.in_err-name.field-0.0 (λ why k h. (goes_on {v = c.args.from} {middle = c.args.from} refl (goes_on {v = tt} c.in_ok-at.ensures (goes_on {v = tt} c.in_ok-at-2.ensures (stops_first h))))) c.in_err-name.ensures)
+returns-in_err-name c = exits (items.name c.args.bytes.now c.args.tokens.now c.in_ok-at-2.at) (items.heading c.args.bytes.now c.args.tokens.now c.args.from) _ _ c.from_residual-in_err-name.ensures.1 (λ why k h. (goes_on {v = c.args.from} {middle = c.args.from} refl (goes_on {v = tt} c.in_ok-at.ensures (goes_on {v = tt} c.in_ok-at-2.ensures (stops_first h))))) c.in_err-name.ensures
 
 pub returns-in_err-at-3 : goal.returns-in_err-at-3
-returns-in_err-at-3 c =
-    let p = err_from_is_err_and c.from_residual-in_err-at-3.result c.from_residual-in_err-at-3.ensures.1 in
-    rw (p.1, p.2) (passes (the c.args.bytes.now c.args.tokens.now Comma NoToken c.in_ok-name.at) (items.heading c.args.bytes.now c.args.tokens.now c.args.from) c.in_err-at-3.field-0.0 (λ why k h. (goes_on {v = c.args.from} {middle = c.args.from} refl (goes_on {v = tt} c.in_ok-at.ensures (goes_on {v = tt} c.in_ok-at-2.ensures (goes_on c.in_ok-name.ensures (stops_first h)))))) c.in_err-at-3.ensures)
+returns-in_err-at-3 c = exits (the c.args.bytes.now c.args.tokens.now Comma NoToken c.in_ok-name.at) (items.heading c.args.bytes.now c.args.tokens.now c.args.from) _ _ c.from_residual-in_err-at-3.ensures.1 (λ why k h. (goes_on {v = c.args.from} {middle = c.args.from} refl (goes_on {v = tt} c.in_ok-at.ensures (goes_on {v = tt} c.in_ok-at-2.ensures (goes_on c.in_ok-name.ensures (stops_first h)))))) c.in_err-at-3.ensures
 
 pub returns-in_err-role : goal.returns-in_err-role
-returns-in_err-role c =
-    let p = err_from_is_err_and c.from_residual-in_err-role.result c.from_residual-in_err-role.ensures.1 in
-    rw (p.1, p.2) (passes (items.role c.args.bytes.now c.args.tokens.now c.in_ok-at-3.at) (items.heading c.args.bytes.now c.args.tokens.now c.args.from) c.in_err-role.field-0.0 (λ why k h. (goes_on {v = c.args.from} {middle = c.args.from} refl (goes_on {v = tt} c.in_ok-at.ensures (goes_on {v = tt} c.in_ok-at-2.ensures (goes_on c.in_ok-name.ensures (goes_on {v = tt} c.in_ok-at-3.ensures (stops_first h))))))) c.in_err-role.ensures)
+returns-in_err-role c = exits (items.role c.args.bytes.now c.args.tokens.now c.in_ok-at-3.at) (items.heading c.args.bytes.now c.args.tokens.now c.args.from) _ _ c.from_residual-in_err-role.ensures.1 (λ why k h. (goes_on {v = c.args.from} {middle = c.args.from} refl (goes_on {v = tt} c.in_ok-at.ensures (goes_on {v = tt} c.in_ok-at-2.ensures (goes_on c.in_ok-name.ensures (goes_on {v = tt} c.in_ok-at-3.ensures (stops_first h))))))) c.in_err-role.ensures
 
 pub returns-in_err-end : goal.returns-in_err-end
-returns-in_err-end c =
-    let p = err_from_is_err_and c.from_residual-in_err-end.result c.from_residual-in_err-end.ensures.1 in
-    rw (p.1, p.2) (passes (the c.args.bytes.now c.args.tokens.now Comma NoToken c.in_ok-role.at) (items.heading c.args.bytes.now c.args.tokens.now c.args.from) c.in_err-end.field-0.0 (λ why k h. (goes_on {v = c.args.from} {middle = c.args.from} refl (goes_on {v = tt} c.in_ok-at.ensures (goes_on {v = tt} c.in_ok-at-2.ensures (goes_on c.in_ok-name.ensures (goes_on {v = tt} c.in_ok-at-3.ensures (goes_on c.in_ok-role.ensures (stops_first h)))))))) c.in_err-end.ensures)
+returns-in_err-end c = exits (the c.args.bytes.now c.args.tokens.now Comma NoToken c.in_ok-role.at) (items.heading c.args.bytes.now c.args.tokens.now c.args.from) _ _ c.from_residual-in_err-end.ensures.1 (λ why k h. (goes_on {v = c.args.from} {middle = c.args.from} refl (goes_on {v = tt} c.in_ok-at.ensures (goes_on {v = tt} c.in_ok-at-2.ensures (goes_on c.in_ok-name.ensures (goes_on {v = tt} c.in_ok-at-3.ensures (goes_on c.in_ok-role.ensures (stops_first h)))))))) c.in_err-end.ensures
 
 pub returns : goal.returns
 returns c = (goes_on {v = c.args.from} {middle = c.args.from} refl (goes_on {v = tt} c.in_ok-at.ensures (goes_on {v = tt} c.in_ok-at-2.ensures (goes_on c.in_ok-name.ensures (goes_on {v = tt} c.in_ok-at-3.ensures (goes_on c.in_ok-role.ensures (goes_on {v = tt} c.in_ok-end.ensures refl)))))))

@@ -1,17 +1,14 @@
 use Rattle.std.proofs.Common.{refl, arith}
-use Rattle.std.proofs.lemmas.Result.{err_from_is_err_and}
 use Rattle.uc_clause.specs.declared.terminal.Terminal.TheVariants.{OpenSquare, CloseSquare}
 use Rattle.uc_clause.specs.declared.grammar.stop.Why.TheVariants.{NoSelection}
 use Rattle.uc_clause.specs.Rules.{the, goes_on, stops_first, is_first, is_second}
 use Rattle.uc_clause.specs.Items as items
 use Rattle.uc_clause.proofs.Ends.{some_other}
-use Rattle.uc_clause.proofs.Sequences.{passes, gives_more}
+use Rattle.uc_clause.proofs.Sequences.{gives_more, exits}
 use Rattle.uc_clause.proofs.grammar.item.list_at.Goals as goal
 
 pub returns-in_err-at : goal.returns-in_err-at
-returns-in_err-at c =
-    let p = err_from_is_err_and c.from_residual.result c.from_residual.ensures.1 in
-    rw (p.1, p.2) (passes (the c.args.bytes.now c.args.tokens.now OpenSquare NoSelection c.args.from) (items.list c.args.bytes.now c.args.tokens.now c.args.from) c.in_err-at.field-0.0 (λ why k h. (stops_first h)) c.in_err-at.ensures)
+returns-in_err-at c = exits (the c.args.bytes.now c.args.tokens.now OpenSquare NoSelection c.args.from) (items.list c.args.bytes.now c.args.tokens.now c.args.from) _ _ c.from_residual.ensures.1 (λ why k h. (stops_first h)) c.in_err-at.ensures
 
 pub overflow_add-result : goal.overflow_add-result
 overflow_add-result c = omega (arith, some_other c.args.bytes.now c.args.tokens.now c.in_ok-at.at CloseSquare c.if-stands_at.ensures (λ e. cc))
