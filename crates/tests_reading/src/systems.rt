@@ -266,12 +266,24 @@ fn weights(rt: HostRuntime) -> Result<(), Fail> {
     let alloc = rt.alloc();
     for new in [
         b"% symbol i 1 0\n% symbol g 1 1".as_slice(),
-        b"% symbol i 1 0\n% symbol ",
+        b"% symbol i 1 0\n% symbol g 256 1",
+        b"% symbol i 1 0\n% symbol i 1 0",
         b"% symbol i 2 0",
     ] {
         assert_eq!(rt;
             fault_with(alloc, LIGHT, b"% symbol i 1 0", new)?,
             syntax(4)
+        );
+    }
+    for new in [
+        b"% symbol i 1 0\n% symbol ".as_slice(),
+        b"% symbol i 1 0\n% symbol g 1 01",
+        b"% symbol i 1 0\n% symbol g 1",
+        b"% symbol i 1 0\n",
+    ] {
+        assert_eq!(rt;
+            fault_with(alloc, LIGHT, b"% symbol i 1 0", new)?,
+            syntax(5)
         );
     }
     assert_eq!(rt;

@@ -26,8 +26,6 @@ pub record Uses (facts : List Fact) (initial : List Part) (number : ℕ) (now : 
   pub sound : (conclusion : Chain) → ((p : Part) → IsAmong p initial → IsUsedPart facts conclusion p) → (p : Part) → IsAmong p now → IsUsedPart facts conclusion p
   pub closed : (n : ℕ) (fact : Fact) → number ≤ n → slice_get facts n ≡ Some fact → IsAmong (part.Fact n) now → (p : Part) → IsNamedPart fact.chain.steps p → IsAmong p now
 
-}
-
 module _ (facts : List Fact) (earlier : NameEarlier facts) (initial : List Part) (number k : ℕ) (now next : List Part) (u : Uses facts initial number now) (down : number ≡ k + 1) (own : Fact) (own_is : slice_get facts k ≡ Some own) (add : (p : Part) → IsAmong p next ↔ (IsAmong p now ⊎ (IsAmong (part.Fact k) now × IsNamedPart own.chain.steps p))) where
   from_use : (conclusion : Chain) → IsUsed facts conclusion (FactOf k) → (p : Part) → IsNamedPart own.chain.steps p → IsUsedPart facts conclusion p
   from_use conclusion v p h = let r = named_part own.chain.steps p h in subst (IsUsedPart facts conclusion) r.1 (used_part facts conclusion r.0 (by_fact v own_is r.2))

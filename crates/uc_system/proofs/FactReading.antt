@@ -47,10 +47,6 @@ module _ (table : Table) (keys : List Sym) (k : ℕ) (line front text : List ℕ
   line_unread (unread.Large from) h = let place : length (fact_front k) + from ≡ length front + from = ap (λ x. length x + from) (sym f) in subst (IsLargeLine k line) place (is_large frame h)
   line_unread unread.NoMemory h = tt
 
-  -- the bytes in front, and those of the text
-  pub few_in_front : length line < 2 ^ 31 → length front < 2 ^ 31
-  few_in_front small = omega (arith, ap length is, length-append (front ++ text) fact_end, length-append front text)
-
   pub short_text : length line < 2 ^ 31 → length text < 2 ^ 31
   short_text small = omega (arith, ap length is, length-append (front ++ text) fact_end, length-append front text)
 

@@ -19,6 +19,7 @@ pub mod Taken
 pub mod FactChecks
 pub mod Causes
 pub mod SymbolReading
+pub mod Standing
 pub mod FactReading
 pub mod NumberSteps
 pub mod SystemsRead

@@ -1,38 +1,18 @@
 -- Numbers read digit by digit.
-use Rattle.std.proofs.Common.{◌≡◌, ℕ, zero, suc, ◌+◌, ◌-◌, ◌*◌, ◌<◌, ◌≤◌, ◌^◌, min, Bool, true, false, List, [], ◌∷◌, length, get_or, take, refl, sym, ◌∙◌, subst, arith}
+use Rattle.std.proofs.Common.{◌≡◌, ℕ, ◌+◌, ◌-◌, ◌*◌, ◌<◌, ◌≤◌, ◌^◌, min, true, List, [], ◌∷◌, length, get_or, take, refl, sym, subst, arith}
 use Rattle.std.specs.List.{list_all}
 use Rattle.std.specs.Char.{digit_value}
 use Rattle.std.proofs.lemmas.Bool.Decides.{nat_tests}
 use Rattle.std.proofs.lemmas.Str.{digit_value_digit}
 use Rattle.std.proofs.lemmas.Int.Digits.{digits_value_more}
 use Rattle.std.proofs.lemmas.List.{take_more}
-use Rattle.uc_clause.specs.Bytes.{is_digit, is_digits}
+use Rattle.uc_clause.specs.Bytes.{is_digit}
 use Rattle.uc_system.specs.Numerals.{value_of}
 use Rattle.uc_system.proofs.Decimals.{all_append}
-use Rattle.uc_system.proofs.Splits.{and_left, and_right, and_both}
+use Rattle.uc_system.proofs.Splits.{and_both}
 
 pub all_more : (ds : List ℕ) (i : ℕ) → i < length ds → list_all is_digit (take i ds) ≡ true → is_digit (get_or ds i 0) ≡ true → list_all is_digit (take (i + 1) ds) ≡ true
 all_more ds i h all d = subst (λ x. list_all is_digit x ≡ true) (sym (take_more ds i 0 h)) (all_append is_digit (take i ds) (get_or ds i 0 ∷ []) all (and_both _ _ d refl))
-
-pub digits_all : (ds : List ℕ) → 0 < length ds → list_all is_digit ds ≡ true → is_digits ds ≡ true
-digits_all [] h all = absurd (omega arith)
-digits_all (d ∷ ds) h all = all
-
-digit_at : (ds : List ℕ) (i : ℕ) → i < length ds → list_all is_digit ds ≡ true → is_digit (get_or ds i 0) ≡ true
-digit_at [] i h all = absurd (omega arith)
-digit_at (d ∷ ds) zero h all = and_left (is_digit d) _ all
-digit_at (d ∷ ds) (suc i) h all = digit_at ds i (omega arith) (and_right (is_digit d) _ all)
-
-all_of : (ds : List ℕ) → is_digits ds ≡ true → list_all is_digit ds ≡ true
-all_of [] h = refl
-all_of (d ∷ ds) h = h
-
-pub no_digit : (ds : List ℕ) (i : ℕ) → i < length ds → is_digit (get_or ds i 0) ≡ false → is_digits ds ≡ false
-no_digit ds i h n = by_case (is_digits ds) refl
-  where
-    by_case : (b : Bool) → is_digits ds ≡ b → is_digits ds ≡ false
-    by_case false e = e
-    by_case true e = absurd (let both : true ≡ false = sym (digit_at ds i h (all_of ds e)) ∙ n in cc)
 
 pub value_more : (ds : List ℕ) (i value product next : ℕ) → i < length ds → digit_value (get_or ds i 0) ≡ get_or ds i 0 - 48 → value ≡ min (value_of (take i ds)) (2 ^ 32 - 1) → product ≡ min (value * 10) (2 ^ 32 - 1) → next ≡ min (product + (get_or ds i 0 - 48)) (2 ^ 32 - 1) → next ≡ min (value_of (take (i + 1) ds)) (2 ^ 32 - 1)
 value_more ds i value product next h d v p n = let more = digits_value_more 10 ds i h in omega (arith, more, d, v, p, n)

@@ -53,7 +53,7 @@ module _ (table : Table) (header : Header) where
   symbol_printable (is_no_whole_line e) s m rest g = absurd (cc)
   symbol_printable (is_no_symbol e h) s m rest g = absurd (cc)
   symbol_printable (has_too_many e h l) s m rest g = absurd (cc)
-  symbol_printable (is_symbol {p = p} f e h l y o) s m rest g =
+  symbol_printable (is_symbol {p = p} f b e h l y w o) s m rest g =
       let ranked = ranked_is _ (record { symbol = f; weight = value_of p.weight }) s _ m _ rest (sym o ∙ g) in
       let same : f ≡ s.symbol = ap (λ (x : Ranked). x.symbol) ranked.is in
       subst (IsPrintableSymbol table) same (printable_symbol table f p.name (value_of p.arity) h.name l y)

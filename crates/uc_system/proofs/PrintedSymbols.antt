@@ -17,10 +17,11 @@ use Rattle.uc_system.specs.declared.header.Header.{Header}
 use Rattle.uc_system.specs.declared.symbols.Ranked.{Ranked}
 use Rattle.uc_system.specs.Numerals.{value_of}
 use Rattle.uc_system.specs.Lines.{gets}
-use Rattle.uc_system.specs.Symbols.{symbol_words, begins_symbol, Parts, symbol_front, IsSymbolLine, is_bad_weight, is_one_of, symbol_fault, ranked_or, symbols_in, is_symbol, SymbolsAt, no_more_symbols, one_more_symbol}
+use Rattle.uc_system.specs.Symbols.{symbol_words, begins_symbol, Parts, symbol_front, IsSymbolLine, IsFollowed, is_bad_weight, is_one_of, symbol_fault, ranked_or, symbols_in, is_symbol, SymbolsAt, no_more_symbols, one_more_symbol}
 use Rattle.uc_system.specs.Printing.{bare_line, weighed_line, weighed_text, bare_text}
 use Rattle.uc_system.proofs.PrintedFacts.{cut_ended}
 use Rattle.uc_system.proofs.Decimals.{all_append, decimal_numeral, decimal_value, decimal_in_line}
+use Rattle.uc_system.proofs.Standing.{no_symbol_here}
 use Rattle.uc_system.proofs.TextsInLine.{InLine, spelling_in_line}
 
 symbol_is : (table : Table) (f : Sym) → Has table f → IsSymbol table f (name_of table f) (arity_of table f)
@@ -96,9 +97,34 @@ module _ (table : Table) where
     AreGood w0 (f ∷ fs) (w ∷ ws) = IsGood w0 f w fs × AreGood w0 fs ws
     AreGood w0 fs ws = Unit {0}
 
-    behind_weighed : (fs : List Sym) (ws : List ℕ) (rest : List ℕ) → begins_symbol rest ≡ false → length fs ≡ 0 → begins_symbol (weighed_text table fs ws ++ rest) ≡ false
-    behind_weighed [] ws rest h e = h
-    behind_weighed (f ∷ fs) ws rest h e = absurd (omega arith)
+    -- exactly another symbol's line follows, or none
+    record Next (kind : Kind) (text : List ℕ) (fs : List Sym) : Type 0 where
+      followed : Bool
+      is_so : IsFollowed kind text followed
+      none : length fs ≡ 0 → followed ≡ false
+
+    weighed_symbol : (w0 : ℕ) (f : Sym) (w : ℕ) → IsPrintableSymbol table f → w < 2 ^ 64 → IsSymbolLine (Weighing w0) (weighed_line table f w) (record { name = name_of table f; arity = decimal (arity_of table f); weight = decimal w })
+    weighed_symbol w0 f w p small = record { name = p.1; arity = decimal_numeral (arity_of table f) (omega (arith, p.2)); weight = decimal_numeral w small; is = refl }
+
+    next_weighed : (w0 : ℕ) (fs : List Sym) (ws : List ℕ) (rest : List ℕ) → begins_symbol rest ≡ false → length ws ≡ length fs → Each (IsPrintableSymbol table) fs → AreGood w0 fs ws → Next (Weighing w0) (weighed_text table fs ws ++ rest) fs
+    next_weighed w0 [] ws rest h many all good = record { followed = false; is_so = no_symbol_here (Weighing w0) rest h; none = λ e. refl }
+    next_weighed w0 (f ∷ fs) [] rest h many all good = absurd (omega arith)
+    next_weighed w0 (f ∷ fs) (w ∷ ws) rest h many all good = record {
+      followed = true;
+      is_so = record { cut = record { line = weighed_line table f w; rest = weighed_text table fs ws ++ rest }; is_cut = cut_ended (weighed_line table f w) (weighed_text table fs ws) rest (weighed_in_line f w all.0 good.0.small); parts = record { name = name_of table f; arity = decimal (arity_of table f); weight = decimal w }; line = weighed_symbol w0 f w all.0 good.0.small };
+      none = λ e. absurd (omega arith);
+    }
+
+    bare_symbol : (f : Sym) → IsPrintableSymbol table f → IsSymbolLine Paths (bare_line table f) (record { name = name_of table f; arity = decimal (arity_of table f); weight = [] })
+    bare_symbol f p = record { name = p.1; arity = decimal_numeral (arity_of table f) (omega (arith, p.2)); weight = refl; is = refl }
+
+    next_bare : (fs : List Sym) (rest : List ℕ) → begins_symbol rest ≡ false → Each (IsPrintableSymbol table) fs → Next Paths (bare_text table fs ++ rest) fs
+    next_bare [] rest h all = record { followed = false; is_so = no_symbol_here Paths rest h; none = λ e. refl }
+    next_bare (f ∷ fs) rest h all = record {
+      followed = true;
+      is_so = record { cut = record { line = bare_line table f; rest = bare_text table fs ++ rest }; is_cut = cut_ended (bare_line table f) (bare_text table fs) rest (bare_in_line f all.0); parts = record { name = name_of table f; arity = decimal (arity_of table f); weight = [] }; line = bare_symbol f all.0 };
+      none = λ e. absurd (omega arith);
+    }
 
     pub weighed_read : (w0 : ℕ) (earlier : List Ranked) (fs : List Sym) (ws : List ℕ) (n : ℕ) (rest : List ℕ) → begins_symbol rest ≡ false → length ws ≡ length fs → Each (IsPrintableSymbol table) fs → AreNew (symbols_in earlier) fs → AreDistinct fs → AreGood w0 fs ws → SymbolsAt table (header_of (Weighing w0)) earlier n (weighed_text table fs ws ++ rest) (gets (earlier ++ ranked fs ws) (n + length fs) rest)
     weighed_read w0 earlier [] ws n rest h many all new distinct good =
@@ -113,10 +139,11 @@ module _ (table : Table) where
         let arity_is : value_of (decimal (arity_of table f)) ≡ arity_of table f = decimal_value (arity_of table f) few in
         let weight_is : value_of (decimal w) ≡ w = decimal_value w good.0.small in
         let cut = cut_ended (weighed_line table f w) (weighed_text table fs ws) rest (weighed_in_line f w all.0 good.0.small) in
-        let line : IsSymbolLine (Weighing w0) (weighed_line table f w) p = record { name = all.0.1; arity = decimal_numeral (arity_of table f) few; weight = decimal_numeral w good.0.small; is = refl } in
-        let fault = no_fault w0 n f w fs (begins_symbol text) good.0 (behind_weighed fs ws rest h) in
-        let outcome : gets s (n + 1) text ≡ ranked_or (symbol_fault (header_of (Weighing w0)) (is_one_of f (symbols_in earlier)) (begins_symbol text) n (value_of p.arity) (value_of p.weight)) (record { symbol = f; weight = value_of p.weight }) n text = rw (arity_is, weight_is, new.0, fault) refl in
-        let here = is_symbol {c = record { line = weighed_line table f w; rest = text }} {p = p} f cut line (omega (arith, all.0.2, arity_is)) (subst (IsSymbol table f (name_of table f)) (sym arity_is) (symbol_is table f all.0.0)) outcome in
+        let line = weighed_symbol w0 f w all.0 good.0.small in
+        let next = next_weighed w0 fs ws rest h (omega arith) all.1 good.1 in
+        let fault = no_fault w0 n f w fs next.followed good.0 next.none in
+        let outcome : gets s (n + 1) text ≡ ranked_or (symbol_fault (header_of (Weighing w0)) (is_one_of f (symbols_in earlier)) next.followed n (value_of p.arity) (value_of p.weight)) (record { symbol = f; weight = value_of p.weight }) n text = rw (arity_is, weight_is, new.0, fault) refl in
+        let here = is_symbol {c = record { line = weighed_line table f w; rest = text }} {p = p} f next.followed cut line (omega (arith, all.0.2, arity_is)) (subst (IsSymbol table f (name_of table f)) (sym arity_is) (symbol_is table f all.0.0)) next.is_so outcome in
         let new_ones = subst (λ x. AreNew x fs) (symbols_more earlier s) (new_more (symbols_in earlier) f fs new.1 distinct.0) in
         let more = weighed_read w0 (earlier ++ s ∷ []) fs ws (n + 1) rest h (omega arith) all.1 new_ones distinct.1 good.1 in
         let number : n + 1 + length fs ≡ n + length (f ∷ fs) = omega arith in
@@ -133,9 +160,10 @@ module _ (table : Table) where
         let few : arity_of table f < 2 ^ 64 = omega (arith, all.0.2) in
         let arity_is : value_of (decimal (arity_of table f)) ≡ arity_of table f = decimal_value (arity_of table f) few in
         let cut = cut_ended (bare_line table f) (bare_text table fs) rest (bare_in_line f all.0) in
-        let line : IsSymbolLine Paths (bare_line table f) p = record { name = all.0.1; arity = decimal_numeral (arity_of table f) few; weight = refl; is = refl } in
-        let outcome : gets s (n + 1) text ≡ ranked_or (symbol_fault (header_of Paths) (is_one_of f (symbols_in earlier)) (begins_symbol text) n (value_of p.arity) (value_of p.weight)) (record { symbol = f; weight = value_of p.weight }) n text = rw new.0 refl in
-        let here = is_symbol {c = record { line = bare_line table f; rest = text }} {p = p} f cut line (omega (arith, all.0.2, arity_is)) (subst (IsSymbol table f (name_of table f)) (sym arity_is) (symbol_is table f all.0.0)) outcome in
+        let line = bare_symbol f all.0 in
+        let next = next_bare fs rest h all.1 in
+        let outcome : gets s (n + 1) text ≡ ranked_or (symbol_fault (header_of Paths) (is_one_of f (symbols_in earlier)) next.followed n (value_of p.arity) (value_of p.weight)) (record { symbol = f; weight = value_of p.weight }) n text = rw new.0 refl in
+        let here = is_symbol {c = record { line = bare_line table f; rest = text }} {p = p} f next.followed cut line (omega (arith, all.0.2, arity_is)) (subst (IsSymbol table f (name_of table f)) (sym arity_is) (symbol_is table f all.0.0)) next.is_so outcome in
         let new_ones = subst (λ x. AreNew x fs) (symbols_more earlier s) (new_more (symbols_in earlier) f fs new.1 distinct.0) in
         let more = bare_read (earlier ++ s ∷ []) fs (n + 1) rest h all.1 new_ones distinct.1 in
         let number : n + 1 + length fs ≡ n + length (f ∷ fs) = omega arith in

@@ -30,10 +30,6 @@ use Rattle.uc_system.proofs.TextsInLine.{InLine}
 use Rattle.uc_system.proofs.PrintedFacts.{facts_read}
 use Rattle.uc_system.proofs.PrintedSymbols.{ranked, unranked, AreGood, header_of, weighed_read, bare_read}
 
--- the lines behind the first two
-abbrev tail_text : Table → OrderSpec → List Equation → List ℕ
-tail_text table spec es = symbols_text table spec ++ (facts_text table 1 es ++ ended end_line)
-
 regrouped : (h o s f e : List ℕ) → ended h ++ ended o ++ s ++ f ++ e ≡ h ++ 10 ∷ (o ++ 10 ∷ (s ++ (f ++ e)))
 regrouped h o s f e = simp append_assoc refl
 
@@ -105,9 +101,6 @@ or_left false b e = absurd (cc)
 or_right : (a b : Bool) → b ≡ true → (a || b) ≡ true
 or_right true b e = refl
 or_right false b e = e
-
-any_zero : List ℕ → Bool
-any_zero ws = list_any (λ w. w == 0) ws
 
 module _ (table : Table) where
   no_more : (w0 : ℕ) (f : Sym) (w : ℕ) (fs : List Sym) (ws : List ℕ) → length ws ≡ length fs → (w == 0) ≡ true → (IsBad w0 (record { symbol = f; arity = arity_of table f; weight = w }) (weighed table fs ws) → ⊥) → length fs ≡ 0

@@ -93,9 +93,6 @@ module _ (old new : Table) (grows : Grows old new) where
     fact = fact_moves old new precedence (agrees precedence all) e l.fact;
   }
 
-  pub fact_line_stays : (precedence : List Sym) → Each (IsPrintableSymbol old) precedence → (k : ℕ) (line : List ℕ) (e : Equation) → IsFactLine old precedence k line e → IsFactLine new precedence k line e
-  fact_line_stays precedence all k line e l = fact_line_moves old new precedence (agrees precedence all) k line e l
-
   pub printable_stays : (f : Sym) → IsPrintableSymbol old f → IsPrintableSymbol new f
   printable_stays f p =
       let names = name-grows old new grows f p.0 in
@@ -107,7 +104,7 @@ module _ (old new : Table) (grows : Grows old new) where
     symbol_stays (is_no_whole_line e) = is_no_whole_line e
     symbol_stays (is_no_symbol e h) = is_no_symbol e h
     symbol_stays (has_too_many e h l) = has_too_many e h l
-    symbol_stays (is_symbol f e h l s o) = is_symbol f e h l (symbol_grows old new f _ _ grows s) o
+    symbol_stays (is_symbol f b e h l s w o) = is_symbol f b e h l (symbol_grows old new f _ _ grows s) w o
 
     pub symbols_stay : {earlier : List Ranked} {n : ℕ} {text : List ℕ} {o : Outcome (List Ranked)} → SymbolsAt old header earlier n text o → SymbolsAt new header earlier n text o
     symbols_stay (no_more_symbols e) = no_more_symbols e

@@ -14,7 +14,7 @@ use Rattle.uc_system.specs.declared.header.Header.{Header}
 use Rattle.uc_system.specs.Numerals.{is_numeral, value_of}
 use Rattle.uc_system.specs.Lines.{Cut, first_line, place_in, departs, gets, fails}
 use Rattle.uc_ordering.specs.Weights.{MAX_WEIGHT}
-use Rattle.uc_system.specs.Symbols.{symbol_words, begins_symbol, Parts, symbol_front, symbol_line, IsWeight, IsSymbolLine, is_one_of, symbol_fault, SymbolAt, has_too_many, is_symbol}
+use Rattle.uc_system.specs.Symbols.{symbol_words, IsFollowed, Parts, symbol_front, symbol_line, IsWeight, IsSymbolLine, is_one_of, symbol_fault, SymbolAt, has_too_many, is_symbol}
 use Rattle.uc_system.specs.Written.{written_line, kept, IsWritten, IsNotWritten}
 use Rattle.uc_system.proofs.Splits.{split_once, numeral_no_space}
 use Rattle.uc_system.proofs.Taken.{named_text, weighed_line_is, bare_line_is}
@@ -82,24 +82,24 @@ module _ (table : Table) (header : Header) (earlier : List Sym) (n : ℕ) (text 
   pub too_many : 255 < a → SymbolAt table header earlier n text (fails (Limit (place_in n (9 + length spelled + 1))))
   too_many big = subst (λ x. SymbolAt table header earlier n text (fails (Limit (place_in n x)))) (sym front_is) (has_too_many cut line_here (omega (arith, h.arity_is)))
 
-  module _ (few : a ≤ 255) (f : Sym) (symbol : IsSymbol table f name a) where
+  module _ (few : a ≤ 255) (f : Sym) (symbol : IsSymbol table f name a) (followed : Bool) (is_followed : IsFollowed header.kind c.rest followed) where
     arity_is : value_of h.arity_digits ≡ a
     arity_is = omega (arith, h.arity_is)
 
     abbrev fault_here : ℕ → Option SystemFault
-    fault_here x = symbol_fault header (is_one_of f earlier) (begins_symbol c.rest) n a x
+    fault_here x = symbol_fault header (is_one_of f earlier) followed n a x
 
-    both : (symbol_fault header (is_one_of f earlier) (begins_symbol c.rest) n a (kept h.weight_digits) ≡ symbol_fault header (is_one_of f earlier) (begins_symbol c.rest) n a (value_of h.weight_digits)) × (symbol_fault header (is_one_of f earlier) (begins_symbol c.rest) n a (kept h.weight_digits) ≡ None → kept h.weight_digits ≡ value_of h.weight_digits)
-    both = kept_or header (is_one_of f earlier) (begins_symbol c.rest) n a h.weight_digits header.kind refl h.is_weight
+    both : (symbol_fault header (is_one_of f earlier) followed n a (kept h.weight_digits) ≡ symbol_fault header (is_one_of f earlier) followed n a (value_of h.weight_digits)) × (symbol_fault header (is_one_of f earlier) followed n a (kept h.weight_digits) ≡ None → kept h.weight_digits ≡ value_of h.weight_digits)
+    both = kept_or header (is_one_of f earlier) followed n a h.weight_digits header.kind refl h.is_weight
 
     pub refused : (fault : SystemFault) → fault_here w ≡ Some fault → SymbolAt table header earlier n text (fails fault)
     refused fault g =
         let kept_fault : fault_here (value_of h.weight_digits) ≡ Some fault = sym both.0 ∙ ap fault_here (sym h.weight_is) ∙ g in
-        is_symbol f cut line_here (omega (arith, arity_is)) (subst (IsSymbol table f name) (sym arity_is) symbol) (rw (arity_is, kept_fault) refl)
+        is_symbol f followed cut line_here (omega (arith, arity_is)) (subst (IsSymbol table f name) (sym arity_is) symbol) is_followed (rw (arity_is, kept_fault) refl)
 
     pub taken : fault_here w ≡ None → SymbolAt table header earlier n text (gets (record { symbol = f; weight = w }) (n + 1) c.rest)
     taken g =
         let kept_none : fault_here (kept h.weight_digits) ≡ None = ap fault_here (sym h.weight_is) ∙ g in
         let weight : value_of h.weight_digits ≡ w = sym (both.1 kept_none) ∙ sym h.weight_is in
         let none : fault_here (value_of h.weight_digits) ≡ None = sym both.0 ∙ kept_none in
-        is_symbol f cut line_here (omega (arith, arity_is)) (subst (IsSymbol table f name) (sym arity_is) symbol) (rw (arity_is, none) (ap (λ x. gets (record { symbol = f; weight = x }) (n + 1) c.rest) (sym weight)))
+        is_symbol f followed cut line_here (omega (arith, arity_is)) (subst (IsSymbol table f name) (sym arity_is) symbol) is_followed (rw (arity_is, none) (ap (λ x. gets (record { symbol = f; weight = x }) (n + 1) c.rest) (sym weight)))

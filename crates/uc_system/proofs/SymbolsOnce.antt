@@ -1,5 +1,5 @@
 -- The symbols' lines are read in one way, and what is read of them.
-use Rattle.std.proofs.Common.{◌≡◌, ℕ, List, [], ◌∷◌, ◌++◌, length, refl, sym, ap, ◌∙◌, subst, append_assoc, arith, Option, Some, None}
+use Rattle.std.proofs.Common.{◌≡◌, ℕ, List, [], ◌∷◌, ◌++◌, length, refl, sym, ap, ◌∙◌, subst, append_assoc, arith, Bool, Option, Some, None}
 use Rattle.std.proofs.lemmas.List.{append_cancel_left}
 use Rattle.uc_term.specs.declared.node.Sym.{Sym}
 use Rattle.uc_term.specs.Table.{Table, IsSymbol, IsDistinct}
@@ -11,8 +11,9 @@ use Rattle.uc_system.specs.declared.header.Header.{Header}
 use Rattle.uc_system.specs.declared.symbols.Ranked.{Ranked}
 use Rattle.uc_system.specs.Numerals.{value_of}
 use Rattle.uc_system.specs.Lines.{Cut, first_line, place_in, Outcome, gets, fails}
-use Rattle.uc_system.specs.Symbols.{symbol_words, begins_symbol, Parts, symbol_front, IsSymbolLine, is_one_of, symbol_fault, ranked_or, symbols_in, SymbolAt, is_no_whole_line, is_no_symbol, has_too_many, is_symbol, SymbolsAt, no_more_symbols, one_more_symbol, fails_in_symbol, symbol_lines}
+use Rattle.uc_system.specs.Symbols.{symbol_words, Parts, symbol_front, IsSymbolLine, is_one_of, symbol_fault, ranked_or, symbols_in, IsFollowed, SymbolAt, is_no_whole_line, is_no_symbol, has_too_many, is_symbol, SymbolsAt, no_more_symbols, one_more_symbol, fails_in_symbol, symbol_lines}
 use Rattle.uc_system.proofs.LinesOnce.{Once}
+use Rattle.uc_system.proofs.Standing.{followed_once}
 use Rattle.uc_system.proofs.Splits.{split_once, numeral_no_space, name_once}
 
 -- a line without its weight
@@ -56,8 +57,8 @@ module _ (table : Table) (header : Header) where
   no_symbol_line : (text : List ℕ) (c d : Cut) (q : Parts) → first_line text ≡ Some c → first_line text ≡ Some d → ((p : Parts) → IsSymbolLine header.kind c.line p → ⊥) → IsSymbolLine header.kind d.line q → ⊥
   no_symbol_line text c d q e f none j = none q (subst (λ (x : Cut). IsSymbolLine header.kind x.line q) (some_once d c (sym f ∙ e)) j)
 
-  abbrev outcome_of : List Sym → ℕ → Cut → Parts → Sym → Outcome Ranked
-  outcome_of earlier n c p f = ranked_or (symbol_fault header (is_one_of f earlier) (begins_symbol c.rest) n (value_of p.arity) (value_of p.weight)) (record { symbol = f; weight = value_of p.weight }) n c.rest
+  abbrev outcome_of : List Sym → ℕ → Cut → Parts → Bool → Sym → Outcome Ranked
+  outcome_of earlier n c p b f = ranked_or (symbol_fault header (is_one_of f earlier) b n (value_of p.arity) (value_of p.weight)) (record { symbol = f; weight = value_of p.weight }) n c.rest
 
   same_number : (f g : Sym) → f.0 ≡ g.0 → f ≡ g
   same_number f g e = ap (λ k. record { 0 = k }) e
@@ -70,22 +71,23 @@ module _ (table : Table) (header : Header) where
     symbol_once earlier n text _ _ (is_no_whole_line e) (is_no_whole_line f) = refl
     symbol_once earlier n text _ _ (is_no_whole_line e) (is_no_symbol {c = c} f k) = absurd (some_or_none _ c f e)
     symbol_once earlier n text _ _ (is_no_whole_line e) (has_too_many {c = c} f k m) = absurd (some_or_none _ c f e)
-    symbol_once earlier n text _ _ (is_no_whole_line e) (is_symbol {c = c} a f k m s o) = absurd (some_or_none _ c f e)
+    symbol_once earlier n text _ _ (is_no_whole_line e) (is_symbol {c = c} a x f k m s z o) = absurd (some_or_none _ c f e)
     symbol_once earlier n text _ _ (is_no_symbol {c = c} e h) (is_no_whole_line f) = absurd (some_or_none _ c e f)
     symbol_once earlier n text _ _ (is_no_symbol e h) (is_no_symbol f k) = refl
     symbol_once earlier n text _ _ (is_no_symbol {c = c} e h) (has_too_many {c = g} {p = q} f k m) = absurd (no_symbol_line text c g q e f h k)
-    symbol_once earlier n text _ _ (is_no_symbol {c = c} e h) (is_symbol {c = g} {p = q} a f k m s o) = absurd (no_symbol_line text c g q e f h k)
+    symbol_once earlier n text _ _ (is_no_symbol {c = c} e h) (is_symbol {c = g} {p = q} a x f k m s z o) = absurd (no_symbol_line text c g q e f h k)
     symbol_once earlier n text _ _ (has_too_many {c = c} e h m) (is_no_whole_line f) = absurd (some_or_none _ c e f)
     symbol_once earlier n text _ _ (has_too_many {c = c} {p = p} e h m) (is_no_symbol {c = g} f k) = absurd (no_symbol_line text g c p f e k h)
     symbol_once earlier n text _ _ (has_too_many {c = c} {p = p} e h m) (has_too_many {c = g} {p = q} f k l) = let same = same_line text c g p q e f h k in ap (λ (x : Parts). fails (Limit (place_in n (length (symbol_front x.name))))) same.1
-    symbol_once earlier n text _ _ (has_too_many {c = c} {p = p} e h m) (is_symbol {c = g} {p = q} a f k l s o) = let same = same_line text c g p q e f h k in absurd (let arities : value_of p.arity ≡ value_of q.arity = ap (λ (x : Parts). value_of x.arity) same.1 in omega arith)
-    symbol_once earlier n text _ _ (is_symbol {c = c} a e h m s o) (is_no_whole_line f) = absurd (some_or_none _ c e f)
-    symbol_once earlier n text _ _ (is_symbol {c = c} {p = p} a e h m s o) (is_no_symbol {c = g} f k) = absurd (no_symbol_line text g c p f e k h)
-    symbol_once earlier n text _ _ (is_symbol {c = c} {p = p} a e h m s o) (has_too_many {c = g} {p = q} f k l) = let same = same_line text c g p q e f h k in absurd (let arities : value_of p.arity ≡ value_of q.arity = ap (λ (x : Parts). value_of x.arity) same.1 in omega arith)
-    symbol_once earlier n text _ _ (is_symbol {c = c} {p = p} a e h m s o) (is_symbol {c = g} {p = q} b f k l t u) =
+    symbol_once earlier n text _ _ (has_too_many {c = c} {p = p} e h m) (is_symbol {c = g} {p = q} a x f k l s z o) = let same = same_line text c g p q e f h k in absurd (let arities : value_of p.arity ≡ value_of q.arity = ap (λ (x : Parts). value_of x.arity) same.1 in omega arith)
+    symbol_once earlier n text _ _ (is_symbol {c = c} a x e h m s z o) (is_no_whole_line f) = absurd (some_or_none _ c e f)
+    symbol_once earlier n text _ _ (is_symbol {c = c} {p = p} a x e h m s z o) (is_no_symbol {c = g} f k) = absurd (no_symbol_line text g c p f e k h)
+    symbol_once earlier n text _ _ (is_symbol {c = c} {p = p} a x e h m s z o) (has_too_many {c = g} {p = q} f k l) = let same = same_line text c g p q e f h k in absurd (let arities : value_of p.arity ≡ value_of q.arity = ap (λ (x : Parts). value_of x.arity) same.1 in omega arith)
+    symbol_once earlier n text _ _ (is_symbol {c = c} {p = p} a x e h m s z o) (is_symbol {c = g} {p = q} b y f k l t w u) =
         let same = same_line text c g p q e f h k in
         let symbols : a ≡ b = same_symbol a b p q same.1 s t in
-        o ∙ (λ i. outcome_of earlier n (same.0 i) (same.1 i) (symbols i)) ∙ sym u
+        let followed : x ≡ y = followed_once header.kind g.rest x y (subst (λ (v : Cut). IsFollowed header.kind v.rest x) same.0 z) w in
+        o ∙ (λ i. outcome_of earlier n (same.0 i) (same.1 i) (followed i) (symbols i)) ∙ sym u
 
     symbols_once : {earlier : List Ranked} {n : ℕ} {text : List ℕ} {o p : Outcome (List Ranked)} → SymbolsAt table header earlier n text o → SymbolsAt table header earlier n text p → o ≡ p
     symbols_once (no_more_symbols e) (no_more_symbols f) = refl

@@ -21,7 +21,7 @@ use Rattle.uc_system.specs.declared.system.SystemText.{SystemText}
 use Rattle.uc_system.specs.Numerals.{is_numeral, value_of}
 use Rattle.uc_system.specs.Lines.{Cut, first_line, departs, Outcome, gets, goes_on, passed_or, value_or, picked}
 use Rattle.uc_system.specs.Header.{weighing_words, paths_line, weighing_of, kind_of, header_lines}
-use Rattle.uc_system.specs.Symbols.{begins_symbol, symbols_in, weights_in, is_bad_weight, weighs_nothing, is_one_of, symbol_fault, has_light, has_constant, SymbolAt, is_no_whole_line, is_no_symbol, has_too_many, is_symbol, SymbolsAt, no_more_symbols, one_more_symbol, fails_in_symbol, symbols_fault}
+use Rattle.uc_system.specs.Symbols.{StandsSymbol, IsFollowed, symbols_in, weights_in, is_bad_weight, weighs_nothing, is_one_of, symbol_fault, has_light, has_constant, SymbolAt, is_no_whole_line, is_no_symbol, has_too_many, is_symbol, SymbolsAt, no_more_symbols, one_more_symbol, fails_in_symbol, symbols_fault}
 use Rattle.uc_system.specs.Facts.{IsFact, FactsAt, no_more_facts, one_more_fact, has_large_term, is_no_fact}
 use Rattle.uc_system.specs.Facts as facts
 use Rattle.uc_system.specs.Reading.{text_of, system_lines, IsSystem}
@@ -65,19 +65,25 @@ module _ (table : Table) (header : Header) where
   record IsTaken (earlier : List Sym) (s : Ranked) (rest : List ℕ) : Type 0 where
     fine : is_bad_weight header.kind (arity_of table s.symbol) s.weight ≡ false
     new : is_one_of s.symbol earlier ≡ false
-    last : weighs_nothing header.kind s.weight ≡ true → begins_symbol rest ≡ false
+    last : weighs_nothing header.kind s.weight ≡ true → StandsSymbol header.kind rest → ⊥
 
   taken : {earlier : List Sym} {n : ℕ} {text : List ℕ} {o : Outcome Ranked} → SymbolAt table header earlier n text o → (s : Ranked) (m : ℕ) (rest : List ℕ) → o ≡ gets s m rest → IsTaken earlier s rest
   taken (is_no_whole_line e) s m rest g = absurd (cc)
   taken (is_no_symbol e h) s m rest g = absurd (cc)
   taken (has_too_many e h l) s m rest g = absurd (cc)
-  taken {earlier} {n} (is_symbol {c = c} {p = p} f e h l y o) s m rest g =
+  taken {earlier} {n} (is_symbol {c = c} {p = p} f b e h l y z o) s m rest g =
       let made : Ranked = record { symbol = f; weight = value_of p.weight } in
-      let ranked = ranked_is (symbol_fault header (is_one_of f earlier) (begins_symbol c.rest) n (value_of p.arity) (value_of p.weight)) made s n m c.rest rest (sym o ∙ g) in
-      let right = fine_by (is_bad_weight header.kind (value_of p.arity) (value_of p.weight)) (is_one_of f earlier) (weighs_nothing header.kind (value_of p.weight)) header.light (begins_symbol c.rest) (departs n) (departs header.first) (departs n) ranked.no_fault in
+      let ranked = ranked_is (symbol_fault header (is_one_of f earlier) b n (value_of p.arity) (value_of p.weight)) made s n m c.rest rest (sym o ∙ g) in
+      let right = fine_by (is_bad_weight header.kind (value_of p.arity) (value_of p.weight)) (is_one_of f earlier) (weighs_nothing header.kind (value_of p.weight)) header.light b (departs n) (departs header.first) (departs n) ranked.no_fault in
       let arities : value_of p.arity ≡ arity_of table f = arity_is table f p.name (value_of p.arity) y in
-      let here : IsTaken earlier made c.rest = record { fine = subst (λ a. is_bad_weight header.kind a (value_of p.weight) ≡ false) arities right.fine; new = right.new; last = right.last } in
+      let here : IsTaken earlier made c.rest = record { fine = subst (λ a. is_bad_weight header.kind a (value_of p.weight) ≡ false) arities right.fine; new = right.new; last = λ w. subst (IsFollowed header.kind c.rest) (right.last w) z } in
       subst (λ (x : List ℕ). IsTaken earlier s x) ranked.rest_is (subst (λ (x : Ranked). IsTaken earlier x c.rest) ranked.is here)
+
+  stands : {earlier : List Sym} {n : ℕ} {text : List ℕ} {o : Outcome Ranked} → SymbolAt table header earlier n text o → (s : Ranked) (m : ℕ) (rest : List ℕ) → o ≡ gets s m rest → StandsSymbol header.kind text
+  stands (is_no_whole_line e) s m rest g = absurd (cc)
+  stands (is_no_symbol e h) s m rest g = absurd (cc)
+  stands (has_too_many e h l) s m rest g = absurd (cc)
+  stands (is_symbol {c = c} {p = p} f b e h l y z o) s m rest g = record { cut = c; is_cut = e; parts = p; line = h }
 
   none_twice : {earlier : List Ranked} {n : ℕ} {text : List ℕ} {o : Outcome (List Ranked)} → SymbolsAt table header earlier n text o → (ss : List Ranked) (m : ℕ) (rest : List ℕ) → o ≡ gets ss m rest → AreDistinct (symbols_in earlier) → AreDistinct (symbols_in ss)
   none_twice {earlier} (no_more_symbols e) ss m rest g d = let same : earlier ≡ ss = cc in subst (λ (x : List Ranked). AreDistinct (symbols_in x)) same d
@@ -136,7 +142,7 @@ module _ (table : Table) (header : Header) (w0 : ℕ) (kind : header.kind ≡ We
     more : List Ranked
     is : ss ≡ earlier ++ more
     good : NoneBad w0 (weighed table (symbols_in more) (weights_in more))
-    none : begins_symbol text ≡ false → length more ≡ 0
+    none : (StandsSymbol header.kind text → ⊥) → length more ≡ 0
 
   good_weights : {earlier : List Ranked} {n : ℕ} {text : List ℕ} {o : Outcome (List Ranked)} → SymbolsAt table header earlier n text o → (ss : List Ranked) (m : ℕ) (rest : List ℕ) → o ≡ gets ss m rest → Behind earlier ss text
   good_weights {earlier} (no_more_symbols e) ss m rest g = let same : earlier ≡ ss = cc in record { more = []; is = sym same ∙ sym (append-nil earlier); good = tt; none = λ _. refl }
@@ -144,12 +150,12 @@ module _ (table : Table) (header : Header) (w0 : ℕ) (kind : header.kind ≡ We
       let t = taken table header x s k q refl in
       let b = good_weights y ss m rest g in
       let fine : is_bad_weight (Weighing w0) (arity_of table s.symbol) s.weight ≡ false = subst (λ (x : Kind). is_bad_weight x (arity_of table s.symbol) s.weight ≡ false) kind t.fine in
-      let last : weighs_nothing (Weighing w0) s.weight ≡ true → begins_symbol q ≡ false = subst (λ (x : Kind). weighs_nothing x s.weight ≡ true → begins_symbol q ≡ false) kind t.last in
+      let last : weighs_nothing (Weighing w0) s.weight ≡ true → StandsSymbol header.kind q → ⊥ = subst (λ (x : Kind). weighs_nothing x s.weight ≡ true → StandsSymbol header.kind q → ⊥) kind t.last in
       record {
         more = s ∷ b.more;
         is = b.is ∙ append_assoc earlier (s ∷ []) b.more;
         good = (not_bad w0 (arity_of table s.symbol) s.weight s.symbol (weighed table (symbols_in b.more) (weights_in b.more)) fine (λ z. weighed_none table b.more (b.none (last (is_zero s.weight z)))), b.good);
-        none = λ h. absurd (let both : true ≡ false = sym e ∙ h in cc);
+        none = λ h. absurd (h (stands table header x s k q refl));
       }
   good_weights (fails_in_symbol e x) ss m rest g = absurd (cc)
 

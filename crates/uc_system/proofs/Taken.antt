@@ -1,44 +1,20 @@
 -- How the reader takes a symbol's line apart.
-use Rattle.std.proofs.Common.{◌≡◌, ℕ, suc, ◌+◌, ◌≤◌, ◌==◌, Bool, true, false, not, List, [], ◌∷◌, ◌++◌, length, take, drop, get_or, drop-cons, take-append-drop, refl, sym, ap, ap₂, ◌∙◌, subst, append_assoc, length-append, arith}
+use Rattle.std.proofs.Common.{◌≡◌, ℕ, ◌+◌, ◌≤◌, Bool, true, false, List, [], ◌∷◌, ◌++◌, length, refl, sym, ap, ◌∙◌, subst, append_assoc, length-append, arith}
 use Rattle.std.specs.Prelude.{codes, bytes_eq, IsTrue, ◌↔◌, MatchOption, IfSome, Option, Some, None}
-use Rattle.std.proofs.lemmas.Bool.Decides.{nat_tests}
 use Rattle.std.proofs.lemmas.List.{append_cancel_left}
 use Rattle.uc_clause.specs.Names.{IsSpellable, spelling, stands_for}
-use Rattle.uc_clause.proofs.ReadBack.{spelling_some}
 use Rattle.uc_system.specs.declared.symbols.Written.{Written}
 use Rattle.uc_system.specs.declared.header.Kind.{Kind}
 use Rattle.uc_system.specs.declared.header.Kind.TheVariants.{Weighing, Paths}
 use Rattle.uc_system.specs.Numerals.{is_numeral}
 use Rattle.uc_system.specs.Symbols.{symbol_words}
-use Rattle.uc_system.specs.Written.{HasNoSpace, IsSplit, written_line, kept, IsWritten, IsNotWritten, IsNamed, IsNotNamed, IsWordOf, kind_at}
+use Rattle.uc_system.specs.Written.{IsSplit, written_line, kept, IsWritten, IsNotWritten, IsNamed, IsNotNamed, IsWordOf, kind_at}
 use Rattle.uc_system.proofs.Compared.{bytes_differ}
-use Rattle.uc_system.proofs.Splits.{and_both, split_once, numeral_no_space, has_space, name_back}
-
--- the last space
-pub split_here : (text front back : List ℕ) (at end : ℕ) → end ≡ at + 1 → end ≤ length text → get_or text at 0 ≡ 32 → front ≡ take at text → back ≡ drop end text → HasNoSpace (drop end text) → IsSplit text front back
-split_here text front back at end e within here f b none =
-    let ends : suc at ≡ end = omega arith in
-    let rest : drop at text ≡ 32 ∷ back = drop-cons text at 0 (omega arith) ∙ ap₂ (λ x l. x ∷ l) here (ap (λ i. drop i text) ends ∙ sym b) in
-    record {
-      is = sym (take-append-drop at text) ∙ ap₂ (λ x y. x ++ y) (sym f) rest;
-      last = subst HasNoSpace (sym b) none;
-    }
-
-no_space_byte : (b : ℕ) → (b ≡ 32 → ⊥) → not (b == 32) ≡ true
-no_space_byte b n = grind (arith, nat_tests)
-
-pub space_more : (text : List ℕ) (at end : ℕ) → end ≡ at + 1 → end ≤ length text → (get_or text at 0 ≡ 32 → ⊥) → HasNoSpace (drop end text) → HasNoSpace (drop at text)
-space_more text at end e within n none =
-    let ends : end ≡ suc at = omega arith in
-    let rest : HasNoSpace (drop (suc at) text) = subst (λ i. HasNoSpace (drop i text)) ends none in
-    subst HasNoSpace (sym (drop-cons text at 0 (omega arith))) (and_both _ _ (no_space_byte (get_or text at 0) n) rest)
+use Rattle.uc_system.proofs.Splits.{split_once, numeral_no_space, name_back}
 
 -- a name and an arity
 pub named_text : (spelled arity : List ℕ) → spelled ++ codes " " ++ arity ≡ spelled ++ 32 ∷ arity
 named_text spelled arity = append_assoc spelled (32 ∷ []) arity
-
-pub no_space_not_named : (text : List ℕ) → HasNoSpace text → IsNotNamed text
-no_space_not_named text none spelled arity h e = has_space spelled arity (subst HasNoSpace (e ∙ named_text spelled arity) none)
 
 false_or_true : (b : Bool) → b ≡ false → b ≡ true → ⊥
 false_or_true b e f = cc
@@ -48,24 +24,12 @@ no_numeral_not_named text front back s n spelled arity h e =
     let r = split_once front spelled back arity s.last (numeral_no_space arity h) (sym s.is ∙ e ∙ named_text spelled arity) in
     false_or_true (is_numeral back) n (subst (λ x. is_numeral x ≡ true) (sym r.1) h)
 
-pub is_named : (text front back : List ℕ) (n : ℕ) → IsSplit text front back → is_numeral back ≡ true → n ≡ kept back → IsNamed text front n
-is_named text front back n s h e = record { arity_digits = back; is_arity = h; is = s.is ∙ sym (named_text front back); arity_is = e }
-
 -- and a weight
 pub weighed_line_is : (w0 : ℕ) (spelled arity weight : List ℕ) → written_line (Weighing w0) spelled arity weight ≡ symbol_words ++ ((spelled ++ codes " " ++ arity) ++ 32 ∷ weight)
 weighed_line_is w0 spelled arity weight = simp append_assoc refl
 
 pub bare_line_is : (spelled arity weight : List ℕ) → written_line Paths spelled arity weight ≡ symbol_words ++ (spelled ++ codes " " ++ arity)
 bare_line_is spelled arity weight = simp append_assoc refl
-
-pub other_words : (kind : Kind) (line : List ℕ) → ((rest : List ℕ) → line ≡ symbol_words ++ rest → ⊥) → IsNotWritten kind line
-other_words (Weighing w0) line n spelled arity weight a w e = n _ (e ∙ weighed_line_is w0 spelled arity weight)
-other_words Paths line n spelled arity weight a w e = n _ (e ∙ bare_line_is spelled arity weight)
-
-pub no_space_not_written : (w0 : ℕ) (line rest : List ℕ) → line ≡ symbol_words ++ rest → HasNoSpace rest → IsNotWritten (Weighing w0) line
-no_space_not_written w0 line rest l none spelled arity weight a w e =
-    let same : rest ≡ (spelled ++ codes " " ++ arity) ++ 32 ∷ weight = append_cancel_left symbol_words rest _ (sym l ∙ e ∙ weighed_line_is w0 spelled arity weight) in
-    has_space (spelled ++ codes " " ++ arity) weight (subst HasNoSpace same none)
 
 split_is : (w0 : ℕ) (line rest front back spelled arity weight : List ℕ) → line ≡ symbol_words ++ rest → IsSplit rest front back → is_numeral weight ≡ true → line ≡ written_line (Weighing w0) spelled arity weight → (front ≡ spelled ++ codes " " ++ arity) × (back ≡ weight)
 split_is w0 line rest front back spelled arity weight l s w e =
@@ -82,9 +46,6 @@ no_name_not_written w0 line rest front back l s n spelled arity weight a w e =
     let r = split_is w0 line rest front back spelled arity weight l s w e in
     n spelled arity a r.0
 
-pub no_bare_not_written : (line rest : List ℕ) → line ≡ symbol_words ++ rest → IsNotNamed rest → IsNotWritten Paths line
-no_bare_not_written line rest l n spelled arity weight a w e = n spelled arity a (append_cancel_left symbol_words rest _ (sym l ∙ e ∙ bare_line_is spelled arity weight))
-
 pub is_written : (w0 : ℕ) (line rest front back spelled : List ℕ) (n m : ℕ) → line ≡ symbol_words ++ rest → IsSplit rest front back → is_numeral back ≡ true → m ≡ kept back → IsNamed front spelled n → IsWritten (Weighing w0) line spelled n m
 is_written w0 line rest front back spelled n m l s h k i = record {
   arity_digits = i.arity_digits;
@@ -95,21 +56,6 @@ is_written w0 line rest front back spelled n m l s h k i = record {
   arity_is = i.arity_is;
   weight_is = k;
 }
-
-pub is_bare_written : (line rest spelled : List ℕ) (n m : ℕ) → line ≡ symbol_words ++ rest → m ≡ 0 → IsNamed rest spelled n → IsWritten Paths line spelled n m
-is_bare_written line rest spelled n m l k i = record {
-  arity_digits = i.arity_digits;
-  weight_digits = [];
-  is_arity = i.is_arity;
-  is_weight = refl;
-  is = l ∙ ap (λ x. symbol_words ++ x) i.is ∙ sym (bare_line_is spelled i.arity_digits []);
-  arity_is = i.arity_is;
-  weight_is = k;
-}
-
--- the word that is spelled so
-pub nothing_spelled : (spelled : List ℕ) → length spelled ≡ 0 → (name : List ℕ) → IsSpellable name → spelled ≡ spelling name → ⊥
-nothing_spelled spelled h name s e = omega (arith, spelling_some name s, ap length e)
 
 -- what it stands for is the only word that can be spelled so
 pub word_only : (spelled word : List ℕ) → word ≡ stands_for (kind_at spelled) spelled → (name : List ℕ) → spelled ≡ spelling name → name ≡ word

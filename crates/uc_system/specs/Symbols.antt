@@ -53,6 +53,18 @@ pub record IsSymbolLine (kind : Kind) (line : List ℕ) (p : Parts) : Type 0 whe
   pub weight : IsWeight kind p.weight
   pub is : line ≡ symbol_line kind p
 
+-- exactly a symbol's line stands here
+pub record StandsSymbol (kind : Kind) (text : List ℕ) : Type 0 where
+  pub cut : Cut
+  pub is_cut : first_line text ≡ Some cut
+  pub parts : Parts
+  pub line : IsSymbolLine kind cut.line parts
+
+-- whether one does
+abbrev pub IsFollowed : Kind → List ℕ → Bool → Type 0
+IsFollowed kind text true = StandsSymbol kind text
+IsFollowed kind text false = StandsSymbol kind text → ⊥
+
 abbrev pub symbols_in : List Ranked → List Sym
 symbols_in ss = map (λ (s : Ranked). s.symbol) ss
 
@@ -73,7 +85,7 @@ is_one_of f fs = list_any (same_symbol f) fs
 
 module _ (header : Header) where
   -- What is wrong with a symbol of this arity and weight in the line of this number: first what its line says, then that the
-  -- first line doesn't say that a symbol weighs 0, then that another symbol follows one that does.
+  -- first line doesn't say that a symbol weighs 0, then that exactly the line of another one follows one that does.
   abbrev pub symbol_fault : Bool → Bool → ℕ → ℕ → ℕ → Option SystemFault
   symbol_fault repeated followed n arity weight =
       if is_bad_weight header.kind arity weight || repeated then Some (departs n)
@@ -97,7 +109,7 @@ module _ (table : Table) (header : Header) where
     is_no_whole_line : first_line text ≡ None → SymbolAt earlier n text (fails (departs n))
     is_no_symbol : {c : Cut} → first_line text ≡ Some c → ((p : Parts) → IsSymbolLine header.kind c.line p → ⊥) → SymbolAt earlier n text (fails (departs n))
     has_too_many : {c : Cut} {p : Parts} → first_line text ≡ Some c → IsSymbolLine header.kind c.line p → 255 < value_of p.arity → SymbolAt earlier n text (fails (Limit (place_in n (length (symbol_front p.name)))))
-    is_symbol : {c : Cut} {p : Parts} {outcome : Outcome Ranked} (f : Sym) → first_line text ≡ Some c → IsSymbolLine header.kind c.line p → value_of p.arity ≤ 255 → IsSymbol table f p.name (value_of p.arity) → outcome ≡ ranked_or (symbol_fault header (is_one_of f earlier) (begins_symbol c.rest) n (value_of p.arity) (value_of p.weight)) (record { symbol = f; weight = value_of p.weight }) n c.rest → SymbolAt earlier n text outcome
+    is_symbol : {c : Cut} {p : Parts} {outcome : Outcome Ranked} (f : Sym) (followed : Bool) → first_line text ≡ Some c → IsSymbolLine header.kind c.line p → value_of p.arity ≤ 255 → IsSymbol table f p.name (value_of p.arity) → IsFollowed header.kind c.rest followed → outcome ≡ ranked_or (symbol_fault header (is_one_of f earlier) followed n (value_of p.arity) (value_of p.weight)) (record { symbol = f; weight = value_of p.weight }) n c.rest → SymbolAt earlier n text outcome
 
   -- all of these lines, behind those of these symbols
   pub data SymbolsAt : List Ranked → ℕ → List ℕ → Outcome (List Ranked) → Type 0 where

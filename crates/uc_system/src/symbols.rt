@@ -1,12 +1,12 @@
 //! The lines of the symbols.
 
-ghost use Rattle.std.specs.Prelude.{◌≡◌, ◌<◌, ◌^◌, length, false, IsTrue, ◌↔◌, IfOk, IfSome, MatchOption};
+ghost use Rattle.std.specs.Prelude.{◌≡◌, ◌<◌, ◌^◌, length, drop, false, IsTrue, ◌↔◌, IfOk, IfSome, MatchOption};
 ghost use Rattle.uc_term.specs.Table.{Table, Grows, Has};
 ghost use Rattle.std.specs.List.{list_all};
 ghost use Rattle.uc_clause.specs.Bytes.{between};
 ghost use Rattle.uc_clause.specs.Names.{IsSpellable, stands_for};
 ghost use Rattle.uc_order.specs.Members.{Each};
-ghost use Rattle.uc_system.specs.Symbols.{begins_symbol, is_bad_weight, weighs_nothing, symbol_fault, symbols_fault, has_light, has_constant, symbols_in, is_one_of, SymbolAt};
+ghost use Rattle.uc_system.specs.Symbols.{begins_symbol, is_bad_weight, weighs_nothing, symbol_fault, symbols_fault, has_light, has_constant, symbols_in, is_one_of, IsFollowed, SymbolAt};
 ghost use Rattle.uc_system.specs.Places.{IsAt};
 ghost use Rattle.uc_system.specs.Written.{HasNoSpace, IsSplit, IsWritten, IsNotWritten, IsNamed, IsNotNamed, IsWordOf, kind_at, AreSame};
 ghost use Rattle.uc_system.specs.Reads.{GivesIn, ReadsSymbols};
@@ -209,6 +209,24 @@ fn symbol_fault(
     None
 }
 
+// Whether exactly a symbol's line stands here.
+fn stands_symbol(alloc: Global, bytes: &[u8], kind: Kind, at: Cursor) -> Result<bool, AllocError>
+    requires small { length bytes.now < 2 ^ 31 }
+    requires at { IsAt bytes.now at }
+    ensures { IfOk result (IsFollowed kind (drop at.from bytes.now)) }
+{
+    let Some((line, _)) = line_at(bytes, at) else {
+        return Ok(false);
+    };
+    let Some(written) = written_in(kind, line) else {
+        return Ok(false);
+    };
+    match word_of(alloc, written.spelled)? {
+        Some(_) => Ok(true),
+        None => Ok(false),
+    }
+}
+
 // Reads a symbol's line, behind the lines of these.
 fn symbol_at(
     alloc: Global,
@@ -241,8 +259,7 @@ fn symbol_at(
     }
     let symbol = symbols.intern(alloc, name.as_bytes(), arity)?;
     let repeated = earlier.contains(&symbol);
-    let (_, rest) = bytes.split_at(next.from);
-    let followed = begins_symbol(rest);
+    let followed = stands_symbol(alloc, bytes, header.kind, next)?;
     match symbol_fault(header, repeated, followed, at.number, arity, weight) {
         Some(fault) => Err(fault),
         None => Ok((Ranked { symbol, weight }, next)),

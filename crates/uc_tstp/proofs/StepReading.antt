@@ -78,7 +78,6 @@ module _ (bytes : List ℕ) (tokens : List Token) where
     kept_none = record { steps = []; ahead = ahead_none bytes tokens (lines.step bytes tokens) from; seen_is = refl; says = say_nothing; table_is = refl }
 
     module _ (more : Bool) (at : ℕ) (now_seen : Variables) (table : Table) (drafts : List StepDraft) (k : Kept more at now_seen table drafts) where
-
       module _ (on : more ≡ true) where
         pub kept_stops : (err : Stop) → Stops (lines.step bytes tokens at) err → Stops (lines.members bytes tokens (lines.step bytes tokens) from) err
         kept_stops err h = ahead_stops bytes tokens (lines.step bytes tokens) from k.steps at err (ahead_on bytes tokens (lines.step bytes tokens) from k.steps more at on k.ahead) h

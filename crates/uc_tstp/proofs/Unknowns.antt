@@ -83,7 +83,6 @@ module _ (bytes : List ℕ) (tokens : List Token) (names : List (List ℕ)) wher
     pub lacks : (e : Unresolved) → Lacks bytes tokens names (mention rest) e → Lacks bytes tokens names (mention all) e
 
   module _ {D S : Type 0} (Resolves : List D → List S → Type 0) (mention : List D → List ℕ) (all : List D) where
-
     pub ahead_all : (done : List S) → Ahead Resolves mention all done [] → Resolves [] [] → Resolves all done
     ahead_all done ahead h = subst (Resolves all) (append-nil done) (ahead.comes_to [] h)
 

@@ -23,16 +23,19 @@ returns-then-arity-gt-MAX_ARITY-clause-reads c = rw c.place_in.ensures (too_many
 
 pub returns-in-Some-symbol_fault-clause-reads : goal.returns-in-Some-symbol_fault-clause-reads
 returns-in-Some-symbol_fault-clause-reads c =
-    let wrong = wrong_is_so c.intern.new.self c.args.header c.args.earlier.now.keys c.args.bytes.now c.args.at c.in-Some.next c.in-Some.line.now c.in-Some.ensures c.in-Some-written_in.written.spelled.now c.in-Some-written_in.written.arity c.in-Some-written_in.written.weight c.in-Some-written_in.ensures c.in_ok-symbol.symbol c.symbol_fault.result c.contains-repeated.result c.begins_symbol-followed.result c.split_at.result.1.now c.symbol_fault.ensures c.contains-repeated.ensures c.begins_symbol-followed.ensures c.split_at.ensures.back in
-    symbol_wrong c.intern.new.self c.args.header c.args.earlier.now.keys c.args.bytes.now c.args.at c.in-Some.next c.in-Some.line.now c.in-Some.ensures c.in-Some-written_in.written.spelled.now c.in-Some-written_in.written.arity c.in-Some-written_in.written.weight c.in-Some-written_in.ensures c.in-Some-2.name (rw c.in-Some-2.is at c.in_ok-name.ensures) c.if-arity-gt-MAX_ARITY.false c.in_ok-symbol.symbol (rw c.as_bytes.ensures at c.in_ok-symbol.ensures.interned.0) c.symbol_fault.result wrong c.in-Some-symbol_fault.fault c.in-Some-symbol_fault.is
+    let wrong = wrong_is_so c.intern.new.self c.args.header c.args.earlier.now.keys c.args.bytes.now c.args.at c.in-Some.next c.in-Some.line.now c.in-Some.ensures c.in-Some-written_in.written.spelled.now c.in-Some-written_in.written.arity c.in-Some-written_in.written.weight c.in-Some-written_in.ensures c.in_ok-symbol.symbol c.symbol_fault.result c.contains-repeated.result c.in_ok-followed.followed c.symbol_fault.ensures c.contains-repeated.ensures in
+    symbol_wrong c.intern.new.self c.args.header c.args.earlier.now.keys c.args.bytes.now c.args.at c.in-Some.next c.in-Some.line.now c.in-Some.ensures c.in-Some-written_in.written.spelled.now c.in-Some-written_in.written.arity c.in-Some-written_in.written.weight c.in-Some-written_in.ensures c.in-Some-2.name (rw c.in-Some-2.is at c.in_ok-name.ensures) c.if-arity-gt-MAX_ARITY.false c.in_ok-symbol.symbol (rw c.as_bytes.ensures at c.in_ok-symbol.ensures.interned.0) c.in_ok-followed.followed c.in_ok-followed.ensures c.symbol_fault.result wrong c.in-Some-symbol_fault.fault c.in-Some-symbol_fault.is
+
+pub returns-in_err-followed-clause-grows : goal.returns-in_err-followed-clause-grows
+returns-in_err-followed-clause-grows c = interned_grows c.args.symbols.now c.intern.new.self c.as_bytes.result.now c.in-Some-written_in.written.arity c.in_ok-symbol.symbol c.in_ok-symbol.ensures.interned
 
 pub returns-in-Some-symbol_fault-clause-grows : goal.returns-in-Some-symbol_fault-clause-grows
 returns-in-Some-symbol_fault-clause-grows c = interned_grows c.args.symbols.now c.intern.new.self c.as_bytes.result.now c.in-Some-written_in.written.arity c.in_ok-symbol.symbol c.in_ok-symbol.ensures.interned
 
 pub returns-clause-reads : goal.returns-clause-reads
 returns-clause-reads c =
-    let wrong = wrong_is_so c.intern.new.self c.args.header c.args.earlier.now.keys c.args.bytes.now c.args.at c.in-Some.next c.in-Some.line.now c.in-Some.ensures c.in-Some-written_in.written.spelled.now c.in-Some-written_in.written.arity c.in-Some-written_in.written.weight c.in-Some-written_in.ensures c.in_ok-symbol.symbol c.symbol_fault.result c.contains-repeated.result c.begins_symbol-followed.result c.split_at.result.1.now c.symbol_fault.ensures c.contains-repeated.ensures c.begins_symbol-followed.ensures c.split_at.ensures.back in
-    symbol_right c.intern.new.self c.args.header c.args.earlier.now.keys c.args.bytes.now c.args.at c.in-Some.next c.in-Some.line.now c.in-Some.ensures c.in-Some-written_in.written.spelled.now c.in-Some-written_in.written.arity c.in-Some-written_in.written.weight c.in-Some-written_in.ensures c.in-Some-2.name (rw c.in-Some-2.is at c.in_ok-name.ensures) c.if-arity-gt-MAX_ARITY.false c.in_ok-symbol.symbol (rw c.as_bytes.ensures at c.in_ok-symbol.ensures.interned.0) c.symbol_fault.result wrong c.in-None.is
+    let wrong = wrong_is_so c.intern.new.self c.args.header c.args.earlier.now.keys c.args.bytes.now c.args.at c.in-Some.next c.in-Some.line.now c.in-Some.ensures c.in-Some-written_in.written.spelled.now c.in-Some-written_in.written.arity c.in-Some-written_in.written.weight c.in-Some-written_in.ensures c.in_ok-symbol.symbol c.symbol_fault.result c.contains-repeated.result c.in_ok-followed.followed c.symbol_fault.ensures c.contains-repeated.ensures in
+    symbol_right c.intern.new.self c.args.header c.args.earlier.now.keys c.args.bytes.now c.args.at c.in-Some.next c.in-Some.line.now c.in-Some.ensures c.in-Some-written_in.written.spelled.now c.in-Some-written_in.written.arity c.in-Some-written_in.written.weight c.in-Some-written_in.ensures c.in-Some-2.name (rw c.in-Some-2.is at c.in_ok-name.ensures) c.if-arity-gt-MAX_ARITY.false c.in_ok-symbol.symbol (rw c.as_bytes.ensures at c.in_ok-symbol.ensures.interned.0) c.in_ok-followed.followed c.in_ok-followed.ensures c.symbol_fault.result wrong c.in-None.is
 
 pub returns-clause-grows : goal.returns-clause-grows
 returns-clause-grows c = interned_grows c.args.symbols.now c.intern.new.self c.as_bytes.result.now c.in-Some-written_in.written.arity c.in_ok-symbol.symbol c.in_ok-symbol.ensures.interned
