@@ -1,7 +1,10 @@
 -- The lines that the steps of a chain name, each once, by first use.
 use Rattle.std.proofs.Common.{◌≡◌, ℕ, zero, suc, ◌+◌, ◌≤◌, inl, inr, ◌↔◌, Bool, true, false, ◌==◌, ◌||◌, List, [], ◌∷◌, ◌++◌, length, take, drop, map, slice_get, Some, refl, sym, ap, ◌∙◌, subst, arith, append_assoc, append-nil, if◌then◌else◌}
 use Rattle.std.proofs.lemmas.Option.{slice_get_within}
+use Rattle.std.proofs.lemmas.List.{drop_all}
+use Rattle.std.proofs.Math.Bool.{or_comm}
 use Rattle.uc_term.specs.Variables.{is_among, firsts_after}
+use Rattle.uc_term.proofs.Firsts.{is_among-append, or-false}
 use Rattle.uc_check.specs.declared.proof.LineStep.{LineStep}
 use Rattle.uc_check.specs.Lines.{named_by}
 use Rattle.uc_check.specs.Parents.{NamesParent, NamesNoParent}
@@ -19,19 +22,8 @@ pub record Named (parents : List ℕ) (steps : List LineStep) (index named : ℕ
 pub named_none : (parents : List ℕ) (steps : List LineStep) → Named parents steps 0 0
 named_none parents steps = record { seen = []; within = omega arith; names = refl; same = λ x. refl }
 
-among-append : (x : ℕ) (xs ys : List ℕ) → is_among x (xs ++ ys) ≡ (is_among x xs || is_among x ys)
-among-append x [] ys = refl
-among-append x (z ∷ xs) ys = go (x == z) (among-append x xs ys)
-  where
-    go : (b : Bool) → is_among x (xs ++ ys) ≡ (is_among x xs || is_among x ys) → (b || is_among x (xs ++ ys)) ≡ ((b || is_among x xs) || is_among x ys)
-    go true e = refl
-    go false e = e
-
-or-false : (a b : Bool) → (a || (b || false)) ≡ (b || a)
-or-false true true = refl
-or-false true false = refl
-or-false false true = refl
-or-false false false = refl
+swap : (a b : Bool) → (a || (b || false)) ≡ (b || a)
+swap a b = ap (λ z. a || z) (or-false b) ∙ or_comm a b
 
 take-next : (xs : List ℕ) (i x : ℕ) → slice_get xs i ≡ Some x → take (i + 1) xs ≡ take i xs ++ x ∷ []
 take-next [] i x e = absurd cc
@@ -62,7 +54,7 @@ module _ (parents : List ℕ) (steps : List LineStep) (index named : ℕ) (step 
     seen = step.by ∷ n.seen;
     within = let i = slice_get_within parents named step.by h.1 in omega arith;
     names = new_name h.0 ∙ sym (append_assoc (take named parents) (step.by ∷ []) (firsts_after (step.by ∷ n.seen) rest)) ∙ ap (λ l. l ++ firsts_after (step.by ∷ n.seen) rest) (sym (take-next parents named step.by h.1));
-    same = λ x. ap (λ b. (x == step.by) || b) (n.same x) ∙ sym (or-false (is_among x (take named parents)) (x == step.by)) ∙ sym (among-append x (take named parents) (step.by ∷ [])) ∙ ap (is_among x) (sym (take-next parents named step.by h.1));
+    same = λ x. ap (λ b. (x == step.by) || b) (n.same x) ∙ sym (swap (is_among x (take named parents)) (x == step.by)) ∙ sym (is_among-append x (take named parents) (step.by ∷ [])) ∙ ap (is_among x) (sym (take-next parents named step.by h.1));
   })
 
   take-split : (xs ys : List ℕ) (i y : ℕ) → i ≤ length xs → xs ≡ take i xs ++ y ∷ ys → slice_get xs i ≡ Some y
@@ -74,15 +66,9 @@ module _ (parents : List ℕ) (steps : List LineStep) (index named : ℕ) (step 
   pub named_otherwise : NamesNoParent parents named step.by → parents ≡ named_by steps → ⊥
   named_otherwise h e = h.1 (take-split parents (firsts_after (step.by ∷ n.seen) rest) named step.by n.within (e ∙ new_name h.0))
 
-nothing_left : (steps : List LineStep) (i : ℕ) → length steps ≤ i → drop i steps ≡ []
-nothing_left [] zero h = refl
-nothing_left [] (suc i) h = refl
-nothing_left (x ∷ l) zero h = absurd (omega arith)
-nothing_left (x ∷ l) (suc i) h = nothing_left l i (omega arith)
-
 -- behind all steps
 pub named_all : (parents : List ℕ) (steps : List LineStep) (index named : ℕ) → Named parents steps index named → length steps ≤ index → named_by steps ≡ take named parents
-named_all parents steps index named n h = n.names ∙ ap (λ l. take named parents ++ firsts_after n.seen (bys l)) (nothing_left steps index h) ∙ append-nil (take named parents)
+named_all parents steps index named n h = n.names ∙ ap (λ l. take named parents ++ firsts_after n.seen (bys l)) (drop_all index steps h) ∙ append-nil (take named parents)
 
 take-whole : (xs : List ℕ) (i : ℕ) → i ≡ length xs → take i xs ≡ xs
 take-whole [] zero h = refl

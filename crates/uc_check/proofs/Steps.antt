@@ -39,12 +39,6 @@ module _ (lines : List Line) (before : Tree) (step : LineStep) (line : Line) (li
 pub step_at : (steps : List LineStep) (i : ℕ) (step : LineStep) → i < length steps → step ≡ get_or steps i step → drop i steps ≡ step ∷ drop (i + 1) steps
 step_at steps i step h e = drop_more steps i step h ∙ ap (λ s. s ∷ drop (i + 1) steps) (sym e)
 
-pub nothing_left : (steps : List LineStep) (i : ℕ) → length steps ≤ i → drop i steps ≡ []
-nothing_left [] zero h = refl
-nothing_left [] (suc i) h = refl
-nothing_left (x ∷ l) zero h = absurd (omega arith)
-nothing_left (x ∷ l) (suc i) h = nothing_left l i (omega arith)
-
 -- what steps come to from one term on they come to from the start on
 abbrev pub Back : List Line → ℕ → Tree → List LineStep → Tree → List LineStep → Type 0
 Back lines k before rest start steps = (end : Result Tree Cause) → Leads lines k before rest end → Leads lines k start steps end

@@ -13,6 +13,8 @@ use Rattle.uc_clause.specs.declared.clause.Item.TheVariants as item
 use Rattle.uc_clause.specs.declared.terminal.Terminal.{Terminal}
 use Rattle.uc_clause.specs.declared.terminal.Terminal.TheVariants.{Lower, Integer, Open, Close, Comma, Dot, Tilde, OpenSquare, CloseSquare}
 use Rattle.uc_clause.specs.declared.grammar.note.Bracket.{Bracket}
+use Rattle.uc_clause.specs.declared.grammar.note.Piece.{Piece}
+use Rattle.uc_clause.specs.declared.grammar.note.Piece.TheVariants.{Plain, Opens, Closes, Behind, Misplaced}
 use Rattle.uc_clause.specs.declared.grammar.stop.Why.{Why}
 use Rattle.uc_clause.specs.declared.grammar.stop.Why.TheVariants.{NoItem, NoToken, NoEnd, NoSelection}
 use Rattle.uc_clause.specs.Terminals.{terminal_at}
@@ -75,32 +77,20 @@ module _ (bytes : List ℕ) (tokens : List Token) where
   clause_once : Once (items.clause bytes tokens)
   clause_once at o p x y = clause_once_at x y
 
+  abbrev next_piece : {bs : List Bracket} {at : ℕ} {o : Outcome (Unit {0})} → items.Rest bytes tokens bs at o → (p : Piece) × (items.piece_at bytes tokens bs at ≡ p)
+  next_piece (items.has_token e x) = (Plain, e)
+  next_piece (items.has_opening {b = b} e x) = (Opens b, e)
+  next_piece (items.has_closing e x) = (Closes, e)
+  next_piece (items.ends_before e) = (Behind, e)
+  next_piece (items.stops_before e) = (Misplaced, e)
+
   rest_once : {bs : List Bracket} {at : ℕ} {o p : Outcome (Unit {0})} → items.Rest bytes tokens bs at o → items.Rest bytes tokens bs at p → o ≡ p
   rest_once (items.has_token e x) (items.has_token f y) = rest_once x y
-  rest_once (items.has_token e x) (items.has_opening f y) = absurd (cc)
-  rest_once (items.has_token e x) (items.has_closing f y) = absurd (cc)
-  rest_once (items.has_token e x) (items.ends_before f) = absurd (cc)
-  rest_once (items.has_token e x) (items.stops_before f) = absurd (cc)
-  rest_once (items.has_opening e x) (items.has_token f y) = absurd (cc)
   rest_once {bs} {at} {o} {p} (items.has_opening {b = b} e x) (items.has_opening {b = c} f y) = let same : c ≡ b = cc in rest_once x (subst (λ d. items.Rest bytes tokens (bs ++ d ∷ []) (at + 1) p) same y)
-  rest_once (items.has_opening e x) (items.has_closing f y) = absurd (cc)
-  rest_once (items.has_opening e x) (items.ends_before f) = absurd (cc)
-  rest_once (items.has_opening e x) (items.stops_before f) = absurd (cc)
-  rest_once (items.has_closing e x) (items.has_token f y) = absurd (cc)
-  rest_once (items.has_closing e x) (items.has_opening f y) = absurd (cc)
   rest_once (items.has_closing e x) (items.has_closing f y) = rest_once x y
-  rest_once (items.has_closing e x) (items.ends_before f) = absurd (cc)
-  rest_once (items.has_closing e x) (items.stops_before f) = absurd (cc)
-  rest_once (items.ends_before e) (items.has_token f y) = absurd (cc)
-  rest_once (items.ends_before e) (items.has_opening f y) = absurd (cc)
-  rest_once (items.ends_before e) (items.has_closing f y) = absurd (cc)
   rest_once (items.ends_before e) (items.ends_before f) = refl
-  rest_once (items.ends_before e) (items.stops_before f) = absurd (cc)
-  rest_once (items.stops_before e) (items.has_token f y) = absurd (cc)
-  rest_once (items.stops_before e) (items.has_opening f y) = absurd (cc)
-  rest_once (items.stops_before e) (items.has_closing f y) = absurd (cc)
-  rest_once (items.stops_before e) (items.ends_before f) = absurd (cc)
   rest_once (items.stops_before e) (items.stops_before f) = refl
+  rest_once x y = let h : (next_piece x).0 ≡ (next_piece y).0 = sym (next_piece x).1 ∙ (next_piece y).1 in absurd cc
 
   note_once_at : {at : ℕ} {o p : Outcome (Unit {0})} → items.Note bytes tokens at o → items.Note bytes tokens at p → o ≡ p
   note_once_at (items.is_note n x) (items.is_note m y) = rest_once x y

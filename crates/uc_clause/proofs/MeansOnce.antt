@@ -3,6 +3,7 @@ use Rattle.std.proofs.Common.{◌≡◌, ℕ, zero, suc, List, [], ◌∷◌, �
 use Rattle.std.specs.Prelude.{◌||◌, slice_get, Some, bytes_eq, if◌then◌else◌}
 use Rattle.std.specs.List.{list_any}
 use Rattle.std.specs.Cmp.Lexicographic.{bytes_decides}
+use Rattle.std.proofs.lemmas.Bool.{or_parts}
 use Rattle.uc_term.specs.declared.node.Sym.{Sym}
 use Rattle.uc_term.specs.Tree.{Tree, var, Trees, count}
 use Rattle.uc_term.specs.Table.{Table, IsSymbol, IsDistinct}
@@ -24,11 +25,7 @@ not_among x (y ∷ seen) zero e at =
     let same : x ≡ y = cc in
     let yes : bytes_eq x y ≡ true = (bytes_decides x y).1 same in
     absurd (let both : (true || list_any (bytes_eq x) seen) ≡ false = rw yes at e in cc)
-not_among x (y ∷ seen) (suc i) e at = not_among x seen i (later (bytes_eq x y) (list_any (bytes_eq x) seen) e) at
-  where
-    later : (a b : Bool) → (a || b) ≡ false → b ≡ false
-    later true b e = absurd (cc)
-    later false b e = e
+not_among x (y ∷ seen) (suc i) e at = not_among x seen i (or_parts (bytes_eq x y) (list_any (bytes_eq x) seen) e).1 at
 
 pub with_name_distinct : (seen : Variables) (x : List ℕ) → AreDistinct seen → AreDistinct (with_name seen x)
 with_name_distinct seen x d = go (list_any (bytes_eq x) seen) refl

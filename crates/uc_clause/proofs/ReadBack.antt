@@ -4,6 +4,7 @@ use Rattle.std.specs.Prelude.{Some, slice_get}
 use Rattle.std.proofs.lemmas.Bool.{cases_Bool}
 use Rattle.std.proofs.lemmas.List.{map-append}
 use Rattle.std.proofs.lemmas.Option.{slice_get-get_or, unwrap_or-slice_get}
+use Rattle.uc_term.proofs.Joins.{count-apply_all}
 use Rattle.uc_term.specs.declared.node.Sym.{Sym}
 use Rattle.uc_term.specs.Tree.{Tree, var, app, Trees, none, more, count, nodes, nodes_all, apply, apply_all}
 use Rattle.uc_term.specs.Over.{AreOver}
@@ -54,10 +55,6 @@ AreKnown seen σ (x ∷ xs) = (slice_get seen (σ x) ≡ Some (variable_text x))
 pub known_split : (seen : List (List ℕ)) (σ : ℕ → ℕ) (xs ys : List ℕ) → AreKnown seen σ (xs ++ ys) → AreKnown seen σ xs × AreKnown seen σ ys
 known_split seen σ [] ys known = (tt, known)
 known_split seen σ (x ∷ xs) ys known = let parts = known_split seen σ xs ys known.1 in ((known.0, parts.0), parts.1)
-
-count-apply_all : (σ : ℕ → Tree) (ts : Trees) → count (apply_all σ ts) ≡ count ts
-count-apply_all σ none = refl
-count-apply_all σ (more t ts) = omega (arith, count-apply_all σ ts)
 
 symbol_is : (table : Table) (f : Sym) → Has table f → IsSymbol table f (name_of table f) (arity_of table f)
 symbol_is table f has =

@@ -1,14 +1,9 @@
 -- Where the tokens of a text lie in it.
-use Rattle.std.proofs.Common.{◌≡◌, ℕ, zero, suc, ◌+◌, ◌<◌, ◌≤◌, length, List, [], ◌∷◌, take, drop, length-drop, refl, sym, ◌∙◌, subst, arith, true, false}
+use Rattle.std.proofs.Common.{◌≡◌, ℕ, zero, suc, ◌+◌, ◌≤◌, length, List, [], ◌∷◌, drop, length-drop, refl, subst, arith}
 use Rattle.std.specs.Prelude.{Result, Ok, Err, Some, slice_get}
 use Rattle.uc_clause.specs.declared.token.Token.{Token}
-use Rattle.uc_clause.specs.declared.token.Kind.{Kind}
-use Rattle.uc_clause.proofs.Once.{nothing_spells}
-use Rattle.uc_clause.specs.Tokens.{spells, Cut, end, gap, token, stuck, token_at, AreTokens, IsWithin, Spans}
-
-positive : (kind : Kind) (n : ℕ) (text : List ℕ) → spells kind (take n text) ≡ true → 0 < n
-positive kind zero text e = absurd (let bad : false ≡ true = sym (nothing_spells kind) ∙ e in cc)
-positive kind (suc n) text e = omega arith
+use Rattle.uc_clause.proofs.Once.{some_bytes}
+use Rattle.uc_clause.specs.Tokens.{Cut, end, gap, token, stuck, token_at, AreTokens, IsWithin, Spans}
 
 within_cons : (text : List ℕ) (t : Token) (rest : List Token) → IsWithin text t → ((k : ℕ) (u : Token) → slice_get rest k ≡ Some u → IsWithin text u) → (k : ℕ) (u : Token) → slice_get (t ∷ rest) k ≡ Some u → IsWithin text u
 within_cons text t rest h all zero u at = let same : t ≡ u = cc in subst (IsWithin text) same h
@@ -19,7 +14,7 @@ all_within (end h) ts e k u at = let none : ts ≡ [] = cc in absurd (let bad : 
 all_within (gap h s cut) ts e k u at = all_within cut ts e k u at
 all_within {text} {at = from} (token {n = n} {kind = kind} {rest = Ok rest} h s cut) ts e k u at =
     let same : ts ≡ token_at text kind from n ∷ rest = cc in
-    within_cons text (token_at text kind from n) rest (omega (arith, positive kind n (drop from text) s.spelled), omega (arith, s.within, length-drop from text)) (λ j v got. all_within cut rest refl j v got) k u (subst (λ l. slice_get l k ≡ Some u) same at)
+    within_cons text (token_at text kind from n) rest (omega (arith, some_bytes kind n (drop from text) s.spelled), omega (arith, s.within, length-drop from text)) (λ j v got. all_within cut rest refl j v got) k u (subst (λ l. slice_get l k ≡ Some u) same at)
 all_within (token {rest = Err j} h s cut) ts e k u at = cc
 all_within (stuck h s) ts e k u at = cc
 

@@ -1,7 +1,8 @@
+use Rattle.std.proofs.lemmas.List.{drop_all}
 use Rattle.uc_check.proofs.Decided.{not_of, of}
 use Rattle.std.proofs.Common.{ap, ◌∙◌}
 use Rattle.uc_check.specs.Replacements.{chain_end}
-use Rattle.uc_check.proofs.Steps.{step_at, nothing_left, stops_early, stops_wrong, steps_on, all_stepped}
+use Rattle.uc_check.proofs.Steps.{step_at, stops_early, stops_wrong, steps_on, all_stepped}
 use Rattle.uc_check.proofs.chain.test_steps.Goals as goal
 
 pub loop-step-preserved : goal.loop-step-preserved
@@ -23,4 +24,4 @@ returns-then-not-branch c =
     stops_wrong c.args.lines.now c.args.number c.args.start.now c.loop-step.before.now c.args.steps.now _ _ c.step-item.result c.loop-step.invariant.back at c.if-step-number.false (not_of c.in_ok-is_replacement.field-0 c.if-not-branch.true c.in_ok-is_replacement.ensures)
 
 pub returns : goal.returns
-returns c = all_stepped c.args.lines.now c.args.number c.args.start.now c.loop-step.before.now c.args.steps.now _ c.loop-step.invariant.back (nothing_left c.args.steps.now c.loop-step.step-index c.loop-step-test.false) c.loop-step.invariant.same
+returns c = all_stepped c.args.lines.now c.args.number c.args.start.now c.loop-step.before.now c.args.steps.now _ c.loop-step.invariant.back (drop_all c.loop-step.step-index c.args.steps.now c.loop-step-test.false) c.loop-step.invariant.same
