@@ -23,16 +23,13 @@ no_length n x h t = let none : length (take n x) ≡ 0 = eqb-true (length (take 
 
 pub ends_once : (x : List ℕ) (n m : ℕ) → n ≤ length x → m ≤ length x → ends_block (take n x) ≡ true → ends_block (take m x) ≡ true → n ≡ m
 ends_once [] n m h j s t = omega arith
-ends_once (b ∷ x) zero m h j s t = cc
-ends_once (b ∷ x) (suc n) zero h j s t = cc
 ends_once (b ∷ []) (suc n) (suc m) h j s t = omega arith
-ends_once (b ∷ c ∷ x) (suc zero) (suc m) h j s t = cc
-ends_once (b ∷ c ∷ x) (suc (suc n)) (suc zero) h j s t = cc
 ends_once (b ∷ c ∷ x) (suc (suc n)) (suc (suc m)) h j s t =
     ⊎_elim
     (λ e. let first : n ≡ 0 = no_length n x (omega arith) (sym (step_on b c (take n x) e) ∙ s) in let second : m ≡ 0 = no_length m x (omega arith) (sym (step_on b c (take m x) e) ∙ t) in omega arith)
     (λ e. ap suc (ends_once (c ∷ x) (suc n) (suc m) (omega arith) (omega arith) (sym (step_off b c (take n x) e) ∙ s) (sym (step_off b c (take m x) e) ∙ t)))
     (cases_Bool ((b == 42) && (c == 47)))
+ends_once v w m h j s t = absurd cc
 
 -- the rest of a text behind its first two bytes
 abbrev pub second_tail : List ℕ → List ℕ
@@ -50,8 +47,6 @@ block_longest b c x n e h s (suc zero) j t = omega arith
 block_longest b c x n e h s (suc (suc m)) j t = let same : n ≡ m = ends_once x n m h (omega arith) s (block_part b c (take m x) e t) in omega arith
 
 pub block_at : (text : List ℕ) (n : ℕ) → get_or text 0 0 ≡ 47 → 1 < length text → get_or text 1 0 ≡ 42 → n ≤ length (second_tail text) → ends_block (take n (second_tail text)) ≡ true → Skips text (2 + n)
-block_at [] n e some d h s = absurd (omega arith)
-block_at (b ∷ []) n e some d h s = absurd (omega arith)
 block_at (b ∷ c ∷ x) n e some d h s =
     let fits : n ≤ length x = rw (second_tail_is b c x) at h in
     let ended : ends_block (take n x) ≡ true = rw (second_tail_is b c x) at s in
@@ -61,6 +56,7 @@ block_at (b ∷ c ∷ x) n e some d h s =
       spelled = rw two (or_right (is_blank (b ∷ c ∷ take n x)) _ (or_right (is_line_comment (b ∷ c ∷ take n x)) _ (and_from ((b == 47) && (c == 42)) _ (and_from (b == 47) _ (eq-eqb b 47 e) (eq-eqb c 42 d)) ended)));
       longest = block_longest b c x n e fits ended;
     }
+block_at v n e some d h s = absurd (omega arith)
 
 open_gap : (b c : ℕ) (x : List ℕ) → b ≡ 47 → ((n : ℕ) → ends_block (take n x) ≡ false) → (n : ℕ) → is_gap (take n (b ∷ c ∷ x)) ≡ false
 open_gap b c x e none zero = refl
@@ -68,12 +64,11 @@ open_gap b c x e none (suc zero) = grind (arith, nat_tests)
 open_gap b c x e none (suc (suc n)) = let no : ends_block (take n x) ≡ false = none n in grind (arith, nat_tests, no)
 
 pub block_open : (text : List ℕ) → get_or text 0 0 ≡ 47 → 1 < length text → get_or text 1 0 ≡ 42 → ((n : ℕ) → ends_block (take n (second_tail text)) ≡ false) → Stuck text
-block_open [] e some d none = absurd (omega arith)
-block_open (b ∷ []) e some d none = absurd (omega arith)
 block_open (b ∷ c ∷ x) e some d none = record {
   no_gap = λ n fits. open_gap b c x e (rw (second_tail_is b c x) at none) n;
   no_token = λ block kind n fits. absurd (both_ways (opens_block (b ∷ c ∷ x)) block (and_from (b == 47) _ (eq-eqb b 47 e) (eq-eqb c 42 d)));
 }
+block_open v e some d w = absurd (omega arith)
 
 alone_block : (b : ℕ) (x : List ℕ) → (1 < length (b ∷ x) → get_or (b ∷ x) 1 0 ≡ 42 → ⊥) → opens_block (b ∷ x) ≡ false
 alone_block b [] alone = refl

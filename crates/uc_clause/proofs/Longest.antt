@@ -153,14 +153,13 @@ bang_longest b bs l other (suc m) fits t =
     omega (arith, length-take m bs)
 
 pub unequal_at : (text : List ℕ) → 1 < length text → get_or text 0 0 ≡ 33 → get_or text 1 0 ≡ 61 → Stands text Unequal 2
-unequal_at [] some l e = absurd (omega arith)
-unequal_at (b ∷ []) some l e = absurd (omega arith)
 unequal_at (b ∷ c ∷ bs) some l e = record {
   within = omega arith;
   spelled = grind (arith, nat_tests);
   longest = bang_longest b (c ∷ bs) l;
   no_block = no_block_by b (c ∷ bs) (λ h. omega arith);
 }
+unequal_at v some l e = absurd (omega arith)
 
 unequal_kind : (kind : Kind) (b n : ℕ) → b ≡ 33 → 2 ≤ n → form kind b n ≡ true → kind ≡ Unequal
 unequal_kind kind b n l two f = one_form kind Unequal b n f (let most = bang_form kind b n l f in grind (arith, nat_tests))

@@ -35,11 +35,7 @@ formed Integer b (c ∷ x) s = grind (arith, nat_tests)
 formed Dollar b (c ∷ x) s = and_from (b == 36) (nat_le 2 (length (b ∷ c ∷ x))) (and_parts (b == 36) (is_name (c ∷ x) || ((c == 36) && is_name x)) s).0 (le-leb 2 (length (b ∷ c ∷ x)) (omega arith))
 formed Unequal b (c ∷ []) s = and_from (b == 33) true (and_parts (b == 33) (c == 61) s).0 refl
 formed Mark b [] s = and_from (is_mark b) true s refl
-formed Quoted b [] s = cc
-formed Dollar b [] s = cc
-formed Unequal b [] s = cc
-formed Unequal b (c ∷ d ∷ x) s = cc
-formed Mark b (c ∷ x) s = cc
+formed v b w s = absurd cc
 
 pub one_form : (k j : Kind) (b n : ℕ) → form k b n ≡ true → form j b n ≡ true → k ≡ j
 one_form Lower Lower b n s t = refl

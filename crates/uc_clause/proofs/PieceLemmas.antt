@@ -34,9 +34,8 @@ escape_step q b c ys e (inl h) = grind (arith, nat_tests)
 escape_step q b c ys e (inr h) = grind (arith, nat_tests)
 
 escape_behind : (q b c : ℕ) (bs : List ℕ) → b ≡ 92 → (c ≡ 92) ⊎ (c ≡ q) → (m : ℕ) → 2 ≤ m → closes q (take m (b ∷ c ∷ bs)) ≡ closes q (take (m - 2) bs)
-escape_behind q b c bs e h zero k = absurd (omega arith)
-escape_behind q b c bs e h (suc zero) k = absurd (omega arith)
 escape_behind q b c bs e h (suc (suc m)) k = let same : suc (suc m) - 2 ≡ m = omega arith in rw same (escape_step q b c (take m bs) e h)
+escape_behind q b c bs e h v k = absurd (omega arith)
 
 not_quote : (q b : ℕ) → (q ≡ 39) ⊎ (q ≡ 34) → b ≡ 92 → (b == q) ≡ false
 not_quote q b (inl h) e = grind (arith, nat_tests)
@@ -48,28 +47,25 @@ escape_before q b c bs quote e (suc zero) h = not_quote q b quote e
 escape_before q b c bs quote e (suc (suc m)) h = absurd (omega arith)
 
 pub escape_at : (q : ℕ) (text : List ℕ) → (q ≡ 39) ⊎ (q ≡ 34) → 1 < length text → get_or text 0 0 ≡ 92 → (get_or text 1 0 ≡ 92) ⊎ (get_or text 1 0 ≡ q) → IsPlain q text 2
-escape_at q [] quote some e h = absurd (omega arith)
-escape_at q (b ∷ []) quote some e h = absurd (omega arith)
 escape_at q (b ∷ c ∷ bs) quote some e h = record {
   some = omega arith;
   within = omega arith;
   behind = escape_behind q b c bs e h;
   before = escape_before q b c bs quote e;
 }
+escape_at q v quote some e h = absurd (omega arith)
 
 pub lone_escape : (q : ℕ) (text : List ℕ) → (q ≡ 39) ⊎ (q ≡ 34) → length text ≡ 1 → get_or text 0 0 ≡ 92 → (m : ℕ) → closes q (take m text) ≡ false
-lone_escape q [] quote one e m = absurd (omega arith)
-lone_escape q (b ∷ c ∷ bs) quote one e m = absurd (omega arith)
 lone_escape q (b ∷ []) quote one e zero = refl
 lone_escape q (b ∷ []) quote one e (suc zero) = not_quote q b quote e
 lone_escape q (b ∷ []) quote one e (suc (suc m)) = not_quote q b quote e
+lone_escape q v quote one e m = absurd (omega arith)
 
 pub bad_escape : (q : ℕ) (text : List ℕ) → (q ≡ 39) ⊎ (q ≡ 34) → 1 < length text → get_or text 0 0 ≡ 92 → (get_or text 1 0 ≡ 92 → ⊥) → (get_or text 1 0 ≡ q → ⊥) → (m : ℕ) → closes q (take m text) ≡ false
-bad_escape q [] quote some e n k m = absurd (omega arith)
-bad_escape q (b ∷ []) quote some e n k m = absurd (omega arith)
 bad_escape q (b ∷ c ∷ bs) quote some e n k zero = refl
 bad_escape q (b ∷ c ∷ bs) quote some e n k (suc zero) = not_quote q b quote e
 bad_escape q (b ∷ c ∷ bs) quote some e n k (suc (suc m)) = grind (arith, nat_tests)
+bad_escape q v quote some e n k m = absurd (omega arith)
 
 pub drop_both : (n at : ℕ) (xs : List ℕ) → drop n (drop at xs) ≡ drop (at + n) xs
 drop_both n zero xs = rw zero-add refl

@@ -44,17 +44,15 @@ IsDue ks (t ∷ ts) = total ks ≡ length ts
 
 pub closing_due : (ks : List ℕ) (ts : List Tree) → total ks ≡ length ts → IsDue (closing ks).pending ts
 closing_due [] [] e = refl
-closing_due [] (t ∷ ts) e = absurd (omega arith)
 closing_due (zero ∷ ks) ts e = closing_due ks ts (omega arith)
-closing_due (suc k ∷ ks) [] e = absurd (omega arith)
 closing_due (suc k ∷ ks) (t ∷ ts) e = omega arith
+closing_due v w e = absurd (omega arith)
 
 pub closing_text : (table : Table) (ks : List ℕ) (ts : List Tree) → total ks ≡ length ts → behind_text table ks ts ≡ (closing ks).text ++ next_text table (closing ks).pending ts
 closing_text table [] [] e = refl
-closing_text table [] (t ∷ ts) e = absurd (omega arith)
 closing_text table (zero ∷ ks) ts e = ap (λ l. 41 ∷ l) (closing_text table ks ts (omega arith))
-closing_text table (suc k ∷ ks) [] e = absurd (omega arith)
 closing_text table (suc k ∷ ks) (t ∷ ts) e = ap (λ l. 44 ∷ l) (append_assoc (term_text table t) (rest_text table (of_list (take k ts))) (behind_text table ks (drop k ts)))
+closing_text table v w e = absurd (omega arith)
 
 -- the terms that behind a node are to come are so many as it wants
 wide : (f : Sym) (k : ℕ) (ns : List Node) → AreWhole (App f k ∷ ns) → k ≤ length (spelled ns)

@@ -29,8 +29,6 @@ plain_rest q b c x e t = (and_parts (is_plain q b) (closes q (c ∷ x)) (subst (
 -- a text closes at one place
 pub closes_once : (q : ℕ) → IsQuote q → (x : List ℕ) (n m : ℕ) → n ≤ length x → m ≤ length x → closes q (take n x) ≡ true → closes q (take m x) ≡ true → n ≡ m
 closes_once q k [] n m h j s t = omega arith
-closes_once q k (b ∷ x) zero m h j s t = cc
-closes_once q k (b ∷ x) (suc n) zero h j s t = cc
 closes_once q k (b ∷ []) (suc n) (suc m) h j s t = omega arith
 closes_once q k (b ∷ c ∷ x) (suc zero) (suc zero) h j s t = refl
 closes_once q k (b ∷ c ∷ x) (suc zero) (suc (suc m)) h j s t = absurd (plain_quote q b c (take m x) k s t)
@@ -40,6 +38,7 @@ closes_once q k (b ∷ c ∷ x) (suc (suc n)) (suc (suc m)) h j s t =
     (λ e. ap (λ i. suc (suc i)) (closes_once q k x n m (omega arith) (omega arith) (escape_rest q b c (take n x) e s) (escape_rest q b c (take m x) e t)))
     (λ e. ap suc (closes_once q k (c ∷ x) (suc n) (suc m) (omega arith) (omega arith) (plain_rest q b c (take n x) e s) (plain_rest q b c (take m x) e t)))
     (cases_Bool (b == 92))
+closes_once q k v w m h j s t = absurd cc
 
 quoted_part : (b : ℕ) (x : List ℕ) → spells Quoted (b ∷ x) ≡ true → closes 39 x ≡ true
 quoted_part b [] t = t
