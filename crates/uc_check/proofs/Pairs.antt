@@ -20,10 +20,8 @@ pub record Paired (eq : Sym) (t : Tree) (ns : List Node) (e : ℕ) : Type 0 wher
   pub second : drop e ns ≡ flat v
 
 two : (ts : Trees) → count ts ≡ 2 → (u : Tree) × (v : Tree) × (ts ≡ more u (more v none))
-two none e = absurd (omega arith)
-two (more u none) e = absurd (omega arith)
 two (more u (more v none)) e = (u, v, refl)
-two (more u (more v (more w ws))) e = absurd (omega arith)
+two v e = absurd (omega arith)
 
 is_pair : (eq : Sym) (t : Tree) → take 1 (flat t) ≡ App eq 2 ∷ [] → (u : Tree) × (v : Tree) × IsPair eq t u v
 is_pair eq (var x) e = absurd cc

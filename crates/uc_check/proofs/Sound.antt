@@ -23,7 +23,7 @@ use Rattle.uc_check.specs.Lines.{IsClause, IsFile, IsChain, AreEarlier, ReadsRef
 use Rattle.uc_check.specs.declared.checker.Cause.{Cause}
 use Rattle.uc_check.specs.declared.checker.Checked.{Checked}
 use Rattle.uc_check.specs.declared.checker.Checked.TheVariants.{Accepted}
-use Rattle.uc_check.specs.Checks.{AreRightBefore, EndsInRefutation, IsChecked, accepted, rejected, no_line, no_refutation}
+use Rattle.uc_check.specs.Checks.{AreRightBefore, EndsInRefutation, IsChecked, accepted}
 
 -- the clauses' equations stand in the lists of axioms and of goals
 pub axiom_in : (clauses : List Sourced) (i : ℕ) (s : Sourced) → slice_get clauses i ≡ Some s → s.clause.positive ≡ true → (j : ℕ) × (slice_get (axioms_of clauses) j ≡ Some (equation_of s.clause))
@@ -93,11 +93,10 @@ module _ (es : List Equation) where
 
   pub conv_within : (p : List ℕ) (t u w : Tree) → at_position t p ≡ Some u → Conv es u w → Conv es t (put_position t p w)
   conv_within [] t u w e c = let same : u ≡ t = cc in subst (λ (x : Tree). Conv es x w) same c
-  conv_within (zero ∷ p) t u w e c = absurd cc
-  conv_within (suc i ∷ p) (var x) u w e c = absurd cc
   conv_within (suc i ∷ p) (app f ts) u w e c =
       let s = go_on p (nth ts i) u e in
       Conv-app es f (all_but ts i s.0 (λ a. put_position a p w) s.1 (conv_within p s.0 u w s.2 c))
+  conv_within v t u w e c = absurd cc
 
 -- a renaming keeps the encoding's symbols away
 module _ (m : Fresh) (ρ : ℕ → ℕ) where
@@ -286,6 +285,4 @@ module _ (clauses : List Sourced) (fresh : Option Fresh) (lines : List Line) (ar
 -- an answer that says accepted has found a goal that follows
 pub accepted_follows : (clauses : List Sourced) (fresh : Option Fresh) (lines : List Line) → AreFresh fresh clauses → HasGoalIfEncoded fresh clauses → (answer : Checked) → IsChecked clauses fresh lines answer → answer ≡ Accepted → SomeFollows (axioms_of clauses) (goals_of clauses)
 accepted_follows clauses fresh lines are has _ (accepted right end) e = goal_shown clauses fresh lines are has right end
-accepted_follows clauses fresh lines are has _ (rejected f) e = absurd cc
-accepted_follows clauses fresh lines are has _ (no_line n) e = absurd cc
-accepted_follows clauses fresh lines are has _ (no_refutation r l n) e = absurd cc
+accepted_follows clauses fresh lines are has v w e = absurd cc
