@@ -23,7 +23,7 @@ placed n (y ∷ ys) x up e = go (x == y) refl e (placed (n + 1) ys x up.1)
     go false other e later = omega (arith, later e)
 
 -- a number that occurs is among the first occurrences
-among_firsts : (seen ys : List ℕ) (x : ℕ) → is_among x seen ≡ false → is_among x ys ≡ true → is_among x (firsts_after seen ys) ≡ true
+pub among_firsts : (seen ys : List ℕ) (x : ℕ) → is_among x seen ≡ false → is_among x ys ≡ true → is_among x (firsts_after seen ys) ≡ true
 among_firsts seen [] x n e = absurd cc
 among_firsts seen (y ∷ ys) x n e = go (x == y) refl e (is_among y seen) refl (λ more m h. among_firsts more ys x m h)
   where

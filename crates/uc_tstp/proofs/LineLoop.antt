@@ -1,9 +1,11 @@
 -- How lines are gathered.
-use Rattle.std.proofs.Common.{◌≡◌, ℕ, Bool, true, false, List, [], ◌∷◌, ◌++◌, length, refl, sym, ap, ◌∙◌, subst, arith, append-nil}
+use Rattle.std.proofs.Common.{◌≡◌, ℕ, Bool, false, List, [], ◌∷◌, ◌++◌, length, refl, sym, ap, ◌∙◌, subst, arith, append-nil}
 use Rattle.std.specs.Prelude.{◌≢◌, ◌||◌, bytes_eq}
 use Rattle.std.specs.List.{list_any}
 use Rattle.std.proofs.lemmas.List.{map-append}
 use Rattle.std.proofs.lemmas.List.Folds.{list_any-append}
+use Rattle.std.proofs.Math.Bool.{or_comm}
+use Rattle.uc_term.proofs.Firsts.{or-false}
 use Rattle.uc_term.specs.Table.{Table, Grows}
 use Rattle.uc_clause.specs.declared.token.Token.{Token}
 use Rattle.uc_clause.specs.declared.terminal.Terminal.TheVariants.{End}
@@ -30,10 +32,7 @@ abbrev pub HaveSame : List (List ℕ) → List (List ℕ) → Type 0
 HaveSame some others = (x : List ℕ) → list_any (bytes_eq x) some ≡ list_any (bytes_eq x) others
 
 or_turned : (a b : Bool) → (a || b) ≡ (b || (a || false))
-or_turned true true = refl
-or_turned true false = refl
-or_turned false true = refl
-or_turned false false = refl
+or_turned a b = or_comm a b ∙ ap (λ z. b || z) (sym (or-false a))
 
 have_more : (some others : List (List ℕ)) (n : List ℕ) → HaveSame some others → HaveSame (n ∷ some) (others ++ n ∷ [])
 have_more some others n same x = ap (λ r. bytes_eq x n || r) (same x) ∙ or_turned (bytes_eq x n) (list_any (bytes_eq x) others) ∙ sym (list_any-append (bytes_eq x) others (n ∷ []))

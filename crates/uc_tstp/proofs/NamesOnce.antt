@@ -1,8 +1,9 @@
 -- The names of the lines that are read are all different.
-use Rattle.std.proofs.Common.{◌≡◌, ℕ, zero, suc, List, [], ◌∷◌, refl, sym, ap, subst, Bool, true, false}
-use Rattle.std.specs.Prelude.{◌||◌, bytes_eq, slice_get, Some}
+use Rattle.std.proofs.Common.{◌≡◌, ℕ, zero, suc, List, [], ◌∷◌, refl, sym, ap, subst, false}
+use Rattle.std.specs.Prelude.{bytes_eq, slice_get, Some}
 use Rattle.std.specs.List.{list_any}
 use Rattle.std.specs.Cmp.Lexicographic.{bytes_decides}
+use Rattle.std.proofs.lemmas.Bool.{or_parts}
 use Rattle.uc_clause.specs.declared.token.Token.{Token}
 use Rattle.uc_clause.specs.Terminals.{bytes_at}
 use Rattle.uc_clause.specs.Rules.{Outcome, read, stop, Rule, Then, goes_on, stops_first, gives}
@@ -58,19 +59,15 @@ module _ (bytes : List ℕ) (tokens : List Token) where
   none_new : (earlier : List (List ℕ)) → AreNew earlier []
   none_new earlier = record { new = λ i x e. absurd cc; different = none_distinct }
 
-  either : (a b : Bool) → (a || b) ≡ false → (a ≡ false) × (b ≡ false)
-  either true b e = absurd cc
-  either false b e = (refl, e)
-
   one_more : (earlier names : List (List ℕ)) (name : List ℕ) → list_any (bytes_eq name) earlier ≡ false → AreNew (name ∷ earlier) names → AreNew earlier (name ∷ names)
   one_more earlier names name first rest = record { new = new; different = different }
     where
       new : (i : ℕ) (x : List ℕ) → slice_get (name ∷ names) i ≡ Some x → list_any (bytes_eq x) earlier ≡ false
       new zero x e = let same : name ≡ x = cc in subst (λ n. list_any (bytes_eq n) earlier ≡ false) same first
-      new (suc i) x e = (either (bytes_eq x name) (list_any (bytes_eq x) earlier) (rest.new i x e)).1
+      new (suc i) x e = (or_parts (bytes_eq x name) (list_any (bytes_eq x) earlier) (rest.new i x e)).1
 
       apart : (i : ℕ) (x : List ℕ) → name ≡ x → slice_get names i ≡ Some x → ⊥
-      apart i x same e = yes_or_no ((bytes_decides x name).1 (sym same)) (either (bytes_eq x name) (list_any (bytes_eq x) earlier) (rest.new i x e)).0
+      apart i x same e = yes_or_no ((bytes_decides x name).1 (sym same)) (or_parts (bytes_eq x name) (list_any (bytes_eq x) earlier) (rest.new i x e)).0
 
       different : AreDistinct (name ∷ names)
       different zero zero x e f = refl

@@ -3,7 +3,7 @@ use Rattle.std.proofs.Common.{◌≡◌, ℕ, ◌+◌, ◌<◌, ◌≤◌, Bool,
 use Rattle.std.specs.Prelude.{decimal, ◌==◌, ◌&&◌, ◌||◌, if◌then◌else◌, MatchBool}
 use Rattle.std.specs.List.{list_all, prefix_len, AllByRecursion}
 use Rattle.std.specs.Str.Parse.{AllDigits}
-use Rattle.std.proofs.lemmas.Bool.{cases_Bool, and_from, and_parts, or_cases}
+use Rattle.std.proofs.lemmas.Bool.{cases_Bool, and_from, and_parts, or_cases, or_right}
 use Rattle.std.proofs.lemmas.Bool.Decides.{nat_tests}
 use Rattle.std.proofs.lemmas.List.Folds.{list_all-append}
 use Rattle.std.proofs.lemmas.Fmt.{decimal_is_IsNumeral}
@@ -186,11 +186,7 @@ digits_are (d ∷ ds) all = let parts = tells_digits.parts d ds all in and_from 
 
 integer_of : (ds : List ℕ) → 0 < length ds → list_all is_digit ds ≡ true → spells Integer ds ≡ true
 integer_of [] some all = absurd (omega arith)
-integer_of (d ∷ ds) some all = or_second (is_sign d && is_digits ds) (list_all is_digit (d ∷ ds)) all
-  where
-    or_second : (a b : Bool) → b ≡ true → (a || b) ≡ true
-    or_second true b e = refl
-    or_second false b e = e
+integer_of (d ∷ ds) some all = or_right (is_sign d && is_digits ds) (list_all is_digit (d ∷ ds)) all
 
 pub decimal_digits : (n : ℕ) → n ≤ 255 → list_all is_digit (decimal n) ≡ true
 decimal_digits n h = digits_are (decimal n) (decimal_is_IsNumeral n (omega arith)).0.1

@@ -41,13 +41,8 @@ module _ (table : Table) (text : List ℕ) where
   frame_fault_reading Truncated h = (h.0, no_frame h.1)
   frame_fault_reading (RepeatedName place) h = (h.0, no_frame h.1)
   frame_fault_reading (Limit what.Bytes place) h = (h.0, h.2)
-  frame_fault_reading (Limit what.Nodes place) h = absurd cc
-  frame_fault_reading (Limit what.Arity place) h = absurd cc
-  frame_fault_reading (Limit what.Parentheses place) h = absurd cc
-  frame_fault_reading (Limit what.Clauses place) h = absurd cc
-  frame_fault_reading (Limit what.Files place) h = absurd cc
-  frame_fault_reading (Limit what.Symbols place) h = absurd cc
   frame_fault_reading NoMemory h = tt
+  frame_fault_reading v h = absurd cc
 
 -- what holds of each answer that one reading gives holds of those of another
 pub reading_by : (P Q : Result Proof ProofFault → Type 0) (text : List ℕ) → ((r : Result Proof ProofFault) → P r → Q r) → (r : Result Proof ProofFault) → IsReadingBy P text r → IsReadingBy Q text r
