@@ -32,24 +32,7 @@ module _ (table : Table) where
 
   equal_sign : (t : Terminal) → sign_of t ≡ Some true → t ≡ terminal.Equal
   equal_sign terminal.Equal e = refl
-  equal_sign terminal.Unequal e = absurd (cc)
-  equal_sign terminal.Lower e = absurd (cc)
-  equal_sign terminal.Upper e = absurd (cc)
-  equal_sign terminal.Quoted e = absurd (cc)
-  equal_sign terminal.Distinct e = absurd (cc)
-  equal_sign terminal.Integer e = absurd (cc)
-  equal_sign terminal.Dollar e = absurd (cc)
-  equal_sign terminal.Open e = absurd (cc)
-  equal_sign terminal.Close e = absurd (cc)
-  equal_sign terminal.OpenSquare e = absurd (cc)
-  equal_sign terminal.CloseSquare e = absurd (cc)
-  equal_sign terminal.Comma e = absurd (cc)
-  equal_sign terminal.Dot e = absurd (cc)
-  equal_sign terminal.Bar e = absurd (cc)
-  equal_sign terminal.Tilde e = absurd (cc)
-  equal_sign terminal.Star e = absurd (cc)
-  equal_sign terminal.OtherMark e = absurd (cc)
-  equal_sign terminal.End e = absurd (cc)
+  equal_sign v e = absurd cc
 
   end_or_open : (t : Terminal) → t ≡ terminal.End → t ≢ terminal.Open
   end_or_open t e h = cc

@@ -1,9 +1,10 @@
 -- How the reader of a fact's equation decides.
-use Rattle.std.proofs.Common.{◌≡◌, ℕ, ◌==◌, ◌||◌, Bool, true, false, List, [], ◌∷◌, ◌++◌, refl, sym, ap, ap₂, ◌∙◌, subst, arith, inl, inr, Option, unwrap_or}
+use Rattle.std.proofs.Common.{◌≡◌, ℕ, ◌==◌, Bool, true, false, List, [], ◌∷◌, ◌++◌, refl, sym, ap, ap₂, ◌∙◌, subst, arith, inl, inr, Option, unwrap_or}
 use Rattle.std.specs.Prelude.{Ok, Err}
 use Rattle.std.specs.List.{list_all}
 use Rattle.std.proofs.lemmas.Bool.Decides.{nat_tests}
 use Rattle.std.proofs.lemmas.Option.{slice_get_within}
+use Rattle.std.proofs.lemmas.Bool.{or_right}
 use Rattle.uc_term.specs.declared.node.Sym.{Sym}
 use Rattle.uc_term.specs.declared.node.Node.{Node}
 use Rattle.uc_term.specs.declared.equation.Equation.{Equation}
@@ -60,14 +61,10 @@ one_is_in f (g ∷ gs) h = by_test (f.0 == g.0) refl (one_is_in f gs)
 same_itself : (n : ℕ) → (n == n) ≡ true
 same_itself n = grind (arith, nat_tests)
 
-or_true : (a b : Bool) → b ≡ true → (a || b) ≡ true
-or_true true b e = refl
-or_true false b e = e
-
 pub in_is_one : (f : Sym) (fs : List Sym) → In fs f → is_one_of f fs ≡ true
 in_is_one f [] i = elim i [ ]
 in_is_one _ (g ∷ gs) in_front = rw (same_itself g.0) refl
-in_is_one f (g ∷ gs) (in_rest i) = or_true (f.0 == g.0) _ (in_is_one f gs i)
+in_is_one f (g ∷ gs) (in_rest i) = or_right (f.0 == g.0) _ (in_is_one f gs i)
 
 all_append : (p : Node → Bool) (xs ys : List Node) → list_all p xs ≡ true → list_all p ys ≡ true → list_all p (xs ++ ys) ≡ true
 all_append p [] ys h k = k

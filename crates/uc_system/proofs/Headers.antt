@@ -12,18 +12,15 @@ use Rattle.uc_system.specs.Header.{heading_line, system_words, weighing_words, p
 use Rattle.uc_system.specs.Reads.{Gives}
 
 heading_by : (a b s v is : Bool) → a ≡ false → b ≡ false → s ≡ true → v ≡ is → (if a then Heavy else (if b then Light else (if s && v then OtherVersion else NoHeading))) ≡ (if is then OtherVersion else NoHeading)
-heading_by true b s v is p q r t = absurd (cc)
-heading_by false true s v is p q r t = absurd (cc)
-heading_by false false false v is p q r t = absurd (cc)
 heading_by false false true v is p q r t = ap (λ x. if x then OtherVersion else NoHeading) t
+heading_by w b s v is p q r t = absurd cc
 
 pub heading_rest : (line digits : List ℕ) (is : Bool) → bytes_eq line (heading_line false) ≡ false → bytes_eq line (heading_line true) ≡ false → starts_with nat_eq line system_words ≡ true → digits ≡ drop (length system_words) line → is_other_version digits ≡ is → heading_of line ≡ (if is then OtherVersion else NoHeading)
 heading_rest line digits is a b s d e = heading_by (bytes_eq line (heading_line false)) (bytes_eq line (heading_line true)) (starts_with nat_eq line system_words) (is_other_version (drop (length system_words) line)) is a b s (ap is_other_version (sym d) ∙ e)
 
 kind_by : (a s : Bool) (k : Option Kind) → a ≡ false → s ≡ true → (if a then Some Paths else (if s then k else None)) ≡ k
-kind_by true s k p q = absurd (cc)
-kind_by false false k p q = absurd (cc)
 kind_by false true k p q = refl
+kind_by v s k p q = absurd cc
 
 pub kind_rest : (line digits : List ℕ) → bytes_eq line paths_line ≡ false → starts_with nat_eq line weighing_words ≡ true → digits ≡ drop (length weighing_words) line → kind_of line ≡ weighing_of digits
 kind_rest line digits a s d = kind_by (bytes_eq line paths_line) (starts_with nat_eq line weighing_words) (weighing_of (drop (length weighing_words) line)) a s ∙ ap weighing_of (sym d)

@@ -6,22 +6,18 @@ use Rattle.uc_term.specs.declared.node.Sym.{Sym}
 use Rattle.uc_term.specs.Table.{Table, Entry, IsSymbol, name_of, arity_of}
 use Rattle.uc_clause.specs.Names.{IsSpellable}
 use Rattle.uc_clause.specs.Printable.{IsPrintableSymbol}
-use Rattle.uc_order.specs.Members.{In, in_front, in_rest, Each}
+use Rattle.uc_order.specs.Members.{Each}
+pub use Rattle.uc_kbo.proofs.Tables.{each_in}
 use Rattle.uc_system.specs.declared.fault.SystemFault.{SystemFault}
 use Rattle.uc_system.specs.declared.header.Header.{Header}
 use Rattle.uc_system.specs.declared.symbols.Ranked.{Ranked}
 use Rattle.uc_system.specs.Numerals.{value_of}
 use Rattle.uc_system.specs.Lines.{Outcome, gets}
-use Rattle.uc_system.specs.Symbols.{ranked_or, symbols_in, SymbolAt, is_no_whole_line, is_no_symbol, has_too_many, is_symbol, SymbolsAt, no_more_symbols, one_more_symbol, fails_in_symbol}
+use Rattle.uc_system.specs.Symbols.{ranked_or, symbols_in, SymbolAt, is_symbol, SymbolsAt, no_more_symbols, one_more_symbol, fails_in_symbol}
 
 pub each_both : {A : Type 0} (P : A → Type 0) (xs ys : List A) → Each P xs → Each P ys → Each P (xs ++ ys)
 each_both P [] ys h k = k
 each_both P (x ∷ xs) ys h k = (h.0, each_both P xs ys h.1 k)
-
-pub each_in : {A : Type 0} (P : A → Type 0) (xs : List A) (x : A) → Each P xs → In xs x → P x
-each_in P [] x h i = elim i [ ]
-each_in P (y ∷ ys) _ h in_front = h.0
-each_in P (y ∷ ys) x h (in_rest i) = each_in P ys x h.1 i
 
 pub each_map : {A : Type 0} (P Q : A → Type 0) → ((x : A) → P x → Q x) → (xs : List A) → Each P xs → Each Q xs
 each_map P Q f [] h = tt
@@ -50,13 +46,11 @@ ranked_is (Some fault) x s n m r q e = absurd (cc)
 
 module _ (table : Table) (header : Header) where
   symbol_printable : {earlier : List Sym} {n : ℕ} {text : List ℕ} {o : Outcome Ranked} → SymbolAt table header earlier n text o → (s : Ranked) (m : ℕ) (rest : List ℕ) → o ≡ gets s m rest → IsPrintableSymbol table s.symbol
-  symbol_printable (is_no_whole_line e) s m rest g = absurd (cc)
-  symbol_printable (is_no_symbol e h) s m rest g = absurd (cc)
-  symbol_printable (has_too_many e h l) s m rest g = absurd (cc)
   symbol_printable (is_symbol {p = p} f b e h l y w o) s m rest g =
       let ranked = ranked_is _ (record { symbol = f; weight = value_of p.weight }) s _ m _ rest (sym o ∙ g) in
       let same : f ≡ s.symbol = ap (λ (x : Ranked). x.symbol) ranked.is in
       subst (IsPrintableSymbol table) same (printable_symbol table f p.name (value_of p.arity) h.name l y)
+  symbol_printable v s m rest g = absurd cc
 
   all_printable : {earlier : List Ranked} {n : ℕ} {text : List ℕ} {o : Outcome (List Ranked)} → SymbolsAt table header earlier n text o → (ss : List Ranked) (m : ℕ) (rest : List ℕ) → o ≡ gets ss m rest → Each (IsPrintableSymbol table) (symbols_in earlier) → Each (IsPrintableSymbol table) (symbols_in ss)
   all_printable {earlier} (no_more_symbols e) ss m rest g all = let same : earlier ≡ ss = cc in subst (λ (x : List Ranked). Each (IsPrintableSymbol table) (symbols_in x)) same all

@@ -4,6 +4,7 @@ use Rattle.std.specs.Prelude.{codes}
 use Rattle.std.proofs.lemmas.List.{map-append}
 use Rattle.std.proofs.lemmas.Option.{slice_get-get_or, unwrap_or-slice_get}
 use Rattle.std.proofs.lemmas.Bool.Decides.{nat_tests}
+use Rattle.std.proofs.lemmas.Bool.{or_from}
 use Rattle.uc_term.specs.declared.node.Sym.{Sym}
 use Rattle.uc_term.specs.Table.{Table, Entry, Has, IsSymbol, name_of, arity_of}
 use Rattle.uc_term.specs.Signatures.{same_symbol}
@@ -41,11 +42,6 @@ unranked fs = map (λ f. record { symbol = f; weight = 0 }) fs
 abbrev pub AreNew : List Sym → List Sym → Type 0
 AreNew earlier fs = Each (λ f. is_one_of f earlier ≡ false) fs
 
-or_false : (a b : Bool) → a ≡ false → b ≡ false → (a || b) ≡ false
-or_false false false e f = refl
-or_false false true e f = absurd (cc)
-or_false true b e f = absurd (cc)
-
 other_symbol : (f g : Sym) → (f ≡ g → ⊥) → same_symbol f g ≡ false
 other_symbol f g n = by_test (f.0 == g.0) refl
   where
@@ -58,7 +54,7 @@ one_of_by f x xs g true q h more = absurd (let h' : true ≡ false = rw q at h i
 one_of_by f x xs g false q h more = let h' : is_one_of f xs ≡ false = rw q at h in rw q (more h')
 
 one_of_more : (f : Sym) (earlier : List Sym) (g : Sym) → is_one_of f earlier ≡ false → same_symbol f g ≡ false → is_one_of f (earlier ++ g ∷ []) ≡ false
-one_of_more f [] g h e = or_false _ false e refl
+one_of_more f [] g h e = or_from _ false e refl
 one_of_more f (x ∷ xs) g h e = one_of_by f x xs g (same_symbol f x) refl h (λ k. one_of_more f xs g k e)
 
 new_more : (earlier : List Sym) (g : Sym) (fs : List Sym) → AreNew earlier fs → (In fs g → ⊥) → AreNew (earlier ++ g ∷ []) fs

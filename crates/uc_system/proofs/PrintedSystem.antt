@@ -3,6 +3,7 @@ use Rattle.std.proofs.Common.{◌≡◌, ℕ, ◌+◌, ◌<◌, ◌≤◌, ◌^�
 use Rattle.std.specs.Prelude.{codes, Ok}
 use Rattle.std.specs.List.{list_any}
 use Rattle.std.proofs.lemmas.Bool.Decides.{nat_tests}
+use Rattle.std.proofs.lemmas.Bool.{or_left, or_right}
 use Rattle.uc_term.specs.declared.node.Sym.{Sym}
 use Rattle.uc_term.specs.declared.equation.Equation.{Equation}
 use Rattle.uc_term.specs.Table.{Table, arity_of}
@@ -94,14 +95,6 @@ module _ (table : Table) (w0 : ℕ) (f : Sym) (w : ℕ) where
       by_tests false p b q true r true s = rw (small, p, r, s) refl
       by_tests false p b q false r d s = rw (small, p, r) refl
 
-or_left : (a b : Bool) → a ≡ true → (a || b) ≡ true
-or_left true b e = refl
-or_left false b e = absurd (cc)
-
-or_right : (a b : Bool) → b ≡ true → (a || b) ≡ true
-or_right true b e = refl
-or_right false b e = e
-
 module _ (table : Table) where
   no_more : (w0 : ℕ) (f : Sym) (w : ℕ) (fs : List Sym) (ws : List ℕ) → length ws ≡ length fs → (w == 0) ≡ true → (IsBad w0 (record { symbol = f; arity = arity_of table f; weight = w }) (weighed table fs ws) → ⊥) → length fs ≡ 0
   no_more w0 f w [] ws many e none = refl
@@ -128,9 +121,8 @@ module _ (table : Table) where
 
   weights_are : (fs : List Sym) (ws : List ℕ) → length ws ≡ length fs → weights_in (ranked fs ws) ≡ ws
   weights_are [] [] h = refl
-  weights_are [] (w ∷ ws) h = absurd (omega arith)
-  weights_are (f ∷ fs) [] h = absurd (omega arith)
   weights_are (f ∷ fs) (w ∷ ws) h = ap (λ x. w ∷ x) (weights_are fs ws (omega arith))
+  weights_are v w h = absurd (omega arith)
 
   bare_symbols_are : (fs : List Sym) → symbols_in (unranked fs) ≡ fs
   bare_symbols_are [] = refl
@@ -138,9 +130,8 @@ module _ (table : Table) where
 
   light_is : (w0 : ℕ) (light : Bool) (fs : List Sym) (ws : List ℕ) → length ws ≡ length fs → has_light (header_of table 1 light (Weighing w0)) (ranked fs ws) ≡ list_any (λ w. w == 0) ws
   light_is w0 light [] [] h = refl
-  light_is w0 light [] (w ∷ ws) h = absurd (omega arith)
-  light_is w0 light (f ∷ fs) [] h = absurd (omega arith)
   light_is w0 light (f ∷ fs) (w ∷ ws) h = ap (λ b. (w == 0) || b) (light_is w0 light fs ws (omega arith))
+  light_is w0 light v w h = absurd (omega arith)
 
   zero_is : (n : ℕ) → n ≡ 0 → (n == 0) ≡ true
   zero_is n h = grind (arith, nat_tests)

@@ -2,6 +2,7 @@
 use Rattle.std.proofs.Common.{◌≡◌, ℕ, ◌==◌, Bool, true, false, not, ◌&&◌, List, [], ◌∷◌, ◌++◌, refl, sym, ap, ap₂, ◌∙◌, subst, arith}
 use Rattle.std.specs.List.{list_all}
 use Rattle.std.proofs.lemmas.Bool.Decides.{nat_tests}
+use Rattle.std.proofs.lemmas.Bool.{and_parts, and_from}
 use Rattle.uc_clause.specs.Bytes.{is_digit, is_lower, is_name}
 use Rattle.uc_clause.specs.Names.{stands_for, spelling, kind_of_word}
 use Rattle.uc_clause.proofs.Joined.{stands_for_spelling}
@@ -9,17 +10,13 @@ use Rattle.uc_system.specs.Numerals.{is_numeral}
 use Rattle.uc_system.specs.Written.{HasNoSpace, kind_at}
 
 pub and_left : (a b : Bool) → (a && b) ≡ true → a ≡ true
-and_left true b e = refl
-and_left false b e = absurd (cc)
+and_left a b h = (and_parts a b h).0
 
 pub and_right : (a b : Bool) → (a && b) ≡ true → b ≡ true
-and_right true b e = e
-and_right false b e = absurd (cc)
+and_right a b h = (and_parts a b h).1
 
 pub and_both : (a b : Bool) → a ≡ true → b ≡ true → (a && b) ≡ true
-and_both true true e f = refl
-and_both true false e f = absurd (cc)
-and_both false b e f = absurd (cc)
+and_both a b e f = and_from a b e f
 
 pub has_space : (xs ys : List ℕ) → HasNoSpace (xs ++ 32 ∷ ys) → ⊥
 has_space [] ys h = cc

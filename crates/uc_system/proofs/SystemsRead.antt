@@ -4,6 +4,7 @@ use Rattle.std.specs.Prelude.{bytes_eq, drop, nat_eq}
 use Rattle.std.specs.List.{starts_with}
 use Rattle.std.proofs.lemmas.Bool.Decides.{nat_tests}
 use Rattle.std.proofs.lemmas.List.{map-append}
+use Rattle.std.proofs.lemmas.Bool.{or_parts}
 use Rattle.uc_term.specs.declared.node.Sym.{Sym}
 use Rattle.uc_term.specs.declared.equation.Equation.{Equation}
 use Rattle.uc_term.specs.Table.{Table, Has, arity_of}
@@ -21,9 +22,8 @@ use Rattle.uc_system.specs.declared.system.SystemText.{SystemText}
 use Rattle.uc_system.specs.Numerals.{is_numeral, value_of}
 use Rattle.uc_system.specs.Lines.{Cut, first_line, departs, Outcome, gets, goes_on, passed_or, value_or, picked}
 use Rattle.uc_system.specs.Header.{weighing_words, paths_line, weighing_of, kind_of, header_lines}
-use Rattle.uc_system.specs.Symbols.{StandsSymbol, IsFollowed, symbols_in, weights_in, is_bad_weight, weighs_nothing, is_one_of, symbol_fault, has_light, has_constant, SymbolAt, is_no_whole_line, is_no_symbol, has_too_many, is_symbol, SymbolsAt, no_more_symbols, one_more_symbol, fails_in_symbol, symbols_fault}
-use Rattle.uc_system.specs.Facts.{IsFact, FactsAt, no_more_facts, one_more_fact, has_large_term, is_no_fact}
-use Rattle.uc_system.specs.Facts as facts
+use Rattle.uc_system.specs.Symbols.{StandsSymbol, IsFollowed, symbols_in, weights_in, is_bad_weight, weighs_nothing, is_one_of, symbol_fault, has_light, has_constant, SymbolAt, is_symbol, SymbolsAt, no_more_symbols, one_more_symbol, fails_in_symbol, symbols_fault}
+use Rattle.uc_system.specs.Facts.{IsFact, FactsAt, no_more_facts, one_more_fact}
 use Rattle.uc_system.specs.Reading.{text_of, system_lines, IsSystem}
 use Rattle.uc_system.proofs.Precedence.{each_both, each_map, ranked_is, symbols_printable}
 use Rattle.uc_system.proofs.FactChecks.{arity_is, in_is_one}
@@ -54,12 +54,9 @@ record IsFine (bad repeated nothing followed : Bool) : Type 0 where
   last : nothing ≡ true → followed ≡ false
 
 fine_by : (bad repeated nothing light followed : Bool) (x y z : SystemFault) → (if bad || repeated then Some x else (if nothing && not light then Some y else (if nothing && followed then Some z else None))) ≡ None → IsFine bad repeated nothing followed
-fine_by true r t l f x y z e = absurd (cc)
-fine_by false true t l f x y z e = absurd (cc)
-fine_by false false true false f x y z e = absurd (cc)
-fine_by false false true true true x y z e = absurd (cc)
 fine_by false false true true false x y z e = record { fine = refl; new = refl; last = λ _. refl }
 fine_by false false false l f x y z e = record { fine = refl; new = refl; last = λ h. absurd (cc) }
+fine_by v r t l f x y z e = absurd cc
 
 module _ (table : Table) (header : Header) where
   record IsTaken (earlier : List Sym) (s : Ranked) (rest : List ℕ) : Type 0 where
@@ -68,9 +65,6 @@ module _ (table : Table) (header : Header) where
     last : weighs_nothing header.kind s.weight ≡ true → StandsSymbol header.kind rest → ⊥
 
   taken : {earlier : List Sym} {n : ℕ} {text : List ℕ} {o : Outcome Ranked} → SymbolAt table header earlier n text o → (s : Ranked) (m : ℕ) (rest : List ℕ) → o ≡ gets s m rest → IsTaken earlier s rest
-  taken (is_no_whole_line e) s m rest g = absurd (cc)
-  taken (is_no_symbol e h) s m rest g = absurd (cc)
-  taken (has_too_many e h l) s m rest g = absurd (cc)
   taken {earlier} {n} (is_symbol {c = c} {p = p} f b e h l y z o) s m rest g =
       let made : Ranked = record { symbol = f; weight = value_of p.weight } in
       let ranked = ranked_is (symbol_fault header (is_one_of f earlier) b n (value_of p.arity) (value_of p.weight)) made s n m c.rest rest (sym o ∙ g) in
@@ -78,12 +72,11 @@ module _ (table : Table) (header : Header) where
       let arities : value_of p.arity ≡ arity_of table f = arity_is table f p.name (value_of p.arity) y in
       let here : IsTaken earlier made c.rest = record { fine = subst (λ a. is_bad_weight header.kind a (value_of p.weight) ≡ false) arities right.fine; new = right.new; last = λ w. subst (IsFollowed header.kind c.rest) (right.last w) z } in
       subst (λ (x : List ℕ). IsTaken earlier s x) ranked.rest_is (subst (λ (x : Ranked). IsTaken earlier x c.rest) ranked.is here)
+  taken v s m rest g = absurd cc
 
   stands : {earlier : List Sym} {n : ℕ} {text : List ℕ} {o : Outcome Ranked} → SymbolAt table header earlier n text o → (s : Ranked) (m : ℕ) (rest : List ℕ) → o ≡ gets s m rest → StandsSymbol header.kind text
-  stands (is_no_whole_line e) s m rest g = absurd (cc)
-  stands (is_no_symbol e h) s m rest g = absurd (cc)
-  stands (has_too_many e h l) s m rest g = absurd (cc)
   stands (is_symbol {c = c} {p = p} f b e h l y z o) s m rest g = record { cut = c; is_cut = e; parts = p; line = h }
+  stands v s m rest g = absurd cc
 
   none_twice : {earlier : List Ranked} {n : ℕ} {text : List ℕ} {o : Outcome (List Ranked)} → SymbolsAt table header earlier n text o → (ss : List Ranked) (m : ℕ) (rest : List ℕ) → o ≡ gets ss m rest → AreDistinct (symbols_in earlier) → AreDistinct (symbols_in ss)
   none_twice {earlier} (no_more_symbols e) ss m rest g d = let same : earlier ≡ ss = cc in subst (λ (x : List Ranked). AreDistinct (symbols_in x)) same d
@@ -94,14 +87,6 @@ module _ (table : Table) (header : Header) where
   none_twice (fails_in_symbol e x) ss m rest g d = absurd (cc)
 
 -- weights
-no_left : (a b : Bool) → (a || b) ≡ false → a ≡ false
-no_left false b e = refl
-no_left true b e = absurd (cc)
-
-no_right : (a b : Bool) → (a || b) ≡ false → b ≡ false
-no_right false b e = e
-no_right true b e = absurd (cc)
-
 over_most : (w : ℕ) → nat_lt MAX_WEIGHT w ≡ false → 1000000 < w → ⊥
 over_most w e h = grind (arith, nat_tests)
 
@@ -120,13 +105,13 @@ is_equal : (m n : ℕ) → (m == n) ≡ true → m ≡ n
 is_equal m n e = grind (arith, nat_tests)
 
 not_bad : (w0 a w : ℕ) (f : Sym) (rest : List Weighed) → is_bad_weight (Weighing w0) a w ≡ false → (w ≡ 0 → length rest ≡ 0) → IsBad w0 (record { symbol = f; arity = a; weight = w }) rest → ⊥
-not_bad w0 a w f rest e last (inl h) = over_most w (no_left (nat_lt MAX_WEIGHT w) _ e) h
-not_bad w0 a w f rest e last (inr (inl h)) = both_tests (a == 0) (nat_lt w w0) (no_left ((a == 0) && nat_lt w w0) _ (no_right (nat_lt MAX_WEIGHT w) _ e)) (is_zero a h.0) (is_below w w0 h.1)
+not_bad w0 a w f rest e last (inl h) = over_most w (or_parts (nat_lt MAX_WEIGHT w) _ e).0 h
+not_bad w0 a w f rest e last (inr (inl h)) = both_tests (a == 0) (nat_lt w w0) (or_parts ((a == 0) && nat_lt w w0) _ (or_parts (nat_lt MAX_WEIGHT w) _ e).1).0 (is_zero a h.0) (is_below w w0 h.1)
 not_bad w0 a w f rest e last (inr (inr h)) = by_test (a == 1) refl
   where
     by_test : (t : Bool) → (a == 1) ≡ t → ⊥
     by_test true q = h.1 (is_equal a 1 q, last h.0)
-    by_test false q = both_tests (w == 0) (not (a == 1)) (no_right ((a == 0) && nat_lt w w0) _ (no_right (nat_lt MAX_WEIGHT w) _ e)) (is_zero w h.0) (ap not q)
+    by_test false q = both_tests (w == 0) (not (a == 1)) (or_parts ((a == 0) && nat_lt w w0) _ (or_parts (nat_lt MAX_WEIGHT w) _ e).1).1 (is_zero w h.0) (ap not q)
 
 weighed_none : (table : Table) (ss : List Ranked) → length ss ≡ 0 → length (weighed table (symbols_in ss) (weights_in ss)) ≡ 0
 weighed_none table [] h = refl
@@ -174,9 +159,8 @@ constant_in table (s ∷ ss) h = by_test (arity_of table s.symbol == 0) refl (co
     by_test false e more = let there = more (rw e at h) in (there.0, (in_rest there.1.0, there.1.1))
 
 complete_by : (missing some : Bool) (x y : SystemFault) → (if missing then Some x else (if some then None else Some y)) ≡ None → some ≡ true
-complete_by true s x y e = absurd (cc)
 complete_by false true x y e = refl
-complete_by false false x y e = absurd (cc)
+complete_by v s x y e = absurd cc
 
 passed_none : (fault : Option SystemFault) (n m : ℕ) (text rest : List ℕ) (u : Unit {0}) → gets u m rest ≡ passed_or fault n text → fault ≡ None
 passed_none None n m text rest u e = refl
@@ -195,9 +179,7 @@ at_most v e = grind (arith, nat_tests)
 
 weighing_by : (numeral low high : Bool) (v : ℕ) (kind : Kind) → nat_le 1 v ≡ low → nat_le v MAX_WEIGHT ≡ high → (if numeral && (low && high) then Some (Weighing v) else None) ≡ Some kind → IsRightKind kind
 weighing_by true true true v kind l h e = let same : Weighing v ≡ kind = cc in subst IsRightKind same (at_least v l, at_most v h)
-weighing_by true true false v kind l h e = absurd (cc)
-weighing_by true false high v kind l h e = absurd (cc)
-weighing_by false low high v kind l h e = absurd (cc)
+weighing_by w low high v kind l h e = absurd cc
 
 right_kind_by : (paths weighing : Bool) (ds : List ℕ) (kind : Kind) → (if paths then Some Paths else (if weighing then weighing_of ds else None)) ≡ Some kind → IsRightKind kind
 right_kind_by true w ds kind e = let same : Paths ≡ kind = cc in subst IsRightKind same tt
@@ -224,9 +206,7 @@ right_header header (goes_on h (goes_on {m = j} {rest = q} v (goes_on {v = kind}
 all_facts : (table : Table) (fs : List Sym) → {earlier : List Equation} {n : ℕ} {text : List ℕ} {o : Outcome (List Equation)} → FactsAt table fs earlier n text o → (es : List Equation) (m : ℕ) (rest : List ℕ) → o ≡ gets es m rest → Each (IsFact table fs) earlier → Each (IsFact table fs) es
 all_facts table fs {earlier} (no_more_facts e l) es m rest g all = let same : earlier ≡ es = cc in subst (Each (IsFact table fs)) same all
 all_facts table fs {earlier} (one_more_fact {e = x} e l y) es m rest g all = all_facts table fs y es m rest g (each_both (IsFact table fs) earlier (x ∷ []) all (l.fact, tt))
-all_facts table fs (has_large_term e l) es m rest g all = absurd (cc)
-all_facts table fs (is_no_fact e l x y) es m rest g all = absurd (cc)
-all_facts table fs (facts.is_no_whole_line e) es m rest g all = absurd (cc)
+all_facts table fs v es m rest g all = absurd cc
 
 module _ (table : Table) (header : Header) (right : IsRightKind header.kind) (ss : List Ranked) (n k : ℕ) (text rest : List ℕ) (x : SymbolsAt table header [] n text (gets ss k rest)) (none : symbols_fault table header ss k ≡ None) (es : List Equation) (all : Each (IsFact table (symbols_in ss)) es) where
   of_table : Each (Has table) (symbols_in ss)
