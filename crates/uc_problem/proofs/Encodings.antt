@@ -1,11 +1,6 @@
 -- The encoded problem, as the code makes it.
-use Rattle.std.proofs.Common.{◌≡◌, ℕ, suc, ◌+◌, ◌<◌, ◌≤◌, ◌&&◌, Bool, true, false, cond, List, [], ◌∷◌, ◌++◌, filter, drop, length, get_or, slice_get, add-one, drop-cons, Option, Some, None, Ok, if◌then◌else◌, refl, append_assoc, sym, ap, ◌∙◌, subst, arith}
-use Rattle.std.specs.Prelude.{nat_lt}
-use Rattle.std.specs.List.{list_any}
-use Rattle.std.proofs.lemmas.Bool.Decides.{nat_tests}
-use Rattle.std.proofs.lemmas.List.Folds.{list_any_at}
+use Rattle.std.proofs.Common.{◌≡◌, ℕ, suc, ◌+◌, ◌<◌, Bool, true, false, cond, List, [], ◌∷◌, ◌++◌, filter, drop, length, get_or, slice_get, add-one, drop-cons, Option, Some, None, Ok, if◌then◌else◌, refl, append_assoc, sym, ap, ◌∙◌, subst, arith}
 use Rattle.std.proofs.lemmas.Option.{slice_get-get_or}
-use Rattle.uc_term.specs.Tree.{nodes}
 use Rattle.uc_term.specs.Table.{Table, Grows}
 use Rattle.uc_term.specs.declared.fresh.Fresh.{Fresh}
 use Rattle.uc_clause.specs.declared.clause.Sourced.{Sourced}
@@ -15,7 +10,7 @@ use Rattle.uc_problem.specs.declared.problem.Encoded.{Encoded}
 use Rattle.uc_problem.specs.declared.encoding.Kind.{Kind}
 use Rattle.uc_problem.specs.declared.encoding.Kind.TheVariants.{Axiom, Goal, OpenGoal, GroundGoal}
 use Rattle.uc_problem.specs.Holds.{numbers_of}
-use Rattle.uc_problem.specs.Marks.{is_open_goal, is_too_large, IsMarked}
+use Rattle.uc_problem.specs.Marks.{IsMarked}
 use Rattle.uc_problem.specs.Kinds.{is_of, AreGoals}
 use Rattle.uc_problem.specs.Encodes.{equations_where, numbers_where, encoding_of, Encodes, IsEncoded}
 

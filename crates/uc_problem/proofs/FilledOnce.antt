@@ -6,7 +6,7 @@ use Rattle.uc_term.specs.declared.fault.TermFault.{TermFault}
 use Rattle.uc_term.specs.Tree.{Tree}
 use Rattle.uc_term.specs.Table.{Table, Has, IsDistinct, Grows, name_of, arity_of}
 use Rattle.uc_term.specs.Gathering.{HasAll, AreOf}
-use Rattle.uc_term.specs.Signatures.{Occurrence, occurrences_of, Gathers, all_seen, seen_before, is_new, clashes, is_too_many, first_named, first_constant, Completes, has_constant, gets_constant, IsSignatureOf, least_word}
+use Rattle.uc_term.specs.Signatures.{Occurrence, occurrences_of, Gathers, all_seen, seen_before, is_new, first_named, first_constant, Completes, has_constant, gets_constant, IsSignatureOf, least_word}
 use Rattle.uc_term.proofs.Grown.{AllHave, have_from, gathers-grows, first_named-grows, first_constant-grows, name-grows}
 use Rattle.uc_edge.specs.Files.{Files}
 use Rattle.uc_clause.specs.declared.token.Token.{Token}
@@ -104,8 +104,7 @@ module _ (old new : Table) (grows : Grows old new) where
   gathers_earlier (seen_before k g) e h a = seen_before k (gathers_earlier g e h a.1)
   gathers_earlier {seen = seen} (is_new {o = o} n m g) e h a =
       is_new (sym (first_named-grows old new grows seen (name_of old o.symbol) h) ∙ sym (ap (λ n. first_named new n seen) (name-grows old new grows o.symbol a.0)) ∙ n) m (gathers_earlier g e (pushed old new grows seen o.symbol h a.0) a.1)
-  gathers_earlier (clashes k n) e h a = absurd cc
-  gathers_earlier (is_too_many n m) e h a = absurd cc
+  gathers_earlier v e h a = absurd cc
 
   pub all_gather_earlier : (ts : List Tree) (fs : List Sym) → AreOf old ts → Gathers new [] (occurrences_of ts) (Ok fs) → Gathers old [] (occurrences_of ts) (Ok fs)
   all_gather_earlier ts fs of g = gathers_earlier g refl (λ i f e. absurd cc) (have_from old new grows ts 0 of)

@@ -11,7 +11,7 @@ use Rattle.uc_term.specs.Tree.{Tree, var, app, Trees, none, more}
 use Rattle.uc_term.specs.Flat.{flat, flat_all}
 use Rattle.uc_term.specs.Table.{Table, Entry, Has, Grows, IsSymbol, name_of}
 use Rattle.uc_term.specs.Gathering.{HasAll}
-use Rattle.uc_term.specs.Signatures.{Occurrence, occurrences_in, occurrences_from, occurrences_of, Gathers, all_seen, seen_before, is_new, clashes, is_too_many, first_named, tried_name, IsFree, IsFreshFor, Completes, has_constant, gets_constant}
+use Rattle.uc_term.specs.Signatures.{Occurrence, occurrences_in, occurrences_from, occurrences_of, Gathers, all_seen, seen_before, is_new, first_named, tried_name, IsFree, IsFreshFor, Completes, has_constant, gets_constant}
 use Rattle.uc_term.specs.Encoding.{ordinary, part, AreDistinct, Lacks, AllLack}
 use Rattle.uc_term.proofs.Gets.{get-append_left, get-append_right}
 use Rattle.uc_term.proofs.Tables.{get_pushed}
@@ -42,15 +42,13 @@ seen_kept : {table : Table} {seen : List Sym} {os : List Occurrence} {r : Result
 seen_kept all_seen fs f e i = subst (In f) (ok_same e) i
 seen_kept (seen_before k g) fs f e i = seen_kept g fs f e i
 seen_kept {seen = seen} (is_new {o = o} n m g) fs f e i = seen_kept g fs f e (i.0, get-append_left seen (o.symbol ∷ []) i.0 f i.1)
-seen_kept (clashes k n) fs f e i = absurd cc
-seen_kept (is_too_many n m) fs f e i = absurd cc
+seen_kept v fs f e i = absurd cc
 
 pub all_gathered : {table : Table} {seen : List Sym} {os : List Occurrence} {r : Result (List Sym) TermFault} → Gathers table seen os r → (fs : List Sym) → r ≡ Ok fs → AllIn fs os
 all_gathered all_seen fs e = tt
 all_gathered {seen = seen} (seen_before {o = o} k g) fs e = (seen_kept g fs o.symbol e (any_get o.symbol seen k), all_gathered g fs e)
 all_gathered {seen = seen} (is_new {o = o} n m g) fs e = (seen_kept g fs o.symbol e (get-append_right seen (o.symbol ∷ []) 0 o.symbol refl), all_gathered g fs e)
-all_gathered (clashes k n) fs e = absurd cc
-all_gathered (is_too_many n m) fs e = absurd cc
+all_gathered v fs e = absurd cc
 
 parts_in : (fs : List Sym) (xs ys : List Occurrence) → AllIn fs (xs ++ ys) → AllIn fs xs × AllIn fs ys
 parts_in fs [] ys a = (tt, a)

@@ -35,12 +35,7 @@ module _ (holds : Option Files) (folder : List ℕ) (root : Option (List ℕ)) (
   taken c t first now new (Err (Limit file place what)) h =
       all_files holds t (λ files T. ItemComesTo folder root depth name old (item.Clause c) files T None (Err (Limit file place what)))
       (λ files T rest. subst (λ (e : LoadFault). LoadsItems (ReadsAs T) files None folder root depth name old (item.Clause c ∷ rest) (Err e)) (sym h.1) (too_many_clauses h.0))
-  taken c t first now new (Err (Absent file from)) h = absurd cc
-  taken c t first now new (Err (ReadFault file)) h = absurd cc
-  taken c t first now new (Err (TooDeep file place)) h = absurd cc
-  taken c t first now new (Err (NoSuchName file place n)) h = absurd cc
-  taken c t first now new (Err (ArityClash file place n a b)) h = absurd cc
-  taken c t first now new (Err (Clause file fault)) h = absurd cc
+  taken c t first now new v h = absurd cc
 
   module _ (i : Include) where
     abbrev pub Comes : Files → Table → Option (List ℕ) → Loaded → Type 0

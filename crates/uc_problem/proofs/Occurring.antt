@@ -23,6 +23,12 @@ pub record IsAmong (os : List Occurrence) (o : Occurrence) : Type 0 where
 later_among : (o x : Occurrence) (os : List Occurrence) → IsAmong os o → IsAmong (x ∷ os) o
 later_among o x os a = record { number = suc a.number; is = a.is }
 
+-- gathering fails for a clash or for one symbol too many, and else for nothing
+pub no_other : (table : Table) {seen : List Sym} {os : List Occurrence} {r : Result (List Sym) TermFault} → Gathers table seen os r → (r ≡ Err of_terms.TooLarge → ⊥) × (r ≡ Err of_terms.NoSuchPosition → ⊥)
+no_other table (seen_before k g) = no_other table g
+no_other table (is_new n m g) = no_other table g
+no_other table g = (λ e. absurd cc, λ e. absurd cc)
+
 -- the occurrence of a fault
 pub record FaultAt (os : List Occurrence) (term : ℕ) (pos : Pos) : Type 0 where
   pub occurrence : Occurrence

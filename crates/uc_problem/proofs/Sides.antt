@@ -1,13 +1,11 @@
 -- The clause of a term and of its places, by the term's number.
-use Rattle.std.proofs.Common.{◌≡◌, ℕ, zero, suc, ◌+◌, ◌*◌, ◌<◌, ◌/◌, ◌%◌, ◌==◌, Bool, true, false, List, [], ◌∷◌, length, get_or, slice_get, Option, Some, None, if◌then◌else◌, refl, sym, ap, ◌∙◌, subst, arith}
+use Rattle.std.proofs.Common.{◌≡◌, ℕ, zero, suc, ◌+◌, ◌*◌, ◌<◌, ◌/◌, ◌%◌, ◌==◌, Bool, true, false, List, [], ◌∷◌, length, get_or, slice_get, Option, Some, None, if◌then◌else◌, refl, sym, ap, ◌∙◌, arith}
 use Rattle.std.specs.Option.{option_map}
 use Rattle.std.proofs.lemmas.Bool.{eqb-true}
 use Rattle.std.proofs.lemmas.Bool.Decides.{nat_tests}
-use Rattle.std.proofs.lemmas.Option.{slice_get_within, slice_get-get_or, get_or_from_slice_get}
+use Rattle.std.proofs.lemmas.Option.{slice_get_within, slice_get-get_or}
 use Rattle.uc_term.specs.declared.node.Sym.{Sym}
 use Rattle.uc_term.specs.declared.node.Pos.{Pos}
-use Rattle.uc_term.specs.declared.node.Node.{Node}
-use Rattle.uc_term.specs.declared.node.Node.TheVariants.{Var, App}
 use Rattle.uc_term.specs.Tree.{Tree, nodes}
 use Rattle.uc_term.specs.Flat.{flat}
 use Rattle.uc_term.specs.Table.{Table, Has}
@@ -27,36 +25,26 @@ in_file s place = (s.file, place)
 pub left_side : (ss : List Sourced) (k term : ℕ) (s : Sourced) → slice_get ss k ≡ Some s → term ≡ 2 * k → slice_get (terms_of ss) term ≡ Some s.clause.left
 left_side [] k term s e q = absurd cc
 left_side (x ∷ ss) zero zero s e q = let same : x ≡ s = cc in ap (λ (y : Sourced). Some y.clause.left) same
-left_side (x ∷ ss) zero (suc term) s e q = absurd (omega arith)
-left_side (x ∷ ss) (suc k) zero s e q = absurd (omega arith)
-left_side (x ∷ ss) (suc k) (suc zero) s e q = absurd (omega arith)
 left_side (x ∷ ss) (suc k) (suc (suc term)) s e q = left_side ss k term s e (omega arith)
+left_side v w y s e q = absurd (omega arith)
 
 pub right_side : (ss : List Sourced) (k term : ℕ) (s : Sourced) → slice_get ss k ≡ Some s → term ≡ 2 * k + 1 → slice_get (terms_of ss) term ≡ Some s.clause.right
 right_side [] k term s e q = absurd cc
-right_side (x ∷ ss) zero zero s e q = absurd (omega arith)
 right_side (x ∷ ss) zero (suc zero) s e q = let same : x ≡ s = cc in ap (λ (y : Sourced). Some y.clause.right) same
-right_side (x ∷ ss) zero (suc (suc term)) s e q = absurd (omega arith)
-right_side (x ∷ ss) (suc k) zero s e q = absurd (omega arith)
-right_side (x ∷ ss) (suc k) (suc zero) s e q = absurd (omega arith)
 right_side (x ∷ ss) (suc k) (suc (suc term)) s e q = right_side ss k term s e (omega arith)
+right_side v w y s e q = absurd (omega arith)
 
 pub left_located : (ss : List Sourced) (k term node : ℕ) (s : Sourced) → slice_get ss k ≡ Some s → term ≡ 2 * k → located ss term node ≡ option_map (in_file s) (slice_get s.clause.places node)
 left_located [] k term node s e q = absurd cc
 left_located (x ∷ ss) zero zero node s e q = let same : x ≡ s = cc in ap (λ (y : Sourced). option_map (in_file y) (slice_get y.clause.places node)) same
-left_located (x ∷ ss) zero (suc term) node s e q = absurd (omega arith)
-left_located (x ∷ ss) (suc k) zero node s e q = absurd (omega arith)
-left_located (x ∷ ss) (suc k) (suc zero) node s e q = absurd (omega arith)
 left_located (x ∷ ss) (suc k) (suc (suc term)) node s e q = left_located ss k term node s e (omega arith)
+left_located v w y node s e q = absurd (omega arith)
 
 pub right_located : (ss : List Sourced) (k term node : ℕ) (s : Sourced) → slice_get ss k ≡ Some s → term ≡ 2 * k + 1 → located ss term node ≡ option_map (in_file s) (slice_get s.clause.places (nodes s.clause.left + node))
 right_located [] k term node s e q = absurd cc
-right_located (x ∷ ss) zero zero node s e q = absurd (omega arith)
 right_located (x ∷ ss) zero (suc zero) node s e q = let same : x ≡ s = cc in ap (λ (y : Sourced). option_map (in_file y) (slice_get y.clause.places (nodes y.clause.left + node))) same
-right_located (x ∷ ss) zero (suc (suc term)) node s e q = absurd (omega arith)
-right_located (x ∷ ss) (suc k) zero node s e q = absurd (omega arith)
-right_located (x ∷ ss) (suc k) (suc zero) node s e q = absurd (omega arith)
 right_located (x ∷ ss) (suc k) (suc (suc term)) node s e q = right_located ss k term node s e (omega arith)
+right_located v w y node s e q = absurd (omega arith)
 
 pub length_terms : (ss : List Sourced) → length (terms_of ss) ≡ 2 * length ss
 length_terms [] = refl

@@ -1,5 +1,6 @@
+use Rattle.std.proofs.Common.{refl, inl, inr}
 use Rattle.uc_problem.specs.Assembly.{is_too_many}
-use Rattle.uc_problem.proofs.Occurring.{clash_at, too_many_at}
+use Rattle.uc_problem.proofs.Occurring.{clash_at, too_many_at, no_other}
 use Rattle.uc_problem.proofs.Sides.{has_place, has_symbol}
 use Rattle.uc_problem.proofs.Problems.{has_clash}
 use Rattle.uc_problem.proofs.locating.refusal.Goals as goal
@@ -23,3 +24,9 @@ returns-in_ok-from_bytes-in-ArityClash c =
 
 pub returns-in_ok-file-in-TooMany : goal.returns-in_ok-file-in-TooMany
 returns-in_ok-file-in-TooMany c = is_too_many (rw c.in-TooMany.is at c.requires.fault) c.in_ok-file-in-TooMany.ensures
+
+pub unreachable-requires : goal.unreachable-requires
+unreachable-requires c = elim c.in-TooLarge.is [
+  | inl e ↦ (no_other c.args.symbols.now (rw e at c.requires.fault)).0 refl
+  | inr e ↦ (no_other c.args.symbols.now (rw e at c.requires.fault)).1 refl
+]
