@@ -72,11 +72,9 @@ axiom_passed Is is n s old new e q = subst (λ (l : List Part). Adds Is (axioms_
 
 pub encoding_is : (s : Source) (b : Bool) → is_clause s ≡ b → is_encoding s ≡ (if b then false else true)
 encoding_is (source.Clause c) true e = refl
-encoding_is (source.Clause c) false e = absurd cc
-encoding_is source.Reflexive true e = absurd cc
 encoding_is source.Reflexive false e = refl
-encoding_is (source.Goal c) true e = absurd cc
 encoding_is (source.Goal c) false e = refl
+encoding_is v w e = absurd cc
 
 -- how many parts there are
 both_axioms : (n m : ℕ) (ss : List Source) → length (axioms_where is_clause n ss) + length (axioms_where is_encoding m ss) ≡ length ss
@@ -104,15 +102,13 @@ parts_count ss cs many =
 -- the axiom of a source is one of those that are pushed, or not
 pub kind_is : (clauses : Bool) (s : Source) (b : Bool) → b ≡ is_clause s → beq b clauses ≡ true → (if clauses then is_clause else is_encoding) s ≡ true
 kind_is true s true e f = sym e
-kind_is true s false e f = absurd cc
-kind_is false s true e f = absurd cc
 kind_is false s false e f = encoding_is s false (sym e)
+kind_is v s w e f = absurd cc
 
 pub kind_is_not : (clauses : Bool) (s : Source) (b : Bool) → b ≡ is_clause s → beq b clauses ≡ false → (if clauses then is_clause else is_encoding) s ≡ false
-kind_is_not true s true e f = absurd cc
 kind_is_not true s false e f = sym e
 kind_is_not false s true e f = encoding_is s true (sym e)
-kind_is_not false s false e f = absurd cc
+kind_is_not v s w e f = absurd cc
 
 -- what is added to nothing
 pub adds_all : (Is : Part → Type 0) (ps empty new : List Part) → empty ≡ [] → Adds Is ps empty new → Selects Is ps new

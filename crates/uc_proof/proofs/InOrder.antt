@@ -3,9 +3,10 @@ use Rattle.std.proofs.Common.{◌≡◌, ℕ, ◌+◌, ◌==◌, ◌||◌, Bool,
 use Rattle.std.specs.List.{flat_map}
 use Rattle.std.proofs.lemmas.Bool.{eqb-true, eq-eqb}
 use Rattle.std.proofs.lemmas.List.{map-append}
+use Rattle.std.proofs.Math.Bool.{or_comm}
 use Rattle.uc_term.specs.Tree.{Tree, var, app, Trees, none, more, apply_all}
 use Rattle.uc_term.specs.Variables.{variables, variables_all, is_among, firsts, firsts_after, place_of, renumbered_by}
-use Rattle.uc_term.proofs.Firsts.{is_among-append}
+use Rattle.uc_term.proofs.Firsts.{is_among-append, or-false}
 use Rattle.uc_check.specs.declared.proof.Line.{Line}
 use Rattle.uc_check.specs.declared.proof.LineStep.{LineStep}
 use Rattle.uc_check.specs.declared.proof.LineSource.{LineSource}
@@ -97,10 +98,7 @@ counts before seen [] same = tt
 counts before seen (y ∷ ys) same = go (is_among y seen) refl (counts before seen ys same) (counts (before ++ y ∷ []) (y ∷ seen) ys (λ x. is_among-append x before (y ∷ []) ∙ swap (is_among x before) (x == y) ∙ ap (λ b. (x == y) || b) (same x)))
   where
     swap : (a b : Bool) → (a || (b || false)) ≡ (b || a)
-    swap true true = refl
-    swap true false = refl
-    swap false true = refl
-    swap false false = refl
+    swap a b = ap (λ z. a || z) (or-false b) ∙ or_comm a b
 
     go : (b : Bool) → is_among y seen ≡ b → CountUp (length before) (map (place_of (before ++ firsts_after seen ys)) (firsts_after seen ys)) → CountUp (length (before ++ y ∷ [])) (map (place_of ((before ++ y ∷ []) ++ firsts_after (y ∷ seen) ys)) (firsts_after (y ∷ seen) ys)) → CountUp (length before) (map (place_of (before ++ (if b then firsts_after seen ys else y ∷ firsts_after (y ∷ seen) ys))) (if b then firsts_after seen ys else y ∷ firsts_after (y ∷ seen) ys))
     go true e here later = here

@@ -3,6 +3,7 @@ use Rattle.std.proofs.Common.{◌≡◌, ℕ, ◌+◌, ◌<◌, ◌≤◌, ◌==
 use Rattle.std.specs.List.{list_any, position_or_len}
 use Rattle.std.proofs.lemmas.List.{map-append, take_more}
 use Rattle.std.proofs.lemmas.Grind.{flat_map-append}
+use Rattle.std.proofs.Math.Bool.{or_comm}
 use Rattle.uc_term.specs.Tree.{Tree, var}
 use Rattle.uc_term.specs.Variables.{variables, is_among, firsts, firsts_after, place_of, renumbered_by}
 use Rattle.uc_term.proofs.Agree.{same_if}
@@ -78,13 +79,7 @@ no_offset names t = same_if (λ x. var (place_of names x + 0)) (λ x. var (place
 
 -- names added twice
 seen_alike : (s added : List ℕ) (x : ℕ) → is_among x (s ++ added) ≡ is_among x (added ++ s)
-seen_alike s added x = is_among-append x s added ∙ swap (is_among x s) (is_among x added) ∙ sym (is_among-append x added s)
-  where
-    swap : (a b : Bool) → (a || b) ≡ (b || a)
-    swap true true = refl
-    swap true false = refl
-    swap false true = refl
-    swap false false = refl
+seen_alike s added x = is_among-append x s added ∙ or_comm (is_among x s) (is_among x added) ∙ sym (is_among-append x added s)
 
 pub added_twice : (s xs ys : List ℕ) → (s ++ firsts_after s xs) ++ firsts_after (s ++ firsts_after s xs) ys ≡ s ++ firsts_after s (xs ++ ys)
 added_twice s xs ys =

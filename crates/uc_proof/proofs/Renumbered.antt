@@ -1,10 +1,10 @@
 -- Terms whose variables are numbered by their places in a list of names.
 use Rattle.std.proofs.Common.{◌≡◌, ℕ, suc, ◌+◌, ◌==◌, ◌||◌, Bool, true, false, List, [], ◌∷◌, ◌++◌, get_or, if◌then◌else◌, refl, sym, ap, ap₂, ◌∙◌, arith}
-use Rattle.std.proofs.lemmas.Bool.{eqb-true, eq-eqb}
+use Rattle.std.proofs.lemmas.Bool.{eqb-true, eq-eqb, or_parts}
 use Rattle.std.proofs.Math.Bool.{or-true}
 use Rattle.uc_term.specs.declared.node.Sym.{Sym}
 use Rattle.uc_term.specs.Tree.{Tree, var, app, Trees, none, more, apply, apply_all}
-use Rattle.uc_term.specs.Variables.{Occurs, is_itself, in_args, OccursIn, in_first, in_later, variables, variables_all, is_among, firsts, firsts_after, place_of, renumbered_by, has_variable, any_has_variable}
+use Rattle.uc_term.specs.Variables.{Occurs, is_itself, in_args, OccursIn, in_first, in_later, variables, variables_all, is_among, firsts, place_of, renumbered_by, has_variable, any_has_variable}
 use Rattle.uc_term.proofs.Terms.{apply-apply, apply-var}
 use Rattle.uc_term.proofs.Agree.{same_if}
 use Rattle.uc_term.proofs.Firsts.{is_among-append}
@@ -12,6 +12,7 @@ use Rattle.uc_check.specs.Variants.{AreVariants}
 use Rattle.uc_check.proofs.Renaming.{variants_of}
 use Rattle.uc_check.specs.declared.proof.Line.{Line}
 use Rattle.uc_tstp.specs.Printable.{source_variables, line_variables}
+use Rattle.uc_tstp.proofs.InOrder.{among_firsts as among_after}
 
 -- the name at the place of a name
 pub place_named : (xs : List ℕ) (x d : ℕ) → is_among x xs ≡ true → get_or xs (place_of xs x) d ≡ x
@@ -23,19 +24,6 @@ place_named (y ∷ ys) x d e = go (x == y) refl e (place_named ys x d)
     go false other e later = let q : place_of ys x + 1 ≡ suc (place_of ys x) = omega arith in ap (λ n. get_or (y ∷ ys) n d) q ∙ later e
 
 -- a number that occurs is among the first occurrences
-among_after : (seen ys : List ℕ) (x : ℕ) → is_among x seen ≡ false → is_among x ys ≡ true → is_among x (firsts_after seen ys) ≡ true
-among_after seen [] x n e = absurd cc
-among_after seen (y ∷ ys) x n e = go (x == y) refl e (is_among y seen) refl (λ more m h. among_after more ys x m h)
-  where
-    go : (b : Bool) → (x == y) ≡ b → (b || is_among x ys) ≡ true → (c : Bool) → is_among y seen ≡ c → ((more : List ℕ) → is_among x more ≡ false → is_among x ys ≡ true → is_among x (firsts_after more ys) ≡ true) → is_among x (if c then firsts_after seen ys else y ∷ firsts_after (y ∷ seen) ys) ≡ true
-    go true same e true old later =
-        let number : x ≡ y = eqb-true x y same in
-        let both : true ≡ false = sym old ∙ ap (λ z. is_among z seen) (sym number) ∙ n in
-        absurd cc
-    go true same e false new later = ap (λ b. b || is_among x (firsts_after (y ∷ seen) ys)) same
-    go false other e true old later = later seen n e
-    go false other e false new later = ap (λ b. b || is_among x (firsts_after (y ∷ seen) ys)) other ∙ later (y ∷ seen) (ap (λ b. b || is_among x seen) other ∙ n) e
-
 pub among_firsts : (ys : List ℕ) (x : ℕ) → is_among x ys ≡ true → is_among x (firsts ys) ≡ true
 among_firsts ys x e = among_after [] ys x refl e
 
@@ -96,14 +84,6 @@ mutual
   any_open_renamed f none = refl
   any_open_renamed f (more t ts) = ap₂ (λ a b. a || b) (open_renamed f t) (any_open_renamed f ts)
 
-or_left : (a b : Bool) → (a || b) ≡ false → a ≡ false
-or_left true b e = e
-or_left false b e = refl
-
-or_right : (a b : Bool) → (a || b) ≡ false → b ≡ false
-or_right true b e = absurd cc
-or_right false b e = e
-
 -- an instance of a ground term
 mutual
   pub ground_stays : (σ : ℕ → Tree) (t : Tree) → has_variable t ≡ false → apply σ t ≡ t
@@ -112,7 +92,4 @@ mutual
 
   all_stay : (σ : ℕ → Tree) (ts : Trees) → any_has_variable ts ≡ false → apply_all σ ts ≡ ts
   all_stay σ none e = refl
-  all_stay σ (more t ts) e = ap₂ more (ground_stays σ t (or_left (has_variable t) (any_has_variable ts) e)) (all_stay σ ts (or_right (has_variable t) (any_has_variable ts) e))
-
-pub both_ground : (a b : Bool) → (a || b) ≡ false → (a ≡ false) × (b ≡ false)
-both_ground a b e = (or_left a b e, or_right a b e)
+  all_stay σ (more t ts) e = ap₂ more (ground_stays σ t (or_parts (has_variable t) (any_has_variable ts) e).0) (all_stay σ ts (or_parts (has_variable t) (any_has_variable ts) e).1)

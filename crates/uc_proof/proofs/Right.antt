@@ -1,5 +1,6 @@
 -- All lines of an extracted proof are right, and the last one is a refutation.
 use Rattle.std.proofs.Common.{◌≡◌, ℕ, zero, suc, ◌+◌, ◌<◌, ◌||◌, Bool, true, false, List, [], ◌∷◌, ◌++◌, length, map, take, get_or, slice_get, Option, Some, None, Ok, refl, sym, ap, ap₂, ◌∙◌, subst, arith, inl, inr, length-append, append-nil, append_assoc, if◌then◌else◌}
+use Rattle.std.proofs.lemmas.Bool.{or_parts}
 use Rattle.uc_term.specs.Tree.{Tree, var, apply, subterm}
 use Rattle.uc_term.specs.Variables.{variables, firsts, place_of, renumbered_by, has_variable}
 use Rattle.uc_term.specs.Path.{put_position}
@@ -40,7 +41,7 @@ use Rattle.uc_proof.specs.Needed.{IsNeeded}
 use Rattle.uc_proof.specs.Parts.{part_of, all_parts, axioms_where, facts_from, is_clause, is_encoding, Selects, selects_none, selects, passes}
 use Rattle.uc_proof.specs.Written.{line_name, clause_line, equation_line, refute_line, chain_source, IsStepFor, AreStepsFor, Says, says_clause, says_denial, says_reflexive, says_goal, says_fact, says_conclusion, refutes_denied, refutes_encoded, IsWritten, AreWritten}
 use Rattle.uc_proof.specs.Extracted.{IsEncodingOf, IsExtracted}
-use Rattle.uc_proof.proofs.Renumbered.{Covers, covers_left, covers_right, unnumbered, numbered_variants, open_renamed, ground_stays, both_ground}
+use Rattle.uc_proof.proofs.Renumbered.{Covers, covers_left, covers_right, unnumbered, numbered_variants, open_renamed, ground_stays}
 use Rattle.uc_proof.proofs.Levels.{level, source_level, Ascends, lower_earlier, selected_ascend, parts_ascend}
 use Rattle.uc_proof.proofs.Sources.{IsFrom, from_clause, from_reflexive, from_goal, IsAsked, asked_by_clause, asked_by_encoding, axiom_from, goal_asked}
 use Rattle.uc_proof.proofs.Reversal.{conclusion_leads}
@@ -437,7 +438,7 @@ module _ (problem : Problem) (enc : Encoded) (facts : List Fact) (conclusion : C
             let alike : s' ≡ s = let z : Some s' ≡ Some s = sym there' ∙ ap (slice_get problem.clauses) (sym number) ∙ g.there in cc in
             let n = conclusion_at e chain h at_chain in
             let p : s.clause.positive ≡ false = ap (λ (x : Sourced). x.clause.positive) (sym alike) ∙ negative in
-            let sides = both_ground (has_variable s.clause.left) (has_variable s.clause.right) (goal_is_ground s p (ap is_open_goal (sym alike) ∙ closed)) in
+            let sides = or_parts (has_variable s.clause.left) (has_variable s.clause.right) (goal_is_ground s p (ap is_open_goal (sym alike) ∙ closed)) in
             let e_is : e ≡ clause_equation s.clause = sym same ∙ ap (λ (x : Sourced). clause_equation x.clause) alike in
             let left : g.line.left ≡ s.clause.left = g.left_is ∙ ground_stays (λ x. var (place_of g.names x)) s.clause.left sides.0 in
             let right : g.line.right ≡ s.clause.right = g.right_is ∙ ground_stays (λ x. var (place_of g.names x)) s.clause.right sides.1 in

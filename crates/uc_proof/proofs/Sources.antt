@@ -1,6 +1,7 @@
 -- Where the axioms and goals of an encoded problem come from.
-use Rattle.std.proofs.Common.{◌≡◌, ℕ, zero, suc, ◌+◌, ◌||◌, Bool, true, false, List, [], ◌∷◌, ◌++◌, length, map, slice_get, Option, Some, None, Ok, refl, sym, ap, ◌∙◌, subst, arith, ◌⊎◌, inl, inr, if◌then◌else◌}
+use Rattle.std.proofs.Common.{◌≡◌, ℕ, zero, suc, ◌+◌, Bool, true, false, List, [], ◌∷◌, ◌++◌, length, map, slice_get, Option, Some, None, Ok, refl, sym, ap, ◌∙◌, subst, arith, ◌⊎◌, inl, inr, if◌then◌else◌}
 use Rattle.std.specs.List.{list_any}
+use Rattle.std.proofs.lemmas.Bool.{or_parts}
 use Rattle.uc_term.specs.Encoding.{reflexive, refuted}
 use Rattle.uc_term.specs.declared.equation.Equation.{Equation}
 use Rattle.uc_term.specs.declared.fresh.Fresh.{Fresh}
@@ -115,16 +116,8 @@ length_map f (x ∷ xs) = ap suc (length_map f xs)
 
 pub none_of : (is : Sourced → Bool) (ss : List Sourced) (j : ℕ) (s : Sourced) → list_any is ss ≡ false → slice_get ss j ≡ Some s → is s ≡ false
 none_of is [] j s e h = absurd cc
-none_of is (x ∷ ss) zero s e h = let same : x ≡ s = cc in subst (λ (y : Sourced). is y ≡ false) same (front (is x) (list_any is ss) e)
-  where
-    front : (a b : Bool) → (a || b) ≡ false → a ≡ false
-    front true b e = e
-    front false b e = refl
-none_of is (x ∷ ss) (suc j) s e h = none_of is ss j s (behind (is x) (list_any is ss) e) h
-  where
-    behind : (a b : Bool) → (a || b) ≡ false → b ≡ false
-    behind true b e = absurd cc
-    behind false b e = e
+none_of is (x ∷ ss) zero s e h = let same : x ≡ s = cc in subst (λ (y : Sourced). is y ≡ false) same (or_parts (is x) (list_any is ss) e).0
+none_of is (x ∷ ss) (suc j) s e h = none_of is ss j s (or_parts (is x) (list_any is ss) e).1 h
 
 module _ (problem : Problem) (enc : Encoded) where
   -- what an axiom is: a clause's equation, or one of the encoding's

@@ -1,5 +1,5 @@
 -- What is used is found in one pass from the last fact to the first, and what is denied in one over the sources.
-use Rattle.std.proofs.Common.{◌≡◌, ℕ, zero, suc, ◌+◌, ◌≤◌, ◌↔◌, List, [], ◌∷◌, length, drop, slice_get, Option, Some, None, refl, sym, ap, ◌∙◌, subst, arith, ◌⊎◌, inl, inr}
+use Rattle.std.proofs.Common.{◌≡◌, ℕ, zero, suc, ◌+◌, ◌≤◌, ◌↔◌, List, [], ◌∷◌, drop, slice_get, Option, Some, None, refl, sym, ap, ◌∙◌, subst, arith, ◌⊎◌, inl, inr}
 use Rattle.uc_fact.specs.declared.chain.By.{By}
 use Rattle.uc_fact.specs.declared.chain.By.TheVariants.{Axiom as AxiomOf, Fact as FactOf}
 use Rattle.uc_fact.specs.declared.chain.Chain.{Chain}
@@ -14,7 +14,6 @@ use Rattle.uc_proof.specs.Parts.{part_of}
 use Rattle.uc_proof.specs.Making.{IsAmong, IsNamedPart, IsUsedPart, NameEarlier, IsGoalOf, IsDeniedFrom, IsClauseOf}
 use Rattle.uc_proof.proofs.Among.{one_more}
 use Rattle.uc_proof.proofs.Ready.{named_part, part_named}
-use Rattle.uc_proof.proofs.Right.{inside}
 
 used_part : (facts : List Fact) (conclusion : Chain) (by : By) → IsUsed facts conclusion by → IsUsedPart facts conclusion (part_of by)
 used_part facts conclusion (AxiomOf k) u = u
