@@ -20,7 +20,6 @@ use Rattle.uc_words.specs.declared.command.Verb.TheVariants as verb
 use Rattle.uc_words.specs.declared.command.Command.{Command}
 use Rattle.uc_words.specs.Reads.{Reads}
 use Rattle.uc_words.proofs.Only.{only}
-use Rattle.uc_top.specs.Runs.{HasProof, IsCertified}
 use Rattle.uc_term.specs.declared.fresh.Fresh.{Fresh}
 use Rattle.uc_term.specs.Table.{Table, Grows, IsDistinct}
 use Rattle.uc_edge.specs.Files.{Files, IsFetched}
@@ -50,11 +49,12 @@ use Rattle.uc_tstp.specs.declared.fault.ProofFault.TheVariants.{Syntax, UnknownR
 use Rattle.uc_tstp.specs.Reading.{IsReading}
 use Rattle.uc_tstp.specs.Interning.{InternsProof}
 use Rattle.uc_check.specs.declared.proof.Proof.{Proof}
-use Rattle.uc_top.specs.declared.output.Answer.{Answer}
-use Rattle.uc_top.specs.Lines.{joined, load_line, proof_line}
 use Rattle.std.proofs.lemmas.Option.{slice_get_read}
+use Rattle.uc_answer.specs.declared.answer.Answer.{Answer}
+use Rattle.uc_answer.specs.Lines.{joined, load_line, proof_line}
+use Rattle.uc_answer.specs.Refusals.{large_line, load_status}
+use Rattle.uc_top.specs.Runs.{HasProof, IsCertified}
 use Rattle.uc_top.specs.Answers.{IsBuilt, IsProofFetched, TextAnswers, is_not_read, is_checked, ProofAnswers, is_absent, isnt_fetched, is_found, ProblemAnswers, has_large_goal, is_marked, LoadAnswers, CheckAnswers, fetch_fails, is_refused, is_loaded}
-use Rattle.uc_top.specs.Refusals.{large_line, load_status}
 use Rattle.uc_top.specs.Loaded.{IsLoaded}
 
 -- A count that rose in a part of a call rose in the call.

@@ -6,7 +6,7 @@ use Rattle.uc_words.specs.declared.command.Verb.{Verb}
 use Rattle.uc_words.specs.declared.command.Verb.TheVariants as verb
 use Rattle.uc_words.specs.Reads.{Reads}
 use Rattle.uc_words.proofs.Only.{only}
-use Rattle.uc_top.specs.Lines.{usage_line}
+use Rattle.uc_answer.specs.Lines.{usage_line}
 use Rattle.uc_top.specs.Answers.{IsBuilt, IsSearching, CheckAnswers, ShowAnswers, OrderAnswers, RewriteAnswers, PairsAnswers, DecideAnswers, Answers, has_no_reading, isnt_built, has_many_workers, checks, shows, orders, rewrites, pairs_up, proves, decides}
 use Rattle.uc_top.specs.ProveAnswers.{ProveAnswers}
 

@@ -1,5 +1,5 @@
 -- How `check` ends.
-use Rattle.std.proofs.Common.{ℕ, ◌+◌, ◌≡◌, ◌||◌, ◌≤◌, Bool, true, false, cond, List, [], ◌∷◌, codes, slice_get, position, Option, Some, None, Result, Ok, Err, refl, sym, ap, ap₂, ◌∙◌, subst}
+use Rattle.std.proofs.Common.{ℕ, ◌+◌, ◌≡◌, ◌||◌, Bool, true, false, cond, List, [], ◌∷◌, codes, slice_get, position, Option, Some, None, Ok, Err, refl, sym, ap, ◌∙◌, subst}
 use Rattle.std.specs.List.{list_any, position_from}
 use Rattle.std.specs.Io.KnownBytes.{Appends}
 use Rattle.std.proofs.lemmas.Iterator.Adapters.{position_from-zero}
@@ -29,9 +29,9 @@ use Rattle.uc_check.proofs.Once.{checked_once}
 use Rattle.uc_words.specs.declared.command.Command.{Command}
 use Rattle.uc_words.specs.declared.command.Verb.TheVariants as verb
 use Rattle.uc_words.specs.Reads.{Reads}
-use Rattle.uc_top.specs.Lines.{about_file, memory_line, checked_line, proof_line}
+use Rattle.uc_answer.specs.Lines.{about_file, memory_line, checked_line, proof_line}
+use Rattle.uc_answer.specs.Refusals.{large_line}
 use Rattle.uc_top.specs.Answers.{checked_status, TextAnswers, is_not_read, is_checked, is_absent, isnt_fetched, is_found, ProofAnswers, ProblemAnswers, has_large_goal, is_marked, CheckAnswers, Answers}
-use Rattle.uc_top.specs.Refusals.{large_line}
 use Rattle.uc_top.specs.Loaded.{IsLoaded}
 use Rattle.uc_top.specs.Runs.{MayAnswer, is_answer, wants_memory, IsRun, EndsWith, tells_all, tells_want, CheckEnds, tells_checked, checks_in_want, CheckCompletes, CompletesCheck}
 use Rattle.uc_top.proofs.Positionals.{first_name, second_name}

@@ -13,11 +13,12 @@ use Rattle.uc_words.specs.declared.command.Command.{Command}
 use Rattle.uc_words.specs.declared.command.Verb.TheVariants as verb
 use Rattle.uc_ordering.specs.Choice.{IsChosen}
 use Rattle.uc_ordering.proofs.Once.{chosen_or_refused}
-use Rattle.uc_top.specs.declared.term_word.WordFault.{WordFault}
-use Rattle.uc_top.specs.declared.term_word.WordFault.TheVariants.{NoMemory}
+use Rattle.uc_answer.specs.declared.term_word.WordFault.{WordFault}
+use Rattle.uc_answer.specs.declared.term_word.WordFault.TheVariants.{NoMemory}
+use Rattle.uc_answer.specs.WordLines.{word_line}
+use Rattle.uc_answer.specs.QuestionWords.{AreQuestions, IsFirstFault}
+use Rattle.uc_answer.proofs.OneQuestion.{questions_or_fault, first_fault_once}
 use Rattle.uc_top.specs.Loaded.{IsLoaded}
-use Rattle.uc_top.specs.RewriteAnswers.{word_line}
-use Rattle.uc_top.specs.QuestionWords.{AreQuestions, IsFirstFault}
 use Rattle.uc_top.specs.DecideAnswers.{IsDecided, is_unordered, is_no_question, is_answered, is_out}
 use Rattle.uc_top.specs.Answers.{DecideAnswers}
 use Rattle.uc_top.specs.Runs.{MayAnswer, is_answer, wants_memory, IsRun, EndsWith, tells_all, tells_want}
@@ -26,7 +27,6 @@ use Rattle.uc_top.proofs.Positionals.{head_name, tail_names}
 use Rattle.uc_top.proofs.ByVerb.{OfDecide, of_verb}
 use Rattle.uc_top.proofs.Completing.{told_whole}
 use Rattle.uc_top.proofs.LoadedOnce.{answers_for}
-use Rattle.uc_top.proofs.DecideOnce.{questions_or_fault, first_fault_once}
 
 module _ (table : Table) (distinct : IsDistinct table) (files : Files) (command : Command) (name : List ℕ) (words : List (List ℕ)) (problem : Problem) (held : IsLoaded files command.root name table problem) (spec : OrderSpec) (chosen : IsChosen table problem.signature command.order None spec) where
   isnt_both : (number : ℕ) (why : WordFault) (questions : List (Tree × Tree)) → (why ≡ NoMemory → ⊥) → AreQuestions table problem.signature.symbols words questions → IsFirstFault table problem.signature.symbols words number why → ⊥

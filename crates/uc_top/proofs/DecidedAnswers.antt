@@ -1,5 +1,5 @@
 -- From what the calls beneath `decide` promise to its answers.
-use Rattle.std.proofs.Common.{ℕ, ◌≡◌, ◌≤◌, ◌⊎◌, inl, inr, List, [], ◌∷◌, ◌++◌, codes, Option, Some, None, Result, Ok, Err, refl, sym, subst, arith}
+use Rattle.std.proofs.Common.{ℕ, ◌≡◌, ◌≤◌, ◌⊎◌, inl, inr, List, [], ◌++◌, codes, Option, Some, None, Result, Ok, Err, refl, sym, subst, arith}
 use Rattle.std.specs.Result.{IfOk}
 use Rattle.std.specs.declared.alloc.AllocError.{AllocError}
 use Rattle.uc_term.specs.declared.equation.Equation.{Equation}
@@ -20,7 +20,6 @@ use Rattle.uc_machine.specs.declared.event.Verdict.{Verdict}
 use Rattle.uc_machine.specs.declared.event.Verdict.TheVariants.{Saturated}
 use Rattle.uc_machine.specs.State.{Opening, State}
 use Rattle.uc_machine.specs.Runs.{Starts}
-use Rattle.uc_runs.specs.Signatures.{OpensOver}
 use Rattle.uc_search.specs.Searching.{Searches, IsSearched}
 use Rattle.uc_search.specs.Causes.{HasCause, HasCauseIfStopped}
 use Rattle.uc_search.proofs.Caused.{searched_told}
@@ -34,25 +33,29 @@ use Rattle.uc_ordering.specs.declared.fault.ChoiceFault.TheVariants as choice
 use Rattle.uc_ordering.specs.Choice.{IsChosen, IsChoiceFault}
 use Rattle.uc_ordering.specs.Fits.{Fits}
 use Rattle.uc_ordering.specs.Meaning.{meaning_of}
-use Rattle.uc_top.specs.declared.output.Answer.{Answer}
-use Rattle.uc_top.specs.declared.term_word.WordFault.{WordFault}
-use Rattle.uc_top.specs.declared.term_word.WordFault.TheVariants.{NoMemory}
-use Rattle.uc_top.specs.Lines.{joined}
-use Rattle.uc_top.specs.OrderAnswers.{choice_line}
-use Rattle.uc_top.specs.RewriteAnswers.{word_line}
-use Rattle.uc_top.specs.QuestionWords.{AreQuestions, IsFirstFault}
-use Rattle.uc_top.specs.ProveAnswers.{status_line, opening_for, verdict_status, IsLimitLine, budget_is_spent, limit_is_passed, pair_is_large, step_is_large}
-use Rattle.uc_top.specs.DecideAnswers.{AreReplies, IsReplyOf, AreRepliesOf, replies_status, reply_lines, opening_of_axioms, IsDecided, is_unordered, is_no_question, is_answered, is_out}
+use Rattle.uc_answer.specs.declared.answer.Answer.{Answer}
+use Rattle.uc_answer.specs.declared.term_word.WordFault.{WordFault}
+use Rattle.uc_answer.specs.declared.term_word.WordFault.TheVariants.{NoMemory}
+use Rattle.uc_answer.specs.Lines.{joined}
+use Rattle.uc_answer.specs.ChoiceLines.{choice_line}
+use Rattle.uc_answer.specs.WordLines.{word_line}
+use Rattle.uc_answer.specs.QuestionWords.{AreQuestions, IsFirstFault}
+use Rattle.uc_answer.specs.StatusLines.{status_line}
+use Rattle.uc_answer.specs.VerdictLines.{opening_for, verdict_status}
+use Rattle.uc_answer.specs.LimitLines.{IsLimitLine, budget_is_spent, limit_is_passed, pair_is_large, step_is_large}
+use Rattle.uc_answer.specs.ReplyLines.{AreReplies, IsReplyOf, AreRepliesOf, replies_status, reply_lines}
+use Rattle.uc_answer.specs.RightReplies.{AreGroundQuestions, AreRight, none_is_wrong, one_is_right}
+use Rattle.uc_answer.proofs.OverSignature.{own_axioms_over}
+use Rattle.uc_answer.proofs.ProveKeeping.{out_status}
+use Rattle.uc_answer.proofs.Saturation.{none_proved}
+use Rattle.uc_answer.proofs.SearchEnds.{equations_over}
+use Rattle.uc_answer.proofs.SpecSymbols.{table_ground}
+use Rattle.uc_top.specs.DecideAnswers.{opening_of_axioms, IsDecided, is_unordered, is_no_question, is_answered, is_out}
 use Rattle.uc_top.specs.Loaded.{IsLoaded}
-use Rattle.uc_top.specs.DecideRuns.{AreGroundQuestions, AreRight, none_is_wrong, one_is_right, IsAnswered, IsOut, Decided, KeepsDecision}
+use Rattle.uc_top.specs.DecideRuns.{IsAnswered, IsOut, Decided, KeepsDecision}
 use Rattle.uc_top.specs.DecideTold.{without_goals, AreGroundOfTable, TellsEnd, tells_replies, tells_limit, IsToldBySearch}
 use Rattle.uc_top.proofs.Answering.{one_line, is_held}
-use Rattle.uc_top.proofs.OverSignature.{own_axioms_over}
-use Rattle.uc_top.proofs.ProveKeeping.{out_status}
 use Rattle.uc_top.proofs.ProvedAnswers.{no_promise}
-use Rattle.uc_top.proofs.Saturation.{none_proved}
-use Rattle.uc_top.proofs.SearchEnds.{equations_over}
-use Rattle.uc_top.proofs.SpecSymbols.{table_ground}
 
 -- THE REPLIES
 
@@ -87,14 +90,6 @@ module _ (table : Table) (m : Meaning) (command : Command) (name : List ℕ) (ax
   pub told_by : (o : Opening) (v : Verdict) (s : State) (r : Result Answer AllocError) → IsSearched m o 0 v s → IfOk r (λ answer. TellsEnd table m command name axioms questions s v answer.status (joined answer.lines)) → IfOk r (λ answer. IsToldBySearch table m command name axioms questions o answer.status (joined answer.lines))
   told_by o v s (Ok answer) searched told = record { verdict = v; state = s; searched = searched; told = told }
   told_by o v s (Err fault) searched told = tt
-
--- an opening over a signature, without goals
-none_over : (m : Meaning) (es : List Equation) → es ≡ [] → AreOfSignature (HasSym m) m.arity es
-none_over m [] none number e at = absurd cc
-none_over m (x ∷ es) none number e at = absurd (let bad : x ∷ es ≡ [] = none in cc)
-
-pub opens_without : (m : Meaning) (o : Opening) → AreOfSignature (HasSym m) m.arity o.axioms → o.goals ≡ [] → OpensOver m o
-opens_without m o over none = record { axioms = over; goals = none_over m o.goals none }
 
 -- a verdict without a goal is a limit, where it isn't Saturated
 pub limit_status : (m : Meaning) (o : Opening) (v : Verdict) (s : State) → IsSearched m o 0 v s → o.goals ≡ [] → (v ≡ Saturated → ⊥) → verdict_status v ≡ 2

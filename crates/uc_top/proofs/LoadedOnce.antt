@@ -6,7 +6,7 @@ use Rattle.uc_edge.specs.Faults.{Rose}
 use Rattle.uc_problem.specs.declared.problem.Problem.{Problem}
 use Rattle.uc_problem.proofs.FilledOnce.{filled_once, filled_problem_once}
 use Rattle.uc_problem.proofs.RefusedOnce.{refused_for_once, filled_or_refused}
-use Rattle.uc_top.specs.Lines.{load_line}
+use Rattle.uc_answer.specs.Lines.{load_line}
 use Rattle.uc_top.specs.Loaded.{IsLoaded}
 use Rattle.uc_top.specs.Answers.{LoadAnswers, fetch_fails, is_refused, is_loaded}
 

@@ -23,11 +23,11 @@ use Rattle.uc_ordering.specs.Choice.{IsChosen, all_symbols}
 use Rattle.uc_ordering.specs.Meaning.{meaning_of}
 use Rattle.uc_ordering.proofs.Fitting.{fits}
 use Rattle.uc_ordering.proofs.Once.{order_once}
-use Rattle.uc_top.specs.ProveAnswers.{opening_for}
+use Rattle.uc_answer.specs.VerdictLines.{opening_for}
+use Rattle.uc_answer.proofs.OrderLaws.{spec_laws}
 use Rattle.uc_top.specs.ProveRuns.{IsHeldAnswer}
 use Rattle.uc_top.specs.DecideAnswers.{opening_of_axioms}
 use Rattle.uc_top.specs.DecideRuns.{IsHeldDecision}
-use Rattle.uc_top.proofs.OrderLaws.{spec_laws}
 use Rattle.uc_top.proofs.OrderedAnswers.{is_signature}
 use Rattle.uc_top.proofs.ProveOnce.{chosen_fits}
 use Rattle.uc_top.proofs.SearchLaws.{OneSearch}

@@ -12,7 +12,7 @@ use Rattle.uc_words.specs.declared.command.Verb.TheVariants as verb
 use Rattle.uc_ordering.specs.Choice.{IsChosen}
 use Rattle.uc_ordering.specs.Meaning.{meaning_of}
 use Rattle.uc_ordering.proofs.Once.{order_once, chosen_or_refused}
-use Rattle.uc_top.specs.Directions.{AreDirected}
+use Rattle.uc_answer.specs.Directions.{AreDirected}
 use Rattle.uc_top.specs.OrderAnswers.{IsOrdered, is_unordered, is_ordered}
 use Rattle.uc_top.specs.Answers.{OrderAnswers}
 use Rattle.uc_top.specs.Runs.{MayAnswer, is_answer, wants_memory, IsRun}

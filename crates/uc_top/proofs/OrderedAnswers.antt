@@ -19,11 +19,12 @@ use Rattle.uc_ordering.specs.Choice.{IsChosen, IsChoiceFault}
 use Rattle.uc_ordering.specs.Chosen.{chosen_meaning, IsOrderOf, meaning_is}
 use Rattle.uc_ordering.specs.Meaning.{meaning_of}
 use Rattle.uc_ordering.specs.Premises.{IsSignature}
-use Rattle.uc_top.specs.declared.output.Answer.{Answer}
-use Rattle.uc_top.specs.Lines.{joined}
-use Rattle.uc_top.specs.Axioms.{AreEquationsOf}
-use Rattle.uc_top.specs.Directions.{AreDirected}
-use Rattle.uc_top.specs.OrderAnswers.{choice_line, IsOrdered, is_unordered, is_ordered}
+use Rattle.uc_answer.specs.declared.answer.Answer.{Answer}
+use Rattle.uc_answer.specs.Lines.{joined}
+use Rattle.uc_answer.specs.Axioms.{AreEquationsOf}
+use Rattle.uc_answer.specs.Directions.{AreDirected}
+use Rattle.uc_answer.specs.ChoiceLines.{choice_line}
+use Rattle.uc_top.specs.OrderAnswers.{IsOrdered, is_unordered, is_ordered}
 use Rattle.uc_top.proofs.Answering.{one_line}
 
 -- the axioms of clauses over a table

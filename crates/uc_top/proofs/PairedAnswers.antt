@@ -14,10 +14,11 @@ use Rattle.uc_ordering.specs.declared.fault.ChoiceFault.TheVariants.{NoMemory}
 use Rattle.uc_ordering.specs.Choice.{IsChosen, IsChoiceFault}
 use Rattle.uc_ordering.specs.Chosen.{chosen_meaning, IsOrderOf, meaning_is}
 use Rattle.uc_ordering.specs.Meaning.{meaning_of}
-use Rattle.uc_top.specs.declared.output.Answer.{Answer}
-use Rattle.uc_top.specs.Lines.{joined}
-use Rattle.uc_top.specs.OrderAnswers.{choice_line}
-use Rattle.uc_top.specs.PairsAnswers.{AreOuterLines, ArePairsFor, IsPaired, is_unordered, is_paired}
+use Rattle.uc_answer.specs.declared.answer.Answer.{Answer}
+use Rattle.uc_answer.specs.Lines.{joined}
+use Rattle.uc_answer.specs.ChoiceLines.{choice_line}
+use Rattle.uc_answer.specs.PairLines.{AreOuterLines}
+use Rattle.uc_top.specs.PairsAnswers.{ArePairsFor, IsPaired, is_unordered, is_paired}
 use Rattle.uc_top.proofs.Answering.{one_line}
 
 pub paired_by : (table : Table) (spec : OrderSpec) (order : Chosen) (es : List Equation) (lines : List ℕ) → IsOrderOf table spec order → AreOuterLines table (chosen_meaning order) es 0 es lines → AreOuterLines table (meaning_of table spec) es 0 es lines

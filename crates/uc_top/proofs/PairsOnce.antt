@@ -1,49 +1,19 @@
 -- A problem and the words of an order have one answer to `pairs`.
-use Rattle.std.proofs.Common.{ℕ, ◌≡◌, List, ◌++◌, None, refl, sym, ap, ap₂, ◌∙◌, subst}
-use Rattle.uc_term.specs.declared.equation.Equation.{Equation}
-use Rattle.uc_term.specs.Equations.{side_of}
+use Rattle.std.proofs.Common.{ℕ, ◌≡◌, List, None, refl, ap, subst}
 use Rattle.uc_term.specs.Table.{Table}
 use Rattle.uc_problem.specs.declared.problem.Problem.{Problem}
 use Rattle.uc_order.specs.declared.spec.OrderSpec.{OrderSpec}
-use Rattle.uc_order.specs.Laws.{Meaning}
-use Rattle.uc_fact.specs.declared.fact.Overlap.{Overlap}
-use Rattle.uc_pair.specs.declared.formed.Formed.{Formed}
-use Rattle.uc_pair.specs.Overlapping.{read_from}
-use Rattle.uc_pair.proofs.OnePair.{one_formation}
-use Rattle.uc_pair.proofs.Uniqueness.{same_each}
 use Rattle.uc_words.specs.declared.command.OrderWords.{OrderWords}
 use Rattle.uc_ordering.proofs.Once.{order_once, refusal_once, chosen_or_refused}
-use Rattle.uc_top.specs.OrderAnswers.{choice_line}
-use Rattle.uc_top.specs.PairsAnswers.{pair_line, IsPairLine, ArePairLines, no_overlap_left, one_overlap, ArePairsOf, AreInnerLines, no_inner_left, one_inner, AreOuterLines, no_outer_left, one_outer, ArePairsFor, IsPaired, is_unordered, is_paired}
-use Rattle.uc_top.proofs.OnePath.{one_path}
+use Rattle.uc_answer.specs.ChoiceLines.{choice_line}
+use Rattle.uc_answer.proofs.OnePairLines.{outer_once}
+use Rattle.uc_top.specs.PairsAnswers.{ArePairsFor, IsPaired, is_unordered, is_paired}
 
-module _ (table : Table) where
-  line_once : (a b : Equation) (o : Overlap) {x y : List ℕ} → IsPairLine table a b o x → IsPairLine table a b o y → x ≡ y
-  line_once a b o p q =
-      let paths : p.path ≡ q.path = one_path (side_of o.outer_side a) p.path q.path o.position.0 p.path_is q.path_is in
-      p.line_is ∙ ap₂ (pair_line table o) paths (one_formation (read_from o.outer o.outer_side a) (read_from o.inner o.inner_side b) o.position.0 p.formation q.formation p.formation_is q.formation_is) ∙ sym q.line_is
-
-  lines_of_once : (a b : Equation) {list : List Formed} {x y : List ℕ} → ArePairLines table a b list x → ArePairLines table a b list y → x ≡ y
-  lines_of_once a b no_overlap_left no_overlap_left = refl
-  lines_of_once a b (one_overlap {formed = formed} p ps) (one_overlap q qs) = ap₂ (λ l ls. l ++ ls) (line_once a b formed.overlap p q) (lines_of_once a b ps qs)
-
-  module _ (m : Meaning) where
-    pairs_of_once : (i : ℕ) (a : Equation) (j : ℕ) (b : Equation) {x y : List ℕ} → ArePairsOf table m i a j b x → ArePairsOf table m i a j b y → x ≡ y
-    pairs_of_once i a j b {y = y} p q = lines_of_once a b p.are_lines (subst (λ list. ArePairLines table a b list y) (same_each m.greater _ q.list p.list q.overlaps p.overlaps) q.are_lines)
-
-    inner_once : (i : ℕ) (a : Equation) {j : ℕ} {es : List Equation} {x y : List ℕ} → AreInnerLines table m i a j es x → AreInnerLines table m i a j es y → x ≡ y
-    inner_once i a no_inner_left no_inner_left = refl
-    inner_once i a {j = j} (one_inner {b = b} p ps) (one_inner q qs) = ap₂ (λ l ls. l ++ ls) (pairs_of_once i a j b p q) (inner_once i a ps qs)
-
-    pub outer_once : (all : List Equation) {i : ℕ} {es : List Equation} {x y : List ℕ} → AreOuterLines table m all i es x → AreOuterLines table m all i es y → x ≡ y
-    outer_once all no_outer_left no_outer_left = refl
-    outer_once all {i = i} (one_outer {a = a} p ps) (one_outer q qs) = ap₂ (λ l ls. l ++ ls) (inner_once i a p q) (outer_once all ps qs)
-
-  module _ (words : OrderWords) (problem : Problem) where
-    pub paired_once : {s t : ℕ} {a b : List ℕ} → IsPaired table words problem s a → IsPaired table words problem t b → (s ≡ t) × (a ≡ b)
-    paired_once (is_unordered {why = why} x n) (is_unordered {why = other} y m) = (refl, ap choice_line (refusal_once table problem.signature words why other n m x y))
-    paired_once (is_unordered {why = why} x n) (is_paired spec y d) = absurd (chosen_or_refused table problem.signature words None spec why n y x)
-    paired_once (is_paired spec x d) (is_unordered {why = why} y m) = absurd (chosen_or_refused table problem.signature words None spec why m x y)
-    paired_once {b = b} (is_paired spec x d) (is_paired other y e) =
-        let specs : other ≡ spec = order_once table problem.signature words None other spec y x in
-        (refl, outer_once _ _ d (subst (λ (o : OrderSpec). ArePairsFor table o problem b) specs e))
+module _ (table : Table) (words : OrderWords) (problem : Problem) where
+  pub paired_once : {s t : ℕ} {a b : List ℕ} → IsPaired table words problem s a → IsPaired table words problem t b → (s ≡ t) × (a ≡ b)
+  paired_once (is_unordered {why = why} x n) (is_unordered {why = other} y m) = (refl, ap choice_line (refusal_once table problem.signature words why other n m x y))
+  paired_once (is_unordered {why = why} x n) (is_paired spec y d) = absurd (chosen_or_refused table problem.signature words None spec why n y x)
+  paired_once (is_paired spec x d) (is_unordered {why = why} y m) = absurd (chosen_or_refused table problem.signature words None spec why m x y)
+  paired_once {b = b} (is_paired spec x d) (is_paired other y e) =
+      let specs : other ≡ spec = order_once table problem.signature words None other spec y x in
+      (refl, outer_once table _ _ d (subst (λ (o : OrderSpec). ArePairsFor table o problem b) specs e))

@@ -1,13 +1,10 @@
 -- A problem and the words of `prove` have one answer.
 use Rattle.std.proofs.Common.{ℕ, ◌≡◌, ◌≤◌, List, [], ◌++◌, codes, slice_get, Option, Some, None, Ok, refl, sym, ap, ap₂, ◌∙◌, subst}
 use Rattle.uc_term.specs.declared.fresh.Fresh.{Fresh}
-use Rattle.uc_term.specs.Equations.{side_of}
-use Rattle.uc_term.specs.Positions.{IsPlaceOf}
 use Rattle.uc_term.specs.Table.{Table, IsDistinct}
 use Rattle.uc_term.specs.Gathering.{HasAll}
 use Rattle.uc_edge.specs.Files.{Files}
 use Rattle.uc_edge.specs.Faults.{Rose}
-use Rattle.uc_tstp.specs.Printing.{proof_text}
 use Rattle.uc_problem.specs.declared.problem.Problem.{Problem}
 use Rattle.uc_problem.specs.declared.problem.Encoded.{Encoded}
 use Rattle.uc_problem.specs.Holds.{Agrees}
@@ -22,15 +19,9 @@ use Rattle.uc_problem.proofs.MarksOnce.{large_once, marked_or_large}
 use Rattle.uc_problem.proofs.EncodedOnce.{encoding_once}
 use Rattle.uc_order.specs.declared.spec.OrderSpec.{OrderSpec}
 use Rattle.uc_order.specs.Laws.{Laws}
-use Rattle.uc_fact.specs.declared.fact.Fact.{Fact}
-use Rattle.uc_fact.specs.Live.{equation_of}
-use Rattle.uc_shelf.specs.Entries.{born}
 use Rattle.uc_machine.specs.declared.event.Verdict.{Verdict}
-use Rattle.uc_machine.specs.declared.event.Verdict.TheVariants.{Proved, Saturated}
-use Rattle.uc_machine.specs.State.{State, Target}
+use Rattle.uc_machine.specs.State.{State}
 use Rattle.uc_search.specs.Searching.{IsSearched}
-use Rattle.uc_proof.specs.Extracted.{IsExtracted}
-use Rattle.uc_proof.proofs.Once.{extracted_once}
 use Rattle.uc_words.specs.declared.command.Command.{Command}
 use Rattle.uc_ordering.specs.Choice.{IsChosen, all_symbols}
 use Rattle.uc_ordering.specs.Meaning.{meaning_of}
@@ -38,14 +29,16 @@ use Rattle.uc_ordering.specs.Premises.{AreMarks}
 use Rattle.uc_ordering.specs.Fits.{Fits}
 use Rattle.uc_ordering.proofs.Fitting.{fits}
 use Rattle.uc_ordering.proofs.Once.{order_once, refusal_once, chosen_or_refused}
-use Rattle.uc_top.specs.Lines.{load_line}
-use Rattle.uc_top.specs.Refusals.{large_line}
-use Rattle.uc_top.specs.OrderAnswers.{choice_line}
-use Rattle.uc_top.specs.ProveAnswers.{status_line, unloaded_word, overlap_line, IsLimitLine, budget_is_spent, limit_is_passed, pair_is_large, step_is_large, trace_if, opening_for, verdict_status, IsProofText, VerdictAnswers, is_proved, is_saturated, is_out, IsProveAnswer, has_large_goal, is_unordered, is_searched, ProveAnswers, fetch_fails, is_refused, is_loaded}
+use Rattle.uc_answer.specs.Lines.{load_line}
+use Rattle.uc_answer.specs.Refusals.{large_line}
+use Rattle.uc_answer.specs.ChoiceLines.{choice_line}
+use Rattle.uc_answer.specs.StatusLines.{status_line, unloaded_word}
+use Rattle.uc_answer.specs.VerdictLines.{trace_if, opening_for, verdict_status, VerdictAnswers}
+use Rattle.uc_answer.proofs.OrderLaws.{spec_laws}
+use Rattle.uc_answer.proofs.OneVerdict.{verdict_once}
+use Rattle.uc_top.specs.ProveAnswers.{IsProveAnswer, has_large_goal, is_unordered, is_searched, ProveAnswers, fetch_fails, is_refused, is_loaded}
 use Rattle.uc_top.proofs.LoadedOnce.{loaded_once}
-use Rattle.uc_top.proofs.OnePath.{one_path}
 use Rattle.uc_top.proofs.OrderedAnswers.{is_signature}
-use Rattle.uc_top.proofs.OrderLaws.{spec_laws}
 use Rattle.uc_top.proofs.SearchLaws.{OneSearch}
 
 -- the encoding's symbols, as the order's choice takes them
@@ -56,40 +49,8 @@ marks_for table problem (Some marks) m = (m.2.eq, m.2.yes, m.2.no)
 pub chosen_fits : (table : Table) (command : Command) (problem : Problem) (encoded : Encoded) (spec : OrderSpec) → 1 ≤ command.order.w0 → command.order.w0 ≤ 1000000 → Agrees table problem → Encodes table problem (Ok encoded) → IsChosen table problem.signature command.order encoded.fresh spec → Fits table (all_symbols problem.signature encoded.fresh) spec
 chosen_fits table command problem encoded spec some most agrees e c = fits table problem.signature command.order some most (is_signature table problem agrees) encoded.fresh spec c (marks_for table problem encoded.fresh e.0)
 
-module _ (command : Command) (s : State) where
-  isnt_proved : {goal : ℕ} {line : List ℕ} {A : Type 0} → IsLimitLine command s (Proved goal) line → A
-  isnt_proved l = elim l [ ]
-
-  pub isnt_saturated : {line : List ℕ} {A : Type 0} → IsLimitLine command s Saturated line → A
-  isnt_saturated l = elim l [ ]
-
-  pub limit_once : {v : Verdict} {x y : List ℕ} → IsLimitLine command s v x → IsLimitLine command s v y → x ≡ y
-  limit_once budget_is_spent budget_is_spent = refl
-  limit_once limit_is_passed limit_is_passed = refl
-  limit_once (pair_is_large {o = o} outer path at place) (pair_is_large other written there placed) =
-      let same : other ≡ outer = some_once there at in
-      ap (overlap_line o) (one_path (side_of o.outer_side (equation_of outer)) path written o.position.0 place (subst (λ (f : Fact). IsPlaceOf (side_of o.outer_side (equation_of f)) written o.position.0) same placed))
-  limit_once step_is_large step_is_large = refl
-
 module _ (one_search : OneSearch) (table : Table) (distinct : IsDistinct table) (command : Command) (some : 1 ≤ command.order.w0) (most : command.order.w0 ≤ 1000000) (name : List ℕ) where
   module _ (problem : Problem) (agrees : Agrees table problem) where
-    module _ (encoded : Encoded) (encodes : Encodes table problem (Ok encoded)) (spec : OrderSpec) (s : State) where
-      proof_once : (goal : ℕ) {x y : List ℕ} → IsProofText table command name problem encoded spec s goal x → IsProofText table command name problem encoded spec s goal y → x ≡ y
-      proof_once goal p q =
-          let targets : q.target ≡ p.target = some_once q.target_is p.target_is in
-          let there = subst (λ (t : Target). IsExtracted problem encoded (born s.entries) t.left t.right goal q.lines q.files) targets q.extracted in
-          let once = extracted_once problem encoded (born s.entries) p.target.left p.target.right goal p.lines q.lines p.files q.files (record { table = table; agrees = agrees; encodes = encodes }) p.extracted there in
-          p.text_is ∙ ap₂ (proof_text table name) once.1 once.0 ∙ sym q.text_is
-
-      verdict_once : {v : Verdict} {x y : List ℕ} → VerdictAnswers table command name problem encoded spec s v x → VerdictAnswers table command name problem encoded spec s v y → x ≡ y
-      verdict_once (is_proved {goal = goal} p) (is_proved q) = ap (λ text. status_line (codes "Unsatisfiable") name ++ text) (proof_once goal p q)
-      verdict_once (is_proved p) (is_out l) = isnt_proved command s l
-      verdict_once is_saturated is_saturated = refl
-      verdict_once is_saturated (is_out l) = isnt_saturated command s l
-      verdict_once (is_out l) (is_proved q) = isnt_proved command s l
-      verdict_once (is_out l) is_saturated = isnt_saturated command s l
-      verdict_once (is_out l) (is_out k) = ap (λ line. status_line (codes "ResourceOut") name ++ line) (limit_once command s l k)
-
     laws : (encoded : Encoded) (spec : OrderSpec) → Encodes table problem (Ok encoded) → IsChosen table problem.signature command.order encoded.fresh spec → Laws (meaning_of table spec)
     laws encoded spec e c = spec_laws table (all_symbols problem.signature encoded.fresh) spec (chosen_fits table command problem encoded spec some most agrees e c)
 
@@ -113,7 +74,7 @@ module _ (one_search : OneSearch) (table : Table) (distinct : IsDistinct table) 
         let by_order = subst (λ (o : OrderSpec). VerdictAnswers table command name problem encoded o t w told) orders by_encoding in
         let by_verdict = subst (λ (u : Verdict). VerdictAnswers table command name problem encoded spec t u told) (sym once.0) by_order in
         let by_state = subst (λ (u : State). VerdictAnswers table command name problem encoded spec u v told) (sym once.1) by_verdict in
-        (ap verdict_status once.0, ap₂ (λ l u. l ++ trace_if command u) (verdict_once encoded e spec s a by_state) once.1)
+        (ap verdict_status once.0, ap₂ (λ l u. l ++ trace_if command u) (verdict_once table command name problem agrees encoded e spec s a by_state) once.1)
 
 -- Two encodings make one table of the one that loading leaves.
 module _ (one_search : OneSearch) (command : Command) (some : 1 ≤ command.order.w0) (most : command.order.w0 ≤ 1000000) (name : List ℕ) where

@@ -38,15 +38,18 @@ use Rattle.uc_ordering.specs.declared.fault.ChoiceFault.TheVariants.{NoMemory}
 use Rattle.uc_ordering.specs.Choice.{IsChosen, IsChoiceFault}
 use Rattle.uc_ordering.specs.Fits.{Fits}
 use Rattle.uc_ordering.specs.Meaning.{meaning_of}
-use Rattle.uc_top.specs.declared.output.Answer.{Answer}
-use Rattle.uc_top.specs.Lines.{joined, load_line}
-use Rattle.uc_top.specs.OrderAnswers.{choice_line}
-use Rattle.uc_top.specs.Refusals.{load_status, large_line}
-use Rattle.uc_top.specs.PrintableProblems.{are_seen, IsRootSeen, CanBePrinted}
-use Rattle.uc_top.specs.ProveAnswers.{status_line, unloaded_word, verdict_status, trace_if, opening_for, HasEnded, VerdictAnswers, IsProveAnswer, has_large_goal, is_unordered, is_searched, ProveAnswers, fetch_fails, is_refused, is_loaded}
-use Rattle.uc_top.specs.ProveRuns.{Keeps, IsKept}
+use Rattle.uc_answer.specs.declared.answer.Answer.{Answer}
+use Rattle.uc_answer.specs.Lines.{joined, load_line}
+use Rattle.uc_answer.specs.ChoiceLines.{choice_line}
+use Rattle.uc_answer.specs.Refusals.{load_status, large_line}
+use Rattle.uc_answer.specs.PrintableProblems.{are_seen, IsRootSeen, CanBePrinted}
+use Rattle.uc_answer.specs.StatusLines.{status_line, unloaded_word}
+use Rattle.uc_answer.specs.VerdictLines.{verdict_status, trace_if, opening_for, HasEnded, VerdictAnswers}
+use Rattle.uc_answer.specs.Promises.{Keeps}
+use Rattle.uc_answer.proofs.PrintableFiles.{held_printable}
+use Rattle.uc_top.specs.ProveAnswers.{IsProveAnswer, has_large_goal, is_unordered, is_searched, ProveAnswers, fetch_fails, is_refused, is_loaded}
+use Rattle.uc_top.specs.ProveRuns.{IsKept}
 use Rattle.uc_top.proofs.Answering.{one_line, not_loaded, is_held, large_within}
-use Rattle.uc_top.proofs.PrintableFiles.{held_printable}
 
 -- A STATUS ABOVE 2
 

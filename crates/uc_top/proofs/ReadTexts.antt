@@ -12,7 +12,7 @@ use Rattle.uc_tstp.specs.Reading.{ReadsInside, no_token, no_lines, no_name, read
 use Rattle.uc_tstp.proofs.InternedOnce.{proof_interns_once}
 use Rattle.uc_tstp.proofs.ReadingOnce.{reading_once}
 use Rattle.uc_check.specs.declared.proof.Proof.{Proof}
-use Rattle.uc_top.proofs.InternedDistinct.{read_proof_distinct}
+use Rattle.uc_answer.proofs.InternedDistinct.{read_proof_distinct}
 
 -- it is too long, or it is read
 module _ (table : Table) (text : List ℕ) where

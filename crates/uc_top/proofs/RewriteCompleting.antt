@@ -13,10 +13,12 @@ use Rattle.uc_words.specs.declared.command.OrderWords.{OrderWords}
 use Rattle.uc_words.specs.declared.command.Verb.TheVariants as verb
 use Rattle.uc_ordering.specs.Choice.{IsChosen}
 use Rattle.uc_ordering.proofs.Once.{order_once, chosen_or_refused}
-use Rattle.uc_top.specs.declared.term_word.WordFault.{WordFault}
-use Rattle.uc_top.specs.declared.term_word.WordFault.TheVariants.{NoMemory}
-use Rattle.uc_top.specs.TermWords.{IsTermWord, IsWordFault}
-use Rattle.uc_top.specs.RewriteAnswers.{word_line, IsNormalFor, IsRewritten, is_unordered, is_no_term, is_normalised}
+use Rattle.uc_answer.specs.declared.term_word.WordFault.{WordFault}
+use Rattle.uc_answer.specs.declared.term_word.WordFault.TheVariants.{NoMemory}
+use Rattle.uc_answer.specs.TermWords.{IsTermWord, IsWordFault}
+use Rattle.uc_answer.specs.WordLines.{word_line}
+use Rattle.uc_answer.proofs.OneTermWord.{term_once}
+use Rattle.uc_top.specs.RewriteAnswers.{IsNormalFor, IsRewritten, is_unordered, is_no_term, is_normalised}
 use Rattle.uc_top.specs.Answers.{RewriteAnswers}
 use Rattle.uc_top.specs.Runs.{MayAnswer, is_answer, wants_memory, IsRun, EndsWith, tells_all, tells_want}
 use Rattle.uc_top.specs.RewriteRuns.{NormalEnds, tells_chain, lacks_memory, RewriteEnds, CompletesRewrite}
@@ -24,7 +26,7 @@ use Rattle.uc_top.proofs.Positionals.{first_name, second_name}
 use Rattle.uc_top.proofs.ByVerb.{of_verb}
 use Rattle.uc_top.proofs.Completing.{told_whole}
 use Rattle.uc_top.proofs.LoadedOnce.{answers_for}
-use Rattle.uc_top.proofs.RewriteOnce.{term_once, no_term_once, isnt_both}
+use Rattle.uc_top.proofs.RewriteOnce.{no_term_once, isnt_both}
 
 module _ (table : Table) (distinct : IsDistinct table) (words : OrderWords) (limit : ℕ) (word : List ℕ) (problem : Problem) (has : HasAll table problem.signature.symbols) (spec : OrderSpec) (chosen : IsChosen table problem.signature words None spec) where
   term_ends : {status result : ℕ} {text : List ℕ} {old new : Option (List ℕ)} (t : Tree) → IsTermWord table problem.signature.symbols word t → IsRewritten table words limit word problem status text → Appends old new text → result ≡ status → NormalEnds table spec limit problem t old new result

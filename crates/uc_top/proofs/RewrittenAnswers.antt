@@ -20,17 +20,19 @@ use Rattle.uc_ordering.specs.Fits.{Fits}
 use Rattle.uc_ordering.specs.Meaning.{meaning_of}
 use Rattle.uc_rewrite.specs.declared.normal.Normal.{Normal}
 use Rattle.uc_rewrite.specs.Normalising.{IsNormalOf}
-use Rattle.uc_top.specs.declared.output.Answer.{Answer}
-use Rattle.uc_top.specs.declared.term_word.WordFault.{WordFault}
-use Rattle.uc_top.specs.declared.term_word.WordFault.TheVariants.{NoMemory}
-use Rattle.uc_top.specs.Lines.{joined}
-use Rattle.uc_top.specs.OrderAnswers.{choice_line}
-use Rattle.uc_top.specs.TermWords.{IsTermWord, IsWordFault}
-use Rattle.uc_top.specs.RewriteAnswers.{word_line, stop_status, ArePrintable, AreNormalLines, IsNormalFor, IsRewritten, is_unordered, is_no_term, is_normalised}
+use Rattle.uc_answer.specs.declared.answer.Answer.{Answer}
+use Rattle.uc_answer.specs.declared.term_word.WordFault.{WordFault}
+use Rattle.uc_answer.specs.declared.term_word.WordFault.TheVariants.{NoMemory}
+use Rattle.uc_answer.specs.Lines.{joined}
+use Rattle.uc_answer.specs.ChoiceLines.{choice_line}
+use Rattle.uc_answer.specs.TermWords.{IsTermWord, IsWordFault}
+use Rattle.uc_answer.specs.WordLines.{word_line}
+use Rattle.uc_answer.specs.ChainLines.{stop_status, ArePrintable, AreNormalLines}
+use Rattle.uc_answer.proofs.LeastConstants.{least_of}
+use Rattle.uc_answer.proofs.PrintableSteps.{rules_over, printable}
+use Rattle.uc_top.specs.RewriteAnswers.{IsNormalFor, IsRewritten, is_unordered, is_no_term, is_normalised}
 use Rattle.uc_top.proofs.Answering.{one_line}
 use Rattle.uc_top.proofs.OrderedAnswers.{axioms_over}
-use Rattle.uc_top.proofs.LeastConstants.{least_of}
-use Rattle.uc_top.proofs.PrintableSteps.{rules_over, printable}
 
 module _ (table : Table) (spec : OrderSpec) (order : Chosen) (h : IsOrderOf table spec order) where
   pub normal_for : (limit : ℕ) (problem : Problem) (t : Tree) (normal : Normal) → IsNormalOf (chosen_meaning order).greater (chosen_meaning order).least (numbered (axioms_of problem.clauses)) limit t normal → IsNormalFor table spec limit problem t normal

@@ -17,9 +17,10 @@ use Rattle.uc_words.specs.declared.command.Command.{Command}
 use Rattle.uc_words.specs.Reads.{Reads}
 use Rattle.uc_ordering.specs.Meaning.{meaning_of}
 use Rattle.uc_ordering.proofs.Fitting.{fits}
-use Rattle.uc_top.specs.DecideAnswers.{reply_line}
-use Rattle.uc_top.specs.DecideRuns.{AreRight, none_is_wrong, one_is_right, IsAnswered, IsOut, TellsLine, Tells, KeepsDecision}
-use Rattle.uc_top.proofs.OrderLaws.{spec_laws}
+use Rattle.uc_answer.specs.ReplyLines.{reply_line}
+use Rattle.uc_answer.specs.RightReplies.{AreRight, none_is_wrong, one_is_right}
+use Rattle.uc_answer.proofs.OrderLaws.{spec_laws}
+use Rattle.uc_top.specs.DecideRuns.{IsAnswered, IsOut, TellsLine, Tells, KeepsDecision}
 use Rattle.uc_top.proofs.OrderedAnswers.{is_signature}
 use Rattle.uc_top.proofs.VariableWeights.{w0_within}
 

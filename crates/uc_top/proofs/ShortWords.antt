@@ -6,15 +6,14 @@ use Rattle.uc_words.specs.declared.command.Verb.{Verb}
 use Rattle.uc_words.specs.declared.command.Command.{Command}
 use Rattle.uc_words.specs.declared.form.Form.{Form}
 use Rattle.uc_words.specs.declared.form.Form.TheVariants.{Plain, Ends, Flag, Takes, Has, Formless}
-use Rattle.uc_words.specs.declared.line.Line.{Line}
 use Rattle.uc_words.specs.declared.line.Expects.{Expects}
 use Rattle.uc_words.specs.declared.line.Expects.TheVariants.{Item, Value, Positional}
 use Rattle.uc_words.specs.declared.table.Key.{Key}
 use Rattle.uc_words.specs.Forms.{form_of}
 use Rattle.uc_words.specs.Table.{verb_named}
-use Rattle.uc_words.specs.Lines.{item, turn, onto, at_end, line_of, given_value, is_value}
+use Rattle.uc_words.specs.Lines.{Line, item, turn, onto, at_end, line_of, given_value, is_value}
 use Rattle.uc_words.specs.Reads.{is_clean, is_printable, with_items, with_verb, says, Reads}
-use Rattle.uc_top.specs.QuestionWords.{AreShort}
+use Rattle.uc_answer.specs.QuestionWords.{AreShort}
 
 -- a line's positionals are short
 abbrev IsShort : Option Line → Type 0

@@ -29,8 +29,8 @@ use Rattle.uc_words.specs.declared.command.OrderWords.{OrderWords}
 use Rattle.uc_words.specs.declared.command.Verb.{Verb}
 use Rattle.uc_words.specs.declared.command.Verb.TheVariants as verb
 use Rattle.uc_words.specs.Reads.{Reads}
-use Rattle.uc_top.specs.Lines.{about_file, load_line, proof_line, checked_line, shown_lines, usage_line}
-use Rattle.uc_top.specs.Refusals.{load_status, large_line}
+use Rattle.uc_answer.specs.Lines.{about_file, load_line, proof_line, checked_line, shown_lines, usage_line}
+use Rattle.uc_answer.specs.Refusals.{load_status, large_line}
 use Rattle.uc_top.specs.Loaded.{IsLoaded}
 use Rattle.uc_top.specs.OrderAnswers.{IsOrdered}
 use Rattle.uc_top.specs.RewriteAnswers.{IsRewritten}

@@ -11,7 +11,6 @@ use Rattle.uc_problem.specs.declared.problem.Problem.{Problem}
 use Rattle.uc_problem.specs.Holds.{Holds}
 use Rattle.uc_problem.specs.Filling.{IsFilled}
 use Rattle.uc_order.specs.declared.spec.OrderSpec.{OrderSpec}
-use Rattle.uc_order.specs.Laws.{Meaning, IsGroundOf}
 use Rattle.uc_fact.specs.Live.{numbered}
 use Rattle.uc_machine.specs.declared.event.Verdict.{Verdict}
 use Rattle.uc_machine.specs.declared.event.Verdict.TheVariants.{Saturated}
@@ -20,34 +19,24 @@ use Rattle.uc_search.specs.Searching.{IsSearched}
 use Rattle.uc_search.specs.Causes.{HasCause}
 use Rattle.uc_decide.specs.declared.reply.Reply.{Reply}
 use Rattle.uc_decide.specs.Deciding.{Decides}
-use Rattle.uc_decide.specs.Asking.{IsRight, IsVerdict}
+use Rattle.uc_decide.specs.Asking.{IsVerdict}
 use Rattle.uc_words.specs.declared.command.Command.{Command}
 use Rattle.uc_words.specs.declared.command.Verb.TheVariants.{Decide}
 use Rattle.uc_words.specs.Reads.{Reads}
 use Rattle.uc_ordering.specs.Choice.{IsChosen}
 use Rattle.uc_ordering.specs.Meaning.{meaning_of}
-use Rattle.uc_top.specs.declared.term_word.WordFault.{WordFault}
-use Rattle.uc_top.specs.declared.term_word.WordFault.TheVariants.{NoMemory}
+use Rattle.uc_answer.specs.declared.term_word.WordFault.{WordFault}
+use Rattle.uc_answer.specs.declared.term_word.WordFault.TheVariants.{NoMemory}
+use Rattle.uc_answer.specs.Lines.{memory_line}
+use Rattle.uc_answer.specs.WordLines.{word_line}
+use Rattle.uc_answer.specs.QuestionWords.{AreQuestions, IsFirstFault}
+use Rattle.uc_answer.specs.StatusLines.{status_line}
+use Rattle.uc_answer.specs.LimitLines.{IsLimitLine}
+use Rattle.uc_answer.specs.ReplyLines.{AreReplies, replies_status, reply_line, reply_lines}
+use Rattle.uc_answer.specs.RightReplies.{AreRight}
 use Rattle.uc_top.specs.Loaded.{IsLoaded}
-use Rattle.uc_top.specs.Lines.{memory_line}
-use Rattle.uc_top.specs.RewriteAnswers.{word_line}
-use Rattle.uc_top.specs.QuestionWords.{AreQuestions, IsFirstFault}
-use Rattle.uc_top.specs.ProveAnswers.{status_line, IsLimitLine}
-use Rattle.uc_top.specs.DecideAnswers.{AreReplies, replies_status, reply_line, reply_lines, opening_of_axioms, facts_of}
+use Rattle.uc_top.specs.DecideAnswers.{opening_of_axioms, facts_of}
 use Rattle.uc_top.specs.Runs.{EndsWith}
-
--- EACH LINE IS RIGHT
-
--- the questions are of ground terms over the order's signature
-abbrev pub AreGroundQuestions : Meaning → List (Tree × Tree) → Type 0
-AreGroundQuestions m [] = Unit {0}
-AreGroundQuestions m (sides ∷ others) = (IsGroundOf m sides.0 × IsGroundOf m sides.1) × AreGroundQuestions m others
-
--- Each reply is right: where it is Equal, the question's equation follows from the axioms, and where it is Different, it doesn't;
--- and its terms are the least to which the axioms make the question's sides equal.
-pub data AreRight (m : Meaning) (axioms : List Equation) : List (Tree × Tree) → List Reply → Type 0 where
-  none_is_wrong : AreRight m axioms [] []
-  one_is_right : {sides : Tree × Tree} {others : List (Tree × Tree)} {reply : Reply} {replies : List Reply} → IsRight m axioms sides.0 sides.1 reply → AreRight m axioms others replies → AreRight m axioms (sides ∷ others) (reply ∷ replies)
 
 -- A system that decides what follows from the problem's axioms answers the questions: the answer has one line for each, and each
 -- line is right. A line is `spent` or `grown` only where so many steps, or so large a term, came before a normal form.

@@ -17,9 +17,11 @@ use Rattle.uc_search.specs.Searching.{IsSearched}
 use Rattle.uc_decide.specs.declared.reply.Reply.{Reply}
 use Rattle.uc_decide.specs.Deciding.{Decides}
 use Rattle.uc_words.specs.declared.command.Command.{Command}
-use Rattle.uc_top.specs.ProveAnswers.{status_line, IsLimitLine}
-use Rattle.uc_top.specs.DecideAnswers.{AreReplies, replies_status, reply_lines, facts_of}
-use Rattle.uc_top.specs.DecideRuns.{AreRight}
+use Rattle.uc_answer.specs.StatusLines.{status_line}
+use Rattle.uc_answer.specs.LimitLines.{IsLimitLine}
+use Rattle.uc_answer.specs.ReplyLines.{AreReplies, replies_status, reply_lines}
+use Rattle.uc_answer.specs.RightReplies.{AreRight}
+use Rattle.uc_top.specs.DecideAnswers.{facts_of}
 
 -- the problem as it is, but for its goals
 abbrev pub without_goals : Problem → Encoded

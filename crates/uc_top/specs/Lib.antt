@@ -1,16 +1,8 @@
-pub mod Lines
-pub mod Refusals
-pub mod Axioms
 pub mod Loaded
-pub mod Directions
 pub mod OrderAnswers
-pub mod TermWords
 pub mod RewriteAnswers
 pub mod PairsAnswers
-pub mod TraceLines
-pub mod PrintableProblems
 pub mod ProveAnswers
-pub mod QuestionWords
 pub mod DecideAnswers
 pub mod Told
 pub mod Answers

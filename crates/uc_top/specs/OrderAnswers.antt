@@ -1,28 +1,16 @@
 -- What `order` answers for a problem.
-use Rattle.std.specs.Prelude.{ℕ, ◌≡◌, List, [], ◌++◌, codes, decimal, None}
+use Rattle.std.specs.Prelude.{ℕ, ◌≡◌, List, None}
 use Rattle.uc_term.specs.Table.{Table}
-use Rattle.uc_clause.specs.Names.{spelling}
 use Rattle.uc_check.specs.Clauses.{axioms_of}
 use Rattle.uc_problem.specs.declared.problem.Problem.{Problem}
 use Rattle.uc_order.specs.declared.spec.OrderSpec.{OrderSpec}
 use Rattle.uc_words.specs.declared.command.OrderWords.{OrderWords}
 use Rattle.uc_ordering.specs.declared.fault.ChoiceFault.{ChoiceFault}
-use Rattle.uc_ordering.specs.declared.fault.ChoiceFault.TheVariants.{UnknownSymbol, NotTotal, BadWeight, NoMemory}
+use Rattle.uc_ordering.specs.declared.fault.ChoiceFault.TheVariants.{NoMemory}
 use Rattle.uc_ordering.specs.Choice.{IsChosen, IsChoiceFault}
 use Rattle.uc_ordering.specs.Meaning.{meaning_of}
-use Rattle.uc_top.specs.Lines.{spaced}
-use Rattle.uc_top.specs.Directions.{AreDirected}
-
--- a line about the order: what is so of a name, and more
-abbrev pub about_order : List ℕ → List ℕ → List ℕ → List ℕ
-about_order kind name more = codes "% order " ++ kind ++ spaced (spelling name) ++ more ++ codes "\n"
-
--- the line of an order that is refused; none for want of memory, which has a line of its own
-abbrev pub choice_line : ChoiceFault → List ℕ
-choice_line (UnknownSymbol name) = about_order (codes "UnknownSymbol") name []
-choice_line (NotTotal name) = about_order (codes "NotTotal") name []
-choice_line (BadWeight name weight) = about_order (codes "BadWeight") name (spaced (decimal weight))
-choice_line NoMemory = []
+use Rattle.uc_answer.specs.Directions.{AreDirected}
+use Rattle.uc_answer.specs.ChoiceLines.{choice_line}
 
 -- The order that the words and the defaults name for the problem as it is, without an encoding, directs each axiom; or it is
 -- refused. The symbols are those of the table that loading the problem leaves.

@@ -5,16 +5,15 @@ use Rattle.uc_term.specs.Table.{Table, IsDistinct}
 use Rattle.uc_edge.specs.Files.{Files}
 use Rattle.uc_check.specs.Clauses.{axioms_of}
 use Rattle.uc_problem.specs.declared.problem.Problem.{Problem}
-use Rattle.uc_problem.specs.Holds.{Holds}
 use Rattle.uc_order.specs.declared.spec.OrderSpec.{OrderSpec}
 use Rattle.uc_words.specs.declared.command.Command.{Command}
 use Rattle.uc_words.specs.declared.command.Verb.TheVariants.{Order}
 use Rattle.uc_words.specs.Reads.{Reads}
 use Rattle.uc_ordering.specs.Choice.{IsChosen}
 use Rattle.uc_ordering.specs.Meaning.{meaning_of}
+use Rattle.uc_answer.specs.Lines.{memory_line}
+use Rattle.uc_answer.specs.Directions.{AreDirected}
 use Rattle.uc_top.specs.Loaded.{IsLoaded}
-use Rattle.uc_top.specs.Lines.{memory_line}
-use Rattle.uc_top.specs.Directions.{AreDirected}
 
 -- How `order` ends for a problem and an order: with the line of each axiom, and status 0; or for want of memory, which is free.
 pub data OrderEnds (table : Table) (spec : OrderSpec) (problem : Problem) (old new : Option (List ℕ)) : ℕ → Type 0 where

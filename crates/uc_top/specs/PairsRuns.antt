@@ -4,14 +4,13 @@ use Rattle.std.specs.Io.KnownBytes.{Appends}
 use Rattle.uc_term.specs.Table.{Table, IsDistinct}
 use Rattle.uc_edge.specs.Files.{Files}
 use Rattle.uc_problem.specs.declared.problem.Problem.{Problem}
-use Rattle.uc_problem.specs.Holds.{Holds}
 use Rattle.uc_order.specs.declared.spec.OrderSpec.{OrderSpec}
 use Rattle.uc_words.specs.declared.command.Command.{Command}
 use Rattle.uc_words.specs.declared.command.Verb.TheVariants.{Pairs}
 use Rattle.uc_words.specs.Reads.{Reads}
 use Rattle.uc_ordering.specs.Choice.{IsChosen}
+use Rattle.uc_answer.specs.Lines.{memory_line}
 use Rattle.uc_top.specs.Loaded.{IsLoaded}
-use Rattle.uc_top.specs.Lines.{memory_line}
 use Rattle.uc_top.specs.PairsAnswers.{ArePairsFor}
 
 -- How `pairs` ends for a problem and an order: with the lines of the pairs of its axioms, and status 0; or for want of memory, which

@@ -5,19 +5,20 @@ use Rattle.uc_term.specs.Tree.{Tree}
 use Rattle.uc_term.specs.Table.{Table, IsDistinct}
 use Rattle.uc_edge.specs.Files.{Files}
 use Rattle.uc_problem.specs.declared.problem.Problem.{Problem}
-use Rattle.uc_problem.specs.Holds.{Holds}
 use Rattle.uc_order.specs.declared.spec.OrderSpec.{OrderSpec}
 use Rattle.uc_rewrite.specs.declared.normal.Normal.{Normal}
 use Rattle.uc_words.specs.declared.command.Command.{Command}
 use Rattle.uc_words.specs.declared.command.Verb.TheVariants.{Rewrite}
 use Rattle.uc_words.specs.Reads.{Reads}
 use Rattle.uc_ordering.specs.Choice.{IsChosen}
-use Rattle.uc_top.specs.declared.term_word.WordFault.{WordFault}
-use Rattle.uc_top.specs.declared.term_word.WordFault.TheVariants.{NoMemory}
+use Rattle.uc_answer.specs.declared.term_word.WordFault.{WordFault}
+use Rattle.uc_answer.specs.declared.term_word.WordFault.TheVariants.{NoMemory}
+use Rattle.uc_answer.specs.Lines.{memory_line}
+use Rattle.uc_answer.specs.TermWords.{IsTermWord, IsWordFault}
+use Rattle.uc_answer.specs.WordLines.{word_line}
+use Rattle.uc_answer.specs.ChainLines.{stop_status, AreNormalLines}
 use Rattle.uc_top.specs.Loaded.{IsLoaded}
-use Rattle.uc_top.specs.Lines.{memory_line}
-use Rattle.uc_top.specs.TermWords.{IsTermWord, IsWordFault}
-use Rattle.uc_top.specs.RewriteAnswers.{word_line, stop_status, IsNormalFor, AreNormalLines}
+use Rattle.uc_top.specs.RewriteAnswers.{IsNormalFor}
 use Rattle.uc_top.specs.Runs.{EndsWith}
 
 -- How `rewrite` ends for a term: it is normalised, and its lines are told, with the status of what ended it; or for want of

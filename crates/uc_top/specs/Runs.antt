@@ -24,11 +24,11 @@ use Rattle.uc_check.specs.Clauses.{axioms_of, goals_of}
 use Rattle.uc_words.specs.declared.command.Command.{Command}
 use Rattle.uc_words.specs.declared.command.Verb.TheVariants.{Check, Show}
 use Rattle.uc_words.specs.Reads.{Reads}
-use Rattle.uc_top.specs.Lines.{about_file, proof_line, checked_line, memory_line, shown_lines}
+use Rattle.uc_answer.specs.Lines.{about_file, proof_line, checked_line, memory_line, shown_lines}
+use Rattle.uc_answer.specs.Refusals.{large_line}
 use Rattle.uc_top.specs.Told.{IsTold}
 use Rattle.uc_top.specs.Loaded.{IsLoaded}
 use Rattle.uc_top.specs.Answers.{Answers, checked_status}
-use Rattle.uc_top.specs.Refusals.{large_line}
 
 -- An answer to these words, or want of memory, which is free. The library's files are these, where it tells them, and its count of
 -- faults was and is this.

@@ -9,17 +9,19 @@ ghost use Rattle.uc_check.specs.Clauses.{axioms_of, goals_of, AreFresh, HasGoalI
 ghost use Rattle.uc_problem.specs.Holds.{Agrees};
 ghost use Rattle.uc_tstp.specs.Interning.{InternsProof};
 ghost use Rattle.uc_tstp.specs.Reading.{IsReading};
-ghost use Rattle.uc_top.specs.Lines.{joined, proof_line};
+ghost use Rattle.uc_answer.specs.Lines.{joined, proof_line};
+ghost use Rattle.uc_answer.specs.Refusals.{large_line};
 ghost use Rattle.uc_top.specs.Answers.{checked_status, IsProofFetched, TextAnswers, ProofAnswers, ProblemAnswers, CheckAnswers};
-ghost use Rattle.uc_top.specs.Refusals.{large_line};
 ghost use Rattle.uc_top.specs.Runs.{HasProof};
 
-use crate::lines::{about_file, checked_line, limit_line, proof_line};
-use crate::loading::{bytes_of, load_answer};
-use crate::output::{Answer, DONE, NO, READ_FAULT, REFUSED, of_line};
+use crate::loading::bytes_of;
 use std::alloc::{AllocError, Global};
+use uc_answer::{
+    Answer, DONE, NO, READ_FAULT, REFUSED, about_file, checked_line, large_answer, load_answer,
+    of_line, proof_line,
+};
 use uc_check::{Checked, Proof, check};
-use uc_clause::{Sourced, What};
+use uc_clause::Sourced;
 use uc_edge::{Fetched, Library};
 use uc_problem::{EncodeFault, Problem, load, marks};
 use uc_term::{Fresh, Symbols, Text};
@@ -88,22 +90,6 @@ fn problem_answer<L: Library>(
         Err(EncodeFault::GoalTooLarge(number)) => large_answer(alloc, &clauses[number as usize]),
         Err(EncodeFault::NoMemory) => Err(AllocError),
     }
-}
-
-// The answer for a goal that is too large to be encoded.
-pub(crate) fn large_answer(alloc: Global, goal: &Sourced) -> Result<Answer, AllocError>
-    ensures { IfOk result (λ answer. (answer.status ≡ 3) × (joined answer.lines ≡ large_line goal.now)) }
-{
-    let clause = &goal.clause;
-    let place = match clause.places.as_slice().first() {
-        Some(place) => *place,
-        None => clause.place,
-    };
-    of_line(
-        alloc,
-        REFUSED,
-        limit_line(alloc, goal.file.as_bytes(), place, What::Nodes)?,
-    )
 }
 
 // The answer for the proof file of this name.

@@ -14,24 +14,24 @@ ghost use Rattle.uc_book.specs.Openings.{opening_of};
 ghost use Rattle.uc_search.specs.Searching.{IsSearched};
 ghost use Rattle.uc_ordering.specs.Fits.{Fits};
 ghost use Rattle.uc_ordering.specs.Meaning.{meaning_of};
-ghost use Rattle.uc_top.specs.Lines.{joined};
-ghost use Rattle.uc_top.specs.QuestionWords.{AreShort};
-ghost use Rattle.uc_top.specs.ProveAnswers.{opening_for};
-ghost use Rattle.uc_top.specs.DecideAnswers.{AreReplies, replies_status, reply_lines, opening_of_axioms, IsDecided};
+ghost use Rattle.uc_answer.specs.Lines.{joined};
+ghost use Rattle.uc_answer.specs.QuestionWords.{AreShort};
+ghost use Rattle.uc_answer.specs.VerdictLines.{opening_for};
+ghost use Rattle.uc_answer.specs.ReplyLines.{AreReplies, replies_status, reply_lines};
+ghost use Rattle.uc_answer.specs.RightReplies.{AreGroundQuestions, AreRight};
+ghost use Rattle.uc_top.specs.DecideAnswers.{opening_of_axioms, IsDecided};
 ghost use Rattle.uc_top.specs.Answers.{DecideAnswers};
-ghost use Rattle.uc_top.specs.DecideRuns.{AreGroundQuestions, AreRight, Decided, KeepsDecision};
+ghost use Rattle.uc_top.specs.DecideRuns.{Decided, KeepsDecision};
 ghost use Rattle.uc_top.specs.DecideTold.{AreGroundOfTable, TellsEnd, IsToldBySearch};
 
 use crate::axioms::without_goals;
-use crate::choosing::choice_answer;
-use crate::limit_lines::out_lines;
-use crate::loading::{bytes_of, load_answer};
-use crate::output::{Answer, STOPPED};
-use crate::question_word::{Question, read_questions};
-use crate::replying::{replies, replies_status, reply_lines};
-use crate::word_lines::word_answer;
+use crate::loading::bytes_of;
 use std::alloc::{AllocError, Global};
 use std::sync::Wait;
+use uc_answer::{
+    Answer, Question, STOPPED, choice_answer, load_answer, out_lines, read_questions, replies,
+    replies_status, reply_lines, word_answer,
+};
 use uc_book::Book;
 use uc_edge::Library;
 use uc_fact::System;

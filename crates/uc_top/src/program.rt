@@ -7,7 +7,7 @@ ghost use Rattle.uc_words.specs.declared.command.Command.{Command};
 ghost use Rattle.uc_words.specs.declared.command.Verb.TheVariants.{Check, Prove, Decide};
 ghost use Rattle.uc_words.specs.Reads.{Reads};
 ghost use Rattle.uc_words.specs.Table.{fits};
-ghost use Rattle.uc_top.specs.Lines.{joined, usage_line};
+ghost use Rattle.uc_answer.specs.Lines.{joined, usage_line};
 ghost use Rattle.uc_top.specs.Runs.{MayAnswer, IsRun, IsCertified, Completes, CompletesCheck};
 ghost use Rattle.uc_top.specs.OrderRuns.{CompletesOrder};
 ghost use Rattle.uc_top.specs.RewriteRuns.{CompletesRewrite};
@@ -19,7 +19,7 @@ ghost use Rattle.uc_top.specs.Headline.{Headline};
 use crate::checking::check_answer;
 use crate::deciding::decide_answer;
 use crate::ordering::order_answer;
-use crate::output::{Answer, USAGE, of_line, tell, tell_memory_out};
+use crate::output::{tell, tell_memory_out};
 use crate::pairing::pairs_answer;
 use crate::proving::prove_answer;
 use crate::rewriting::rewrite_answer;
@@ -27,11 +27,10 @@ use crate::showing::show_answer;
 use std::alloc::{AllocError, Global};
 use std::sync::Wait;
 use std::thread::Threads;
+use uc_answer::{Answer, usage_answer};
 use uc_edge::{Gate, Library, Sink};
-use uc_term::{Symbols, Text};
+use uc_term::Text;
 use uc_words::{Command, Verb, WordsFault, read_words};
-
-const USAGE_LINE: &[u8] = b"usage: uc COMMAND [--option VALUE].. [WORD]..\n";
 
 /// Answers the words after the program's name: tells the sink the whole answer, line by line, and answers its status.
 ///
@@ -100,12 +99,6 @@ fn answer_of<R: Wait, L: Library>(
         Err(WordsFault::Usage) => usage_answer(alloc),
         Err(WordsFault::NoMemory) => Err(AllocError),
     }
-}
-
-fn usage_answer(alloc: Global) -> Result<Answer, AllocError>
-    ensures { IfOk result (λ answer. (answer.status ≡ 4) × (joined answer.lines ≡ usage_line)) }
-{
-    of_line(alloc, USAGE, Text::from_bytes(alloc, USAGE_LINE)?)
 }
 
 // The answer to a command.

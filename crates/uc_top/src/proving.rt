@@ -10,19 +10,18 @@ ghost use Rattle.uc_problem.specs.Filling.{AddsMarks};
 ghost use Rattle.uc_problem.specs.Marks.{Marks};
 ghost use Rattle.uc_ordering.specs.Choice.{IsChosen};
 ghost use Rattle.uc_ordering.specs.Fits.{Fits};
-ghost use Rattle.uc_top.specs.Lines.{joined};
+ghost use Rattle.uc_answer.specs.Lines.{joined};
+ghost use Rattle.uc_answer.specs.PrintableProblems.{are_seen, IsRootSeen, CanBePrinted};
+ghost use Rattle.uc_answer.specs.Promises.{Keeps};
 ghost use Rattle.uc_top.specs.ProveAnswers.{IsProveAnswer, ProveAnswers};
-ghost use Rattle.uc_top.specs.PrintableProblems.{are_seen, IsRootSeen, CanBePrinted};
-ghost use Rattle.uc_top.specs.ProveRuns.{Keeps, IsKept, KeepsPromise};
+ghost use Rattle.uc_top.specs.ProveRuns.{IsKept, KeepsPromise};
 
-use crate::checking::large_answer;
-use crate::choosing::choice_answer;
 use crate::loading::bytes_of;
-use crate::output::Answer;
-use crate::szs::{unloaded_answer, with_status};
-use crate::verdict_lines::{Closed, verdict_answer};
 use std::alloc::{AllocError, Global};
 use std::sync::Wait;
+use uc_answer::{
+    Answer, Closed, choice_answer, large_answer, unloaded_answer, verdict_answer, with_status,
+};
 use uc_book::Book;
 use uc_edge::Library;
 use uc_order::OrderSpec;

@@ -6,20 +6,19 @@ ghost use Rattle.uc_term.specs.Table.{IsOf};
 ghost use Rattle.uc_problem.specs.Holds.{Agrees};
 ghost use Rattle.uc_ordering.specs.Choice.{IsChosen};
 ghost use Rattle.uc_ordering.specs.Fits.{Fits};
-ghost use Rattle.uc_top.specs.Lines.{joined};
-ghost use Rattle.uc_top.specs.TermWords.{IsTermWord, IsWordFault};
 ghost use Rattle.uc_rewrite.specs.declared.normal.Normal.{Normal as AnyNormal};
-ghost use Rattle.uc_top.specs.RewriteAnswers.{stop_status, IsNormalFor, AreNormalLines, IsRewritten};
+ghost use Rattle.uc_answer.specs.Lines.{joined};
+ghost use Rattle.uc_answer.specs.TermWords.{IsTermWord, IsWordFault};
+ghost use Rattle.uc_answer.specs.ChainLines.{stop_status, AreNormalLines};
+ghost use Rattle.uc_top.specs.RewriteAnswers.{IsNormalFor, IsRewritten};
 ghost use Rattle.uc_top.specs.Answers.{RewriteAnswers};
 
 use crate::axioms::axioms_of;
-use crate::chaining::chain_lines;
-use crate::choosing::choice_answer;
-use crate::loading::{bytes_of, load_answer};
-use crate::output::{Answer, DONE, STOPPED};
-use crate::term_word::read_word;
-use crate::word_lines::word_answer;
+use crate::loading::bytes_of;
 use std::alloc::{AllocError, Global};
+use uc_answer::{
+    Answer, DONE, STOPPED, chain_lines, choice_answer, load_answer, read_word, word_answer,
+};
 use uc_edge::Library;
 use uc_fact::Stop;
 use uc_order::OrderSpec;

@@ -2,19 +2,18 @@
 
 ghost use Rattle.std.specs.Prelude.{◌≡◌, ◌≤◌, [], IfOk};
 ghost use Rattle.std.specs.Option.{option_copied};
-ghost use Rattle.uc_term.specs.Table.{IsOf};
 ghost use Rattle.uc_term.specs.Gathering.{AreOf};
 ghost use Rattle.uc_problem.specs.Holds.{terms_of};
-ghost use Rattle.uc_top.specs.Lines.{joined, shown_line, shown_lines};
+ghost use Rattle.uc_answer.specs.Lines.{joined, shown_lines};
 ghost use Rattle.uc_top.specs.Answers.{ShowAnswers};
 
-use crate::loading::{bytes_of, load_answer};
-use crate::output::{Answer, DONE};
+use crate::loading::bytes_of;
 use std::alloc::{AllocError, Global};
-use uc_clause::{Clause, Sourced, print_clause};
+use uc_answer::{Answer, DONE, load_answer, shown_lines};
+use uc_clause::Sourced;
 use uc_edge::Library;
 use uc_problem::load;
-use uc_term::{Seq, Symbols, Text};
+use uc_term::{Symbols, Text};
 
 /// The answer to `show` for the problem file of this name.
 pub(crate) fn show_answer<L: Library>(
@@ -65,23 +64,8 @@ fn clauses_answer(
     requires { AreOf symbols.now (terms_of clauses.now) }
     ensures { IfOk result (λ answer. (answer.status ≡ 0) × (joined answer.lines ≡ shown_lines symbols.now clauses.now)) }
 {
-    let mut lines = Seq::new(alloc);
-    for sourced in clauses {
-        lines.push(shown_line(alloc, &sourced.clause, symbols)?)?;
-    }
     Ok(Answer {
         status: DONE,
-        lines,
+        lines: shown_lines(alloc, clauses, symbols)?,
     })
-}
-
-// The line of a clause.
-fn shown_line(alloc: Global, clause: &Clause, symbols: &Symbols) -> Result<Text, AllocError>
-    requires left { IsOf symbols.now clause.now.left }
-    requires right { IsOf symbols.now clause.now.right }
-    ensures { IfOk result (λ text. text ≡ shown_line symbols.now clause.now) }
-{
-    let mut line = print_clause(alloc, clause, symbols)?;
-    line.extend(b"\n")?;
-    Ok(line)
 }

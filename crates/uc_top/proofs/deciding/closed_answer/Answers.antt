@@ -1,7 +1,7 @@
 use Rattle.uc_book.specs.Openings.{opening_of}
-use Rattle.uc_top.proofs.DecidedAnswers.{opens_without, replies_told, limit_told, limit_status}
-use Rattle.uc_top.proofs.LargeLines.{searched_large}
-use Rattle.uc_top.proofs.Saturation.{facts_over, decided}
+use Rattle.uc_answer.proofs.LargeLines.{searched_large}
+use Rattle.uc_answer.proofs.Saturation.{opens_without, facts_over, decided}
+use Rattle.uc_top.proofs.DecidedAnswers.{replies_told, limit_told, limit_status}
 use Rattle.uc_top.proofs.deciding.closed_answer.Goals as goal
 
 pub replied_answer-requires-clause-over : goal.replied_answer-requires-clause-over

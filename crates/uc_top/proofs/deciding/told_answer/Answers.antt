@@ -1,6 +1,6 @@
 use Rattle.std.proofs.Common.{ap, sym, ◌∙◌}
 use Rattle.uc_book.specs.Openings.{opening_of}
-use Rattle.uc_top.specs.ProveAnswers.{opening_for}
+use Rattle.uc_answer.specs.VerdictLines.{opening_for}
 use Rattle.uc_top.proofs.DecidedAnswers.{told_by, searched_from}
 use Rattle.uc_top.proofs.ProvedAnswers.{starts_fresh}
 use Rattle.uc_top.proofs.deciding.told_answer.Goals as goal

@@ -1,7 +1,7 @@
 use Rattle.std.proofs.Common.{◌<◌, arith}
 use Rattle.uc_ordering.specs.Meaning.{meaning_of}
 use Rattle.uc_search.proofs.Bounded.{searched_bounded, few_rounds}
-use Rattle.uc_top.specs.ProveAnswers.{opening_for}
+use Rattle.uc_answer.specs.VerdictLines.{opening_for}
 use Rattle.uc_top.specs.DecideAnswers.{opening_of_axioms}
 use Rattle.uc_top.proofs.laws.searches_are_short.Goals as goal
 

@@ -1,6 +1,6 @@
 use Rattle.std.proofs.Common.{◌≤◌, take}
 use Rattle.std.specs.Io.KnownBytes.{Appends}
-use Rattle.uc_top.specs.Lines.{joined}
+use Rattle.uc_answer.specs.Lines.{joined}
 use Rattle.uc_top.proofs.output.put_lines.Given as goal
 
 abbrev pub invariant-loop-line : goal.invariant-loop-line

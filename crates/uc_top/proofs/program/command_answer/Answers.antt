@@ -1,9 +1,9 @@
 use Rattle.std.proofs.Common.{◌≡◌, [], ◌∷◌, refl, sym, ◌∙◌, subst, arith}
 use Rattle.std.proofs.lemmas.Result.{IfOk-weaker}
+use Rattle.uc_answer.specs.QuestionWords.{AreShort}
 use Rattle.uc_top.specs.Answers.{checks, shows, orders, rewrites, pairs_up, isnt_built}
 use Rattle.uc_top.specs.Runs.{MayAnswer, is_answer}
 use Rattle.uc_top.proofs.Answering.{one_line, one_name, two_names, not_built, usage_not_done}
-use Rattle.uc_top.specs.QuestionWords.{AreShort}
 use Rattle.uc_top.proofs.ShortWords.{positionals_short}
 use Rattle.uc_top.proofs.program.command_answer.Goals as goal
 

@@ -1,8 +1,8 @@
-use Rattle.std.proofs.Common.{◌≡◌, ◌-◌, [], ◌∷◌, length, take, drop, sym, ◌∙◌, subst, arith}
+use Rattle.std.proofs.Common.{◌≡◌, ◌-◌, ◌∷◌, length, take, drop, sym, ◌∙◌, subst, arith}
 use Rattle.std.proofs.lemmas.Result.{IfOk-weaker}
+use Rattle.uc_answer.specs.QuestionWords.{AreShort}
 use Rattle.uc_top.specs.Answers.{IsSearching, decides, has_many_workers}
 use Rattle.uc_top.specs.Runs.{MayAnswer, is_answer}
-use Rattle.uc_top.specs.QuestionWords.{AreShort}
 use Rattle.uc_top.proofs.Answering.{one_line, name_and_more}
 use Rattle.uc_top.proofs.DecidePromises.{kept_answers}
 use Rattle.uc_top.proofs.ProvedAnswers.{no_promise}

@@ -1,0 +1,127 @@
+-- What the answer for a verdict keeps.
+use Rattle.std.proofs.Common.{ℕ, ◌≡◌, List, [], ◌++◌, codes, refl, sym, ap, ◌∙◌, arith, append_assoc}
+use Rattle.std.proofs.lemmas.List.{append-nil}
+use Rattle.uc_term.specs.Table.{Table}
+use Rattle.uc_order.specs.declared.spec.OrderSpec.{OrderSpec}
+use Rattle.uc_order.specs.Laws.{Meaning}
+use Rattle.uc_problem.specs.declared.problem.Problem.{Problem}
+use Rattle.uc_problem.specs.declared.problem.Encoded.{Encoded}
+use Rattle.uc_machine.specs.declared.event.Verdict.{Verdict}
+use Rattle.uc_machine.specs.declared.event.Verdict.TheVariants.{Proved, Saturated, BudgetOut, PairsOut, LargeOverlap, LargeGoal}
+use Rattle.uc_machine.specs.State.{Opening, State}
+use Rattle.uc_search.specs.Causes.{HasCause, HasCauseIfStopped}
+use Rattle.uc_search.proofs.Caused.{searched_told}
+use Rattle.uc_words.specs.declared.command.Command.{Command}
+use Rattle.uc_ordering.specs.Meaning.{meaning_of}
+use Rattle.uc_answer.specs.StatusLines.{status_line, line_for}
+use Rattle.uc_answer.specs.VerdictLines.{verdict_status, opening_for, HasEnded}
+use Rattle.uc_answer.specs.LimitLines.{IsLimitLine}
+use Rattle.uc_answer.specs.Promises.{Certifies, IsRefuted, Settles, IsSettled, IsStopped, Keeps}
+
+-- more may stand behind an answer
+module _ (table : Table) (command : Command) (name : List ℕ) (problem : Problem) where
+  refuted_more : (answer more : List ℕ) → IsRefuted table name problem answer → IsRefuted table name problem (answer ++ more)
+  refuted_more answer more r = record {
+    proof = r.proof;
+    history = r.history ++ more;
+    certifies = r.certifies;
+    answer_is = ap (λ t. t ++ more) r.answer_is ∙ append_assoc (status_line (codes "Unsatisfiable") name ++ r.proof) r.history more;
+  }
+
+  settled_more : (spec : OrderSpec) (answer more : List ℕ) → IsSettled table name problem spec answer → IsSettled table name problem spec (answer ++ more)
+  settled_more spec answer more r = record {
+    system = r.system;
+    history = r.history ++ more;
+    settles = r.settles;
+    answer_is = ap (λ t. t ++ more) r.answer_is ∙ append_assoc (status_line (codes "Satisfiable") name ++ line_for (codes "% SZS output start Saturation") name ++ r.system ++ line_for (codes "% SZS output end Saturation") name) r.history more;
+  }
+
+  stopped_more : (spec : OrderSpec) (answer more : List ℕ) → IsStopped table command name problem spec answer → IsStopped table command name problem spec (answer ++ more)
+  stopped_more spec answer more r = record {
+    encoded = r.encoded;
+    encodes = r.encodes;
+    verdict = r.verdict;
+    state = r.state;
+    searched = r.searched;
+    cause = r.cause;
+    line = r.line;
+    line_is = r.line_is;
+    history = r.history ++ more;
+    answer_is = ap (λ t. t ++ more) r.answer_is ∙ append_assoc (status_line (codes "ResourceOut") name ++ r.line) r.history more;
+  }
+
+  pub keeps_more : (status : ℕ) (answer more : List ℕ) → Keeps table command name problem status answer → Keeps table command name problem status (answer ++ more)
+  keeps_more status answer more k = record {
+    fresh = k.fresh;
+    marked = k.marked;
+    spec = k.spec;
+    chosen = k.chosen;
+    refuted = λ e. refuted_more answer more (k.refuted e);
+    settled = λ e. settled_more k.spec answer more (k.settled e);
+    stopped = λ e. stopped_more k.spec answer more (k.stopped e);
+  }
+
+  module _ (encoded : Encoded) (spec : OrderSpec) (s : State) where
+    pub proved_keeps : (goal : ℕ) (text answer : List ℕ) → HasEnded table command problem encoded spec (Proved goal) s → Certifies table problem text → answer ≡ status_line (codes "Unsatisfiable") name ++ text → Keeps table command name problem 0 answer
+    proved_keeps goal text answer h c e = record {
+      fresh = encoded.fresh;
+      marked = h.encodes.0;
+      spec = spec;
+      chosen = h.chosen;
+      refuted = λ z. record { proof = text; history = []; certifies = c; answer_is = e ∙ sym (append-nil (status_line (codes "Unsatisfiable") name ++ text)) };
+      settled = λ z. absurd (omega (arith, z));
+      stopped = λ z. absurd (omega (arith, z));
+    }
+
+    -- the four parts of a saturated answer one behind the other
+    in_a_row : (a b c d : List ℕ) → a ++ (b ++ c ++ d) ≡ a ++ b ++ c ++ d
+    in_a_row a b c d = sym (append_assoc a (b ++ c) d) ∙ ap (λ t. t ++ d) (sym (append_assoc a b c))
+
+    pub saturated_keeps : (system answer : List ℕ) → HasEnded table command problem encoded spec Saturated s → Settles table problem spec system → answer ≡ status_line (codes "Satisfiable") name ++ (line_for (codes "% SZS output start Saturation") name ++ system ++ line_for (codes "% SZS output end Saturation") name) → Keeps table command name problem 1 answer
+    saturated_keeps system answer h c e = record {
+      fresh = encoded.fresh;
+      marked = h.encodes.0;
+      spec = spec;
+      chosen = h.chosen;
+      refuted = λ z. absurd (omega (arith, z));
+      settled = λ z. record { system = system; history = []; settles = c; answer_is = e ∙ in_a_row (status_line (codes "Satisfiable") name) (line_for (codes "% SZS output start Saturation") name) system (line_for (codes "% SZS output end Saturation") name) ∙ sym (append-nil (status_line (codes "Satisfiable") name ++ line_for (codes "% SZS output start Saturation") name ++ system ++ line_for (codes "% SZS output end Saturation") name)) };
+      stopped = λ z. absurd (omega (arith, z));
+    }
+
+    cause_for : (m : Meaning) (o : Opening) (v : Verdict) → verdict_status v ≡ 2 → HasCauseIfStopped m o s v → HasCause m o s v
+    cause_for m o (Proved goal) e h = absurd (omega (arith, e))
+    cause_for m o Saturated e h = absurd (omega (arith, e))
+    cause_for m o (BudgetOut counted) e h = h
+    cause_for m o (PairsOut waiting new) e h = h
+    cause_for m o (LargeOverlap x) e h = h
+    cause_for m o (LargeGoal goal) e h = h
+
+    pub stopped_keeps : (v : Verdict) (line answer : List ℕ) → verdict_status v ≡ 2 → HasEnded table command problem encoded spec v s → IsLimitLine command s v line → answer ≡ status_line (codes "ResourceOut") name ++ line → Keeps table command name problem (verdict_status v) answer
+    stopped_keeps v line answer two h is e = record {
+      fresh = encoded.fresh;
+      marked = h.encodes.0;
+      spec = spec;
+      chosen = h.chosen;
+      refuted = λ z. absurd (omega (arith, z, two));
+      settled = λ z. absurd (omega (arith, z, two));
+      stopped = λ z. record {
+        encoded = encoded;
+        encodes = h.encodes;
+        verdict = v;
+        state = s;
+        searched = h.searched;
+        cause = cause_for (meaning_of table spec) (opening_for command encoded) v two (searched_told (meaning_of table spec) (opening_for command encoded) 0 (omega arith) v s h.searched);
+        line = line;
+        line_is = is;
+        history = [];
+        answer_is = e ∙ sym (append-nil (status_line (codes "ResourceOut") name ++ line));
+      };
+    }
+
+pub out_status : (v : Verdict) → ((goal : ℕ) → v ≡ Proved goal → ⊥) → (v ≡ Saturated → ⊥) → verdict_status v ≡ 2
+out_status (Proved goal) n k = absurd (n goal refl)
+out_status Saturated n k = absurd (k refl)
+out_status (BudgetOut counted) n k = refl
+out_status (PairsOut waiting new) n k = refl
+out_status (LargeOverlap x) n k = refl
+out_status (LargeGoal goal) n k = refl

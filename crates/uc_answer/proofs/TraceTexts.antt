@@ -1,0 +1,35 @@
+-- The lines of a history.
+use Rattle.std.proofs.Common.{ℕ, ◌+◌, ◌≡◌, ◌<◌, ◌≤◌, List, [], ◌∷◌, ◌++◌, length, get_or, drop, Result, Ok, Err, sym, ap, ◌∙◌, append_assoc}
+use Rattle.std.specs.Result.{IfOk, OnOk}
+use Rattle.std.proofs.lemmas.List.{drop_more, drop_all, append-nil}
+use Rattle.uc_machine.specs.declared.event.Event.{Event}
+use Rattle.uc_machine.specs.Events.{commits_by}
+use Rattle.uc_answer.specs.Lines.{joined}
+use Rattle.uc_answer.specs.TraceLines.{event_line, event_lines, share_text, trace_text}
+use Rattle.uc_answer.proofs.DirectedLines.{joined_one}
+
+pub told_so : {T E : Type 0} (P : Type 0) (r : Result T E) → IfOk r (λ _. P) → OnOk r P
+told_so P (Ok v) h = h
+told_so P (Err e) h = tt
+
+-- what is written behind what was
+pub behind : (new mid old a b : List ℕ) → new ≡ mid ++ b → mid ≡ old ++ a → new ≡ old ++ (a ++ b)
+behind new mid old a b e f = e ∙ ap (λ t. t ++ b) f ∙ append_assoc old a b
+
+module _ (history : List Event) where
+  -- behind these lines those of the events that are left are the lines of all
+  abbrev pub BegunTrace : ℕ → List (List ℕ) → Type 0
+  BegunTrace number lines = joined lines ++ event_lines (number + 1) (drop number history) ≡ event_lines 1 history
+
+  pub one_more_event : (number : ℕ) (lines : List (List ℕ)) (d e : Event) (line : List ℕ) → number < length history → e ≡ get_or history number d → line ≡ event_line (number + 1) e → BegunTrace number lines → BegunTrace (number + 1) (lines ++ line ∷ [])
+  one_more_event number lines d e line h at is begun =
+      let rest = event_lines (number + 1 + 1) (drop (number + 1) history) in
+      let here : drop number history ≡ e ∷ drop (number + 1) history = drop_more history number d h ∙ ap (λ x. x ∷ drop (number + 1) history) (sym at) in
+      ap (λ t. t ++ rest) (joined_one lines line) ∙ append_assoc (joined lines) line rest ∙ ap (λ t. joined lines ++ (t ++ rest)) is ∙ ap (λ es. joined lines ++ event_lines (number + 1) es) (sym here) ∙ begun
+
+  pub all_events_told : (number : ℕ) (lines : List (List ℕ)) → length history ≤ number → BegunTrace number lines → joined lines ≡ event_lines 1 history
+  all_events_told number lines h begun = sym (append-nil (joined lines)) ∙ ap (λ es. joined lines ++ event_lines (number + 1) es) (sym (drop_all number history h)) ∙ begun
+
+  pub trace_told : (number : ℕ) (lines : List (List ℕ)) (share : List ℕ) (worker commits : ℕ) → length history ≤ number → BegunTrace number lines → share ≡ share_text worker commits → worker ≡ 0 → commits ≡ commits_by 0 history → joined (lines ++ share ∷ []) ≡ trace_text history
+  trace_told number lines share worker commits h begun e w c =
+      joined_one lines share ∙ ap (λ t. joined lines ++ t) (e ∙ ap (λ n. share_text n commits) w ∙ ap (share_text 0) c) ∙ ap (λ t. t ++ share_text 0 (commits_by 0 history)) (all_events_told number lines h begun)

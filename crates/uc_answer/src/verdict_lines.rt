@@ -1,0 +1,223 @@
+//! The lines of the verdict of a book: a proof, a system, or the limit that ended the search.
+
+ghost use Rattle.std.specs.Prelude.{◌≡◌, ◌<◌, ◌+◌, ◌^◌, ◌++◌, ℕ, List, [], codes, cond, IfOk, IsTrue};
+ghost use Rattle.uc_fact.specs.Live.{equations_of};
+ghost use Rattle.uc_shelf.specs.Entries.{live};
+ghost use Rattle.uc_machine.specs.declared.event.Verdict.TheVariants.{Proved, Saturated};
+ghost use Rattle.uc_search.specs.Working.{CountsCommits};
+ghost use Rattle.uc_system.specs.Printing.{system_text};
+ghost use Rattle.uc_answer.specs.Lines.{joined};
+ghost use Rattle.uc_answer.specs.PrintableProblems.{CanBePrinted};
+ghost use Rattle.uc_answer.specs.StatusLines.{status_line};
+ghost use Rattle.uc_answer.specs.VerdictLines.{verdict_status, trace_if, saturation_text, IsProofText, VerdictAnswers, HasEnded};
+ghost use Rattle.uc_answer.specs.TraceLines.{trace_text};
+ghost use Rattle.uc_answer.specs.Promises.{Certifies, Settles, Keeps};
+
+use crate::answer::{Answer, DONE, NO, STOPPED};
+use crate::limit_lines::out_lines;
+use crate::szs::{line_for, status_line};
+use crate::trace_lines::trace_lines;
+use std::alloc::{AllocError, Global};
+use uc_book::{Book, Pass};
+use uc_machine::Verdict;
+use uc_order::{Order, OrderSpec};
+use uc_problem::{Encoded, Problem};
+use uc_proof::extract_from;
+use uc_search::{all_facts, live_system};
+use uc_shelf::Shelf;
+use uc_system::print_system;
+use uc_term::{Seq, Symbols, Text};
+use uc_tstp::print_proof;
+use uc_words::Command;
+
+/// Holds what a command searched: the problem's name, the problem and its encoding, the order, the symbols, and the shelf of the
+/// facts.
+#[derive(Clone, Copy)]
+pub struct Closed<'a> {
+    pub name: &'a [u8],
+    pub command: &'a Command,
+    pub problem: &'a Problem,
+    pub encoded: &'a Encoded,
+    pub spec: &'a OrderSpec,
+    pub symbols: &'a Symbols,
+    pub shelf: &'a Shelf,
+}
+
+/// Returns the answer of `prove` for a book with this verdict, with the book's history where it is asked for.
+pub fn verdict_answer<O: Order>(
+    alloc: Global,
+    closed: &Closed,
+    book: &Book<O>,
+    pass: &Pass,
+    verdict: Verdict,
+) -> Result<Answer, AllocError>
+    requires shelf { book.now.opening.shelf ≡ closed.now.shelf.now }
+    requires problem { book.now.opening.problem ≡ closed.now.encoded.now }
+    requires ended { HasEnded closed.now.symbols.now closed.now.command.now closed.now.problem.now closed.now.encoded.now closed.now.spec.now verdict book.now.state }
+    requires worker { pass.now.worker ≡ 0 }
+    requires count { CountsCommits pass.now book.now.state }
+    ensures status { IfOk result (λ answer. answer.status ≡ verdict_status verdict) }
+    ensures answers { IfOk result (λ answer. (text : List ℕ) × VerdictAnswers closed.now.symbols.now closed.now.command.now closed.now.name.now closed.now.problem.now closed.now.encoded.now closed.now.spec.now book.now.state verdict text × (joined answer.lines ≡ text ++ trace_if closed.now.command.now book.now.state)) }
+    ensures promise { IfOk result (λ answer. CanBePrinted closed.now.symbols.now closed.now.name.now closed.now.problem.now → Keeps closed.now.symbols.now closed.now.command.now closed.now.name.now closed.now.problem.now (verdict_status verdict) (joined answer.lines)) }
+{
+    let lines = verdict_lines(alloc, closed, book, verdict)?;
+    Ok(Answer {
+        status: verdict_status(verdict),
+        lines: traced(alloc, closed.command.trace, lines, book, pass)?,
+    })
+}
+
+/// The lines, with the book's history behind them where it is asked for.
+fn traced<O: Order>(
+    alloc: Global,
+    trace: bool,
+    lines: Seq<Text>,
+    book: &Book<O>,
+    pass: &Pass,
+) -> Result<Seq<Text>, AllocError>
+    requires worker { pass.now.worker ≡ 0 }
+    requires count { CountsCommits pass.now book.now.state }
+    ensures { IfOk result (λ all. joined all ≡ joined lines ++ cond trace (trace_text book.now.state.history) []) }
+{
+    if !trace {
+        return Ok(lines);
+    }
+    let mut all = lines;
+    all.append(trace_lines(alloc, book.history(), pass)?)?;
+    Ok(all)
+}
+
+/// The status for a verdict.
+fn verdict_status(verdict: Verdict) -> u8
+    ensures { result ≡ verdict_status verdict }
+{
+    match verdict {
+        Verdict::Proved(_) => DONE,
+        Verdict::Saturated => NO,
+        Verdict::BudgetOut { .. } => STOPPED,
+        Verdict::PairsOut { .. } => STOPPED,
+        Verdict::LargeOverlap(_) => STOPPED,
+        Verdict::LargeGoal(_) => STOPPED,
+    }
+}
+
+/// The lines of a verdict.
+fn verdict_lines<O: Order>(
+    alloc: Global,
+    closed: &Closed,
+    book: &Book<O>,
+    verdict: Verdict,
+) -> Result<Seq<Text>, AllocError>
+    requires shelf { book.now.opening.shelf ≡ closed.now.shelf.now }
+    requires problem { book.now.opening.problem ≡ closed.now.encoded.now }
+    requires ended { HasEnded closed.now.symbols.now closed.now.command.now closed.now.problem.now closed.now.encoded.now closed.now.spec.now verdict book.now.state }
+    ensures answers { IfOk result (λ lines. VerdictAnswers closed.now.symbols.now closed.now.command.now closed.now.name.now closed.now.problem.now closed.now.encoded.now closed.now.spec.now book.now.state verdict (joined lines)) }
+    ensures promise { IfOk result (λ lines. CanBePrinted closed.now.symbols.now closed.now.name.now closed.now.problem.now → Keeps closed.now.symbols.now closed.now.command.now closed.now.name.now closed.now.problem.now (verdict_status verdict) (joined lines)) }
+{
+    match verdict {
+        Verdict::Proved(goal) => proved_lines(alloc, closed, book, goal),
+        Verdict::Saturated => saturated_lines(alloc, closed, book),
+        _ => out_lines(
+            alloc,
+            closed.command,
+            closed.name,
+            closed.shelf,
+            book,
+            verdict,
+        ),
+    }
+}
+
+/// The lines of a problem that is refuted: its status and the proof.
+fn proved_lines<O: Order>(
+    alloc: Global,
+    closed: &Closed,
+    book: &Book<O>,
+    goal: u32,
+) -> Result<Seq<Text>, AllocError>
+    requires shelf { book.now.opening.shelf ≡ closed.now.shelf.now }
+    requires problem { book.now.opening.problem ≡ closed.now.encoded.now }
+    requires ended { HasEnded closed.now.symbols.now closed.now.command.now closed.now.problem.now closed.now.encoded.now closed.now.spec.now (Proved goal) book.now.state }
+    ensures { IfOk result (λ lines. (text : List ℕ) × IsProofText closed.now.symbols.now closed.now.command.now closed.now.name.now closed.now.problem.now closed.now.encoded.now closed.now.spec.now book.now.state goal text × (CanBePrinted closed.now.symbols.now closed.now.name.now closed.now.problem.now → Certifies closed.now.symbols.now closed.now.problem.now text) × (joined lines ≡ status_line (codes "Unsatisfiable") closed.now.name.now ++ text)) }
+{
+    let text = proof_of(alloc, closed, book, goal)?;
+    let mut lines = Seq::new(alloc);
+    lines.push(status_line(alloc, b"Unsatisfiable", closed.name)?)?;
+    lines.append(lines_of(alloc, text.as_bytes())?)?;
+    Ok(lines)
+}
+
+/// The text of the proof that the chains of a goal and those of the facts determine. It never has as many lines as can't be
+/// numbered; for so many memory is wanted.
+fn proof_of<O: Order>(
+    alloc: Global,
+    closed: &Closed,
+    book: &Book<O>,
+    goal: u32,
+) -> Result<Text, AllocError>
+    requires shelf { book.now.opening.shelf ≡ closed.now.shelf.now }
+    requires problem { book.now.opening.problem ≡ closed.now.encoded.now }
+    requires ended { HasEnded closed.now.symbols.now closed.now.command.now closed.now.problem.now closed.now.encoded.now closed.now.spec.now (Proved goal) book.now.state }
+    ensures { IfOk result (λ text. IsProofText closed.now.symbols.now closed.now.command.now closed.now.name.now closed.now.problem.now closed.now.encoded.now closed.now.spec.now book.now.state goal text × (CanBePrinted closed.now.symbols.now closed.now.name.now closed.now.problem.now → Certifies closed.now.symbols.now closed.now.problem.now text)) }
+{
+    let facts = all_facts(alloc, closed.shelf, book.front())?;
+    let (left, right) = book.chain(goal);
+    let (problem, encoded) = (closed.problem, closed.encoded);
+    if !are_few(encoded.sources.len(), problem.goals.len(), facts.len()) {
+        return Err(AllocError);
+    }
+    let made = extract_from(alloc, facts.as_slice(), left, right, problem, encoded, goal)?;
+    let files = made.files.as_slice();
+    print_proof(alloc, &made.proof, closed.name, files, closed.symbols)
+}
+
+const MOST_PARTS: usize = 1_000_000_000;
+
+/// Whether the lines of a proof from so many sources of axioms, goals and facts can be numbered.
+fn are_few(sources: usize, goals: usize, facts: usize) -> bool
+    ensures { IsTrue result → sources + goals + facts + 2 < 2 ^ 32 }
+{
+    sources < MOST_PARTS && goals < MOST_PARTS && facts < MOST_PARTS
+}
+
+/// The lines of a problem that is saturated: its status and the system of the facts that live.
+fn saturated_lines<O: Order>(
+    alloc: Global,
+    closed: &Closed,
+    book: &Book<O>,
+) -> Result<Seq<Text>, AllocError>
+    requires shelf { book.now.opening.shelf ≡ closed.now.shelf.now }
+    requires ended { HasEnded closed.now.symbols.now closed.now.command.now closed.now.problem.now closed.now.encoded.now closed.now.spec.now Saturated book.now.state }
+    ensures lines { IfOk result (λ lines. joined lines ≡ status_line (codes "Satisfiable") closed.now.name.now ++ saturation_text closed.now.symbols.now closed.now.command.now closed.now.name.now closed.now.problem.now closed.now.encoded.now closed.now.spec.now book.now.state) }
+    ensures promise { IfOk result (λ _. CanBePrinted closed.now.symbols.now closed.now.name.now closed.now.problem.now → Settles closed.now.symbols.now closed.now.problem.now closed.now.spec.now (system_text closed.now.symbols.now closed.now.spec.now (equations_of (live book.now.state.entries)))) }
+{
+    let text = system_of(alloc, closed, book)?;
+    let mut lines = Seq::new(alloc);
+    lines.push(status_line(alloc, b"Satisfiable", closed.name)?)?;
+    lines.push(line_for(alloc, b"% SZS output start Saturation", closed.name)?)?;
+    lines.append(lines_of(alloc, text.as_bytes())?)?;
+    lines.push(line_for(alloc, b"% SZS output end Saturation", closed.name)?)?;
+    Ok(lines)
+}
+
+/// The text of the system of the facts that live.
+fn system_of<O: Order>(alloc: Global, closed: &Closed, book: &Book<O>) -> Result<Text, AllocError>
+    requires shelf { book.now.opening.shelf ≡ closed.now.shelf.now }
+    requires ended { HasEnded closed.now.symbols.now closed.now.command.now closed.now.problem.now closed.now.encoded.now closed.now.spec.now Saturated book.now.state }
+    ensures text { IfOk result (λ text. text ≡ system_text closed.now.symbols.now closed.now.spec.now (equations_of (live book.now.state.entries))) }
+    ensures promise { IfOk result (λ text. CanBePrinted closed.now.symbols.now closed.now.name.now closed.now.problem.now → Settles closed.now.symbols.now closed.now.problem.now closed.now.spec.now text) }
+{
+    let system = live_system(alloc, closed.shelf, book.front())?;
+    print_system(alloc, closed.spec, &system, closed.symbols)
+}
+
+/// The lines of a text, each with its line feed.
+fn lines_of(alloc: Global, text: &[u8]) -> Result<Seq<Text>, AllocError>
+    ensures { IfOk result (λ lines. joined lines ≡ text.now) }
+{
+    let mut lines = Seq::new(alloc);
+    for line in text.split_inclusive(|b| *b == b'\n') {
+        lines.push(Text::from_bytes(alloc, line)?)?;
+    }
+    Ok(lines)
+}

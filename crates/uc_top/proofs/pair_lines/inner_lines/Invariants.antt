@@ -1,7 +1,0 @@
-use Rattle.uc_top.proofs.PairLines.{BegunInner}
-use Rattle.uc_top.proofs.pair_lines.inner_lines.Given as goal
-
-abbrev pub invariant-loop-inner : goal.invariant-loop-inner
-invariant-loop-inner g l = record {
-  begun : BegunInner l.symbols (g.O.Order.meaning l.order) l.outer l.a l.equations l.inner l.lines;
-}

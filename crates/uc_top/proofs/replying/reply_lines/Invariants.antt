@@ -1,7 +1,0 @@
-use Rattle.std.proofs.Common.{◌≡◌, take}
-use Rattle.uc_top.specs.Lines.{joined}
-use Rattle.uc_top.specs.DecideAnswers.{reply_lines}
-use Rattle.uc_top.proofs.replying.reply_lines.Given as goal
-
-abbrev pub invariant-loop-reply : goal.invariant-loop-reply
-invariant-loop-reply l = (joined l.lines ≡ reply_lines l.symbols (take l.reply-index l.replies))

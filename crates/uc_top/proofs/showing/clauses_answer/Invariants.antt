@@ -1,6 +1,0 @@
-use Rattle.std.proofs.Common.{◌≡◌, ◌++◌, drop}
-use Rattle.uc_top.specs.Lines.{joined, shown_lines}
-use Rattle.uc_top.proofs.showing.clauses_answer.Given as goal
-
-abbrev pub invariant-loop-sourced : goal.invariant-loop-sourced
-invariant-loop-sourced l = joined l.lines ++ shown_lines l.symbols (drop l.sourced-index l.clauses) ≡ shown_lines l.symbols l.clauses

@@ -1,7 +1,0 @@
-use Rattle.uc_top.proofs.TraceTexts.{BegunTrace}
-use Rattle.uc_top.proofs.trace_lines.trace_lines.Given as goal
-
-abbrev pub invariant-loop-number : goal.invariant-loop-number
-invariant-loop-number l = record {
-  begun : BegunTrace l.history l.number l.lines;
-}

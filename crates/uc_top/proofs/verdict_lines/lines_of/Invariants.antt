@@ -1,8 +1,0 @@
-use Rattle.std.proofs.Common.{◌≡◌, ◌++◌}
-use Rattle.uc_top.specs.Lines.{joined}
-use Rattle.uc_top.proofs.verdict_lines.lines_of.Given as goal
-
-abbrev pub invariant-loop-line : goal.invariant-loop-line
-invariant-loop-line l = record {
-  begun : joined l.lines ++ l.line-iterator.rest.now ≡ l.text;
-}
