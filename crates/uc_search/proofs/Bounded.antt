@@ -19,7 +19,8 @@ use Rattle.uc_machine.specs.Runs.{Reaches, draws_on, goal_of, axiom_pairs, opene
 use Rattle.uc_machine.proofs.Runs.{kept_reaches}
 use Rattle.uc_runs.proofs.Replaying.{chains_replay}
 use Rattle.uc_search.specs.Working.{TakesTurn, Works, no_turn, one_more_turn}
-use Rattle.uc_search.specs.Searching.{AuditsAll, all_are_kept, one_is_kept, book_is_closed, EndsRound, is_closed_by, audits_missing, Rounds, gets_verdict, gets_drained, Searches, last_round, next_round, IsSearched}
+use Rattle.uc_search.proofs.InOrder.{AuditsAll, all_are_kept, one_is_kept, book_is_closed, audits_all}
+use Rattle.uc_search.specs.Searching.{EndsRound, is_closed_by, audits_missing, Rounds, gets_verdict, gets_drained, Searches, last_round, next_round, IsSearched}
 use Rattle.uc_search.specs.Bounds.{rounds_in, passes_of, passes_in, IsBounded}
 use Rattle.uc_search.proofs.Distinct.{few_distinct}
 use Rattle.uc_search.proofs.Loads.{dues, dues-few, unmets}
@@ -84,10 +85,10 @@ module _ (m : Meaning) (o : Opening) where
   end_fits a d _ _ (is_closed_by f converges) k = fits_closes a 0 _ d k
   end_fits a d _ _ (is_closed_by f has_large) k = fits_closes a 0 _ d k
   end_fits a d _ _ (is_closed_by f has_stuck) k = fits_closes a 0 _ d k
-  end_fits a d v u (audits_missing {missing = xs} f b) k = audits_fit a o xs d v u b k
+  end_fits a d v u (audits_missing {missing = xs} f b) k = audits_fit a o xs d v u (audits_all o xs d v u b) k
 
   more_ends_fit : (a : ℕ) (drained : State) (u : State) → EndsRound m o drained None u → Fits a drained → Fits (a + 1) u
-  more_ends_fit a d u (audits_missing {missing = xs} f b) k = more_audits_fit a o xs d u (no_missing m o.axioms d xs f) b k
+  more_ends_fit a d u (audits_missing {missing = xs} f b) k = more_audits_fit a o xs d u (no_missing m o.axioms d xs f) (audits_all o xs d None u b) k
 
   bounded : (s : State) → Rests m o s → Fits 0 s → IsBounded o s
   bounded s r f =

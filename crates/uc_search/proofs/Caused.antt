@@ -12,7 +12,6 @@ use Rattle.uc_machine.specs.declared.task.Finding.{Finding}
 use Rattle.uc_machine.specs.declared.task.Job.TheVariants.{Meet}
 use Rattle.uc_machine.specs.declared.task.Missing.{Missing}
 use Rattle.uc_machine.specs.declared.task.Outcome.{Outcome}
-use Rattle.uc_machine.specs.declared.task.Outcome.TheVariants.{Missing as Lacks}
 use Rattle.uc_machine.specs.Lists.{each}
 use Rattle.uc_machine.specs.State.{Opening, State, Out, out_at, waiting, is_unit}
 use Rattle.uc_machine.specs.Effects.{closes, drops, kills, visits}
@@ -20,14 +19,16 @@ use Rattle.uc_machine.specs.Draws.{Reply, Drained, Closed, Draws, verdict_stands
 use Rattle.uc_machine.specs.Commits.{GoalEnds, ends_meet, ends_differ, Meets, within_limit, past_limit, newly_waiting, stays, Commits, is_late, goal_ends, more_ends, pair_joins, fact_is_kept, fact_is_stale, fact_is_dead, fact_meets}
 use Rattle.uc_machine.specs.Finals.{IsFinal}
 use Rattle.uc_machine.specs.Promises.{CountsUnits}
-use Rattle.uc_machine.specs.Runs.{Reaches, draws_on, Starts, axioms_wait, too_many_axioms, opened, KeptAs, ClosedBy, Audits, is_closed, is_spent, Closes, converges, has_large, has_stuck, IsDrained}
+use Rattle.uc_machine.specs.Runs.{Reaches, draws_on, Starts, axioms_wait, too_many_axioms, opened, KeptAs, ClosedBy, Audits, is_closed, is_spent, Closes, converges, has_large, has_stuck, IsDrained, MayAudit}
 use Rattle.uc_machine.proofs.Runs.{kept_reaches}
 use Rattle.uc_machine.proofs.Promises.{counts_units, ends_pairs_once}
 use Rattle.uc_search.specs.Working.{CommitsResult, TakesTurn, Works, no_turn, one_more_turn}
-use Rattle.uc_search.specs.Searching.{AuditsAll, all_are_kept, one_is_kept, book_is_closed, EndsRound, is_closed_by, audits_missing, Rounds, gets_verdict, gets_drained, Searches, last_round, next_round, IsSearched}
-use Rattle.uc_search.specs.Causes.{AreUnaudited, waits_in_book, waits_for_audit, at_start, at_meeting, budget_is_spent as is_spent_all, pairs_are_too_many, overlap_is_large, goal_is_stuck, HasCauseIfStopped}
+use Rattle.uc_search.proofs.InOrder.{AuditsAll, one_is_kept, book_is_closed, audits_all}
+use Rattle.uc_search.specs.Searching.{EndsRound, is_closed_by, audits_missing, Rounds, gets_verdict, gets_drained, Searches, last_round, next_round, IsSearched}
+use Rattle.uc_runs.specs.Causes.{waits_in_book, waits_for_audit, at_start, at_meeting}
+use Rattle.uc_search.specs.Causes.{budget_is_spent as is_spent_all, pairs_are_too_many, overlap_is_large, goal_is_stuck, HasCauseIfStopped}
 use Rattle.uc_search.proofs.Turns.{leaves, Stays, at_one, kills_stay, visits_stay}
-use Rattle.uc_search.proofs.Rests.{Rests, audit_leaves, start_rests, works_rest, draws_one, drained_rests, closed_rests, round_rests, round_verdict}
+use Rattle.uc_search.proofs.Rests.{Rests, WereMissing, may_audit, missing_on, missing_first, audit_leaves, start_rests, works_rest, draws_one, drained_rests, closed_rests, round_rests, round_verdict}
 
 two_verdicts : {A : Type 0} (s : State) (v : Verdict) → s.verdict ≡ None → s.verdict ≡ Some v → A
 two_verdicts s v e f = absurd (cc)
@@ -38,11 +39,6 @@ all_counted o s k e l =
     let r : s.reserved ≡ 0 = k.reserved ∙ ap (λ ts. count_by (λ (t : Out). is_unit t.job) ts) e in
     let w : s.counted + s.reserved ≤ o.budget = k.within in
     omega arith
-
--- one more is audited and kept
-audits_more : (o : Opening) (done : List Missing) (x : Missing) (s u v : State) (n : ℕ) → AuditsAll o done s None u → Audits o x.fact u (KeptAs n) v → AuditsAll o (done ++ x ∷ []) s None v
-audits_more o _ x s _ v n all_are_kept b = one_is_kept b all_are_kept
-audits_more o _ x s u v n (one_is_kept {x = y} {xs = ys} {u = t} a rest) b = one_is_kept a (audits_more o ys x t u v n rest b)
 
 -- what waits, waits still where the book is closed
 waits_closed : (s : State) (w : ℕ) (v : Verdict) → Waits s → Waits (closes w v s)
@@ -81,7 +77,7 @@ module _ (m : Meaning) (o : Opening) where
   meets_told : (t : Out) (i pairs : ℕ) (does : State → State) (s u : State) → IsOutIn t s → t.job ≡ Meet i → ((x : State) → Stays x (does x)) → CommitsResult m o t s u → Meets o t i pairs does s u → Told u
   meets_told t i pairs does s _ e j d c (within_limit died a b) = untold _ ((d _).verdict ∙ e.open_)
   meets_told t i pairs does s _ e j d c (past_limit more a b) =
-      told_by _ (PairsOut (waiting s) more) refl (pairs_are_too_many {more = more} b (at_meeting {before = s} {fact = i} t j e.reaches e.open_ e.at c refl))
+      told_by _ (PairsOut (waiting s) more) refl (pairs_are_too_many {more = more} b (at_meeting {before = s} {fact = i} {finding = c.finding} t j e.reaches e.open_ e.at c.is_result c.commits refl))
 
   commit_told : (t : Out) (f : Finding) (s u : State) → IsOutIn t s → CommitsResult m o t s u → Commits o t f s u → Told u
   commit_told t f s _ e c (is_late v q) = two_verdicts s v e.open_ q
@@ -118,26 +114,16 @@ module _ (m : Meaning) (o : Opening) where
   closed_told w s _ _ t k (all_is_done l a b) = tt
 
   -- the audits of a drained book
-  audited_on : (x : Missing) (xs : List Missing) (s u : State) (n : ℕ) → AreUnaudited m o s (x ∷ xs) → Audits o x.fact s (KeptAs n) u → AreUnaudited m o u xs
-  audited_on x xs s u n a b = record {
-    drained = a.drained;
-    reaches = a.reaches;
-    is_drained = a.is_drained;
-    done = a.done ++ x ∷ [];
-    is_final = subst (λ (ms : List Missing). IsFinal m o.axioms a.drained (Lacks ms)) (sym (append_assoc a.done (x ∷ []) xs)) a.is_final;
-    audited = audits_more o a.done x a.drained s u n a.audited b;
-  }
-
-  audit_cause : (xs : List Missing) (x : Missing) (s u : State) (v : Verdict) → s.verdict ≡ None → AreUnaudited m o s (x ∷ xs) → Rests m o u → Audits o x.fact s (ClosedBy v) u → HasCauseIfStopped m o u v
-  audit_cause xs x s _ v e a r (is_closed _ f) = two_verdicts s v e f
-  audit_cause xs x s _ _ e a r (is_spent f c) =
+  audit_cause : (x : Missing) (s u : State) (v : Verdict) → s.verdict ≡ None → MayAudit m o s x → Rests m o u → Audits o x.fact s (ClosedBy v) u → HasCauseIfStopped m o u v
+  audit_cause x s _ v e a r (is_closed _ f) = two_verdicts s v e f
+  audit_cause x s _ _ e a r (is_spent f c) =
       let u : State = closes 0 (BudgetOut s.counted) s in
       let kept = kept_reaches m o u r.reaches in
-      is_spent_all c (counts_units o u kept).counted (ends_pairs_once o u kept) r.none_out (waits_for_audit {before = s} {rest = xs} x a refl)
+      is_spent_all c (counts_units o u kept).counted (ends_pairs_once o u kept) r.none_out (waits_for_audit {before = s} x a e refl)
 
-  audits_told : (xs : List Missing) (s : State) (v : Verdict) (u : State) → s.verdict ≡ None → AreUnaudited m o s xs → Rests m o u → AuditsAll o xs s (Some v) u → HasCauseIfStopped m o u v
-  audits_told _ s v t e a r (one_is_kept {x = x} {xs = xs} {u = u} {n = n} b rest) = audits_told xs u v t (audit_leaves o x s u (KeptAs n) b) (audited_on x xs s u n a b) r rest
-  audits_told _ s v _ e a r (book_is_closed {x = x} {xs = xs} {u = u} b) = audit_cause xs x s u v e a r b
+  audits_told : (drained : State) (all xs : List Missing) (s : State) (v : Verdict) (u : State) → s.verdict ≡ None → WereMissing m o drained all xs s → Rests m o u → AuditsAll o xs s (Some v) u → HasCauseIfStopped m o u v
+  audits_told drained all _ s v t e a r (one_is_kept {x = x} {xs = xs} {u = u} {n = n} b rest) = audits_told drained all xs u v t (audit_leaves o x s u (KeptAs n) b) (missing_on m o drained all xs x s u (KeptAs n) a b) r rest
+  audits_told drained all _ s v _ e a r (book_is_closed {x = x} {xs = xs} {u = u} b) = audit_cause x s u v e (may_audit m o drained all xs x s a) r b
 
   close_told : (drained : State) (outcome : Outcome) (v : Verdict) (u : State) → IsDrained drained → IsFinal m o.axioms drained outcome → Closes drained outcome v u → HasCauseIfStopped m o u v
   close_told d _ _ _ i f converges = tt
@@ -147,7 +133,7 @@ module _ (m : Meaning) (o : Opening) where
   end_told : (drained : State) (v : Verdict) (u : State) → Rests m o drained → IsDrained drained → Rests m o u → EndsRound m o drained (Some v) u → HasCauseIfStopped m o u v
   end_told d v u k i r (is_closed_by {outcome = outcome} f c) = close_told d outcome v u i f c
   end_told d v u k i r (audits_missing {missing = xs} f a) =
-      audits_told xs d v u i.none_unmet.none_due.open_ (record { drained = d; reaches = k.reaches; is_drained = i; done = []; is_final = f; audited = all_are_kept }) r a
+      audits_told d xs xs d v u i.none_unmet.none_due.open_ (missing_first m o d xs k.reaches i f) r (audits_all o xs d (Some v) u a)
 
   module _ (w : ℕ) (few : w < 65) where
     turn_told : (s u : State) → Rests m o s → TakesTurn m o w s u → Told u

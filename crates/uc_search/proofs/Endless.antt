@@ -23,7 +23,8 @@ use Rattle.uc_machine.specs.Commits.{GoalEnds, ends_meet, ends_differ, Meets, wi
 use Rattle.uc_machine.specs.Runs.{KeptAs, Audits, is_kept}
 use Rattle.uc_search.specs.declared.working.Turn.TheVariants.{Worked}
 use Rattle.uc_search.specs.Working.{TakesTurn, TurnsTo, takes_turn, Works, no_turn, one_more_turn}
-use Rattle.uc_search.specs.Searching.{AuditsAll, all_are_kept, one_is_kept, EndsRound, audits_missing, Rounds, gets_drained}
+use Rattle.uc_search.proofs.InOrder.{AuditsAll, all_are_kept, one_is_kept, audits_all}
+use Rattle.uc_search.specs.Searching.{EndsRound, audits_missing, Rounds, gets_drained}
 use Rattle.uc_search.proofs.Counting.{draw_commits, commit_commits}
 
 -- TURNS
@@ -107,7 +108,7 @@ no_missing m axioms s xs (some_missing a t ne) = ne
 
 module _ (m : Meaning) (o : Opening) where
   ended_counted : (s u : State) → EndsRound m o s None u → s.counted + 1 ≤ u.counted
-  ended_counted s u (audits_missing {missing = xs} f a) = more_kept o xs s u (no_missing m o.axioms s xs f) a
+  ended_counted s u (audits_missing {missing = xs} f a) = more_kept o xs s u (no_missing m o.axioms s xs f) (audits_all o xs s None u a)
 
   module _ (w : ℕ) where
     works_counted : (s u : State) → Works m o w s u → s.counted ≤ u.counted

@@ -1,4 +1,5 @@
 pub mod Turns
+pub mod InOrder
 pub mod Counting
 pub mod Passes
 pub mod Alone

@@ -14,7 +14,8 @@ use Rattle.uc_machine.proofs.OneDraw.{one_draw}
 use Rattle.uc_machine.proofs.OneCall.{one_commit, one_audit, one_close, one_start}
 use Rattle.uc_runs.proofs.OneResult.{one_result, one_final}
 use Rattle.uc_search.specs.Working.{CommitsResult, TakesTurn, Works, no_turn, one_more_turn, WorksUntil}
-use Rattle.uc_search.specs.Searching.{AuditsAll, all_are_kept, one_is_kept, book_is_closed, EndsRound, is_closed_by, audits_missing, Rounds, gets_verdict, gets_drained, Searches, last_round, next_round, IsSearched}
+use Rattle.uc_search.proofs.InOrder.{AuditsAll, all_are_kept, one_is_kept, book_is_closed, audits_all}
+use Rattle.uc_search.specs.Searching.{EndsRound, is_closed_by, audits_missing, Rounds, gets_verdict, gets_drained, Searches, last_round, next_round, IsSearched}
 
 -- the answer isn't a task
 abbrev IsNoTask : Reply → Type 0
@@ -82,7 +83,7 @@ module _ (m : Meaning) (laws : Laws m) (o : Opening) where
       no_close s xs q v (subst (λ (z : Outcome). Closes s z q v) e d)
   one_end s a b u v (audits_missing {missing = xs} f c) (audits_missing {missing = ys} g d) =
       let e : xs ≡ ys = same_missing xs ys (one_final m laws o.axioms s (Lacks xs) (Lacks ys) f g) in
-      one_audits o xs s a b u v c (subst (λ (zs : List Missing). AuditsAll o zs s b v) (sym e) d)
+      one_audits o xs s a b u v (audits_all o xs s a u c) (subst (λ (zs : List Missing). AuditsAll o zs s b v) (sym e) (audits_all o ys s b v d))
 
   one_result_commits : (t : Out) (s u v : State) → CommitsResult m o t s u → CommitsResult m o t s v → u ≡ v
   one_result_commits t s u v a b =

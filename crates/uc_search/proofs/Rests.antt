@@ -10,7 +10,8 @@ use Rattle.uc_machine.specs.Draws.{Drew, Drained, Closed}
 use Rattle.uc_machine.specs.Finals.{IsFinal}
 use Rattle.uc_machine.specs.Runs.{Reaches, starts, draws_on, commits_on, audits_on, closes_on, Starts, axioms_wait, too_many_axioms, AuditReply, KeptAs, ClosedBy, Audits, is_closed, is_spent, is_kept, Closes, converges, has_large, has_stuck, IsDrained, AreAudited, none_yet, one_more, MayAudit, is_next}
 use Rattle.uc_search.specs.Working.{TakesTurn, Works, no_turn, one_more_turn, WorksUntil}
-use Rattle.uc_search.specs.Searching.{AuditsAll, all_are_kept, one_is_kept, book_is_closed, EndsRound, is_closed_by, audits_missing, Rounds, gets_verdict, gets_drained, Searches, last_round, next_round, IsSearched}
+use Rattle.uc_search.proofs.InOrder.{AuditsAll, all_are_kept, one_is_kept, book_is_closed, audits_all}
+use Rattle.uc_search.specs.Searching.{EndsRound, is_closed_by, audits_missing, Rounds, gets_verdict, gets_drained, Searches, last_round, next_round, IsSearched}
 use Rattle.uc_search.proofs.Turns.{leaves, at_one, one_commits}
 
 pub audit_out : (o : Opening) (x : Missing) (s u : State) (r : AuditReply) → Audits o x.fact s r u → u.out ≡ s.out
@@ -37,12 +38,6 @@ pub audit_leaves : (o : Opening) (x : Missing) (s u : State) (r : AuditReply) �
 audit_leaves o x s _ _ (is_closed v e) = e
 audit_leaves o x s _ _ (is_spent e c) = refl
 audit_leaves o x s _ _ (is_kept e c) = e
-
--- where audits end
-pub audits_end : (o : Opening) (xs : List Missing) (s : State) (v : Option Verdict) (u : State) → s.verdict ≡ None → AuditsAll o xs s v u → u.verdict ≡ v
-audits_end o _ s _ _ e all_are_kept = e
-audits_end o _ s v t e (one_is_kept {x = x} {xs = xs} {u = u} {n = n} a rest) = audits_end o xs u v t (audit_leaves o x s u (KeptAs n) a) rest
-audits_end o _ s _ _ e (book_is_closed {x = x} {u = u} {v = v} a) = audit_leaves o x s u (ClosedBy v) a
 
 -- audits leave what is out
 pub audits_none : (o : Opening) (xs : List Missing) (s : State) (v : Option Verdict) (u : State) → AuditsAll o xs s v u → u.out ≡ s.out
@@ -88,15 +83,15 @@ module _ (m : Meaning) (o : Opening) where
 
   pub end_rests : (drained : State) (v : Option Verdict) (u : State) → IsDrained drained → Rests drained → EndsRound m o drained v u → Rests u
   end_rests d _ u i r (is_closed_by {outcome = outcome} {v = v} f c) = record { reaches = closes_on i f r.reaches c; none_out = close_out d u outcome v c ∙ r.none_out }
-  end_rests d v u i r (audits_missing {missing = xs} f a) = audits_rest d xs xs d v u (missing_first d xs r.reaches i f) r a
+  end_rests d v u i r (audits_missing {missing = xs} f a) = audits_rest d xs xs d v u (missing_first d xs r.reaches i f) r (audits_all o xs d v u a)
 
   pub end_verdict : (drained : State) (v : Option Verdict) (u : State) → IsDrained drained → EndsRound m o drained v u → u.verdict ≡ v
   end_verdict d _ u i (is_closed_by {outcome = outcome} {v = v} f c) = close_verdict d u outcome v c
-  end_verdict d v u i (audits_missing {missing = xs} f a) = audits_end o xs d v u i.none_unmet.none_due.open_ a
+  end_verdict d v u i (audits_missing {missing = xs} f a) = a.verdict
 
   end_none : (drained : State) (v : Option Verdict) (u : State) → drained.out ≡ [] → EndsRound m o drained v u → u.out ≡ []
   end_none d _ u e (is_closed_by {outcome = outcome} {v = v} f c) = close_out d u outcome v c ∙ e
-  end_none d v u e (audits_missing {missing = xs} f a) = audits_none o xs d v u a ∙ e
+  end_none d v u e (audits_missing {missing = xs} f a) = audits_none o xs d v u (audits_all o xs d v u a) ∙ e
 
   module _ (w : ℕ) where
     -- the draw of a turn, where no task is out before it

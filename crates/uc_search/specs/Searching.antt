@@ -1,5 +1,5 @@
 -- How one worker searches alone: round after round, until the book has a verdict.
-use Rattle.std.specs.Prelude.{ℕ, List, [], ◌∷◌, Option, Some, None}
+use Rattle.std.specs.Prelude.{◌≡◌, ℕ, List, [], Option, Some, None}
 use Rattle.uc_order.specs.Laws.{Meaning}
 use Rattle.uc_machine.specs.declared.event.Verdict.{Verdict}
 use Rattle.uc_machine.specs.declared.task.Missing.{Missing}
@@ -8,14 +8,16 @@ use Rattle.uc_machine.specs.declared.task.Outcome.TheVariants.{Missing as Lacks}
 use Rattle.uc_machine.specs.State.{Opening, State}
 use Rattle.uc_machine.specs.Draws.{Drained, Closed}
 use Rattle.uc_machine.specs.Finals.{IsFinal}
-use Rattle.uc_machine.specs.Runs.{KeptAs, ClosedBy, Starts, Audits, Closes}
+use Rattle.uc_machine.specs.Runs.{Starts, AreAudited, Closes}
 use Rattle.uc_search.specs.Working.{WorksUntil}
 
--- Each missing equation is audited, in order, until the book has a verdict, if it gets one.
-pub data AuditsAll (o : Opening) : List Missing → State → Option Verdict → State → Type 0 where
-  all_are_kept : {s : State} → AuditsAll o [] s None s
-  one_is_kept : {x : Missing} {xs : List Missing} {s u t : State} {n : ℕ} {v : Option Verdict} → Audits o x.fact s (KeptAs n) u → AuditsAll o xs u v t → AuditsAll o (x ∷ xs) s v t
-  book_is_closed : {x : Missing} {xs : List Missing} {s u : State} {v : Verdict} → Audits o x.fact s (ClosedBy v) u → AuditsAll o (x ∷ xs) s (Some v) u
+-- These equations, which were missing when the book was drained, are audited in order: all of them, or until the book has a verdict.
+pub record AuditsMissing (o : Opening) (all : List Missing) (drained : State) (v : Option Verdict) (new : State) : Type 0 where
+  pub open_ : drained.verdict ≡ None
+  pub left : List Missing
+  pub audited : AreAudited o all drained left new
+  pub verdict : new.verdict ≡ v
+  pub whole : v ≡ None → left ≡ []
 
 -- By this order, in a book with this opening.
 module _ (m : Meaning) (o : Opening) where
@@ -23,7 +25,7 @@ module _ (m : Meaning) (o : Opening) where
   -- answer, the book is closed by it.
   pub data EndsRound (drained : State) : Option Verdict → State → Type 0 where
     is_closed_by : {outcome : Outcome} {v : Verdict} {new : State} → IsFinal m o.axioms drained outcome → Closes drained outcome v new → EndsRound drained (Some v) new
-    audits_missing : {missing : List Missing} {v : Option Verdict} {new : State} → IsFinal m o.axioms drained (Lacks missing) → AuditsAll o missing drained v new → EndsRound drained v new
+    audits_missing : {missing : List Missing} {v : Option Verdict} {new : State} → IsFinal m o.axioms drained (Lacks missing) → AuditsMissing o missing drained v new → EndsRound drained v new
 
 -- By this order, in a book with this opening, the worker of this number.
 module _ (m : Meaning) (o : Opening) (w : ℕ) where

@@ -8,7 +8,7 @@ ghost use Rattle.uc_machine.specs.Finals.{IsFinal};
 ghost use Rattle.uc_machine.specs.Runs.{IsDrained, Reaches};
 ghost use Rattle.uc_machine.specs.declared.task.Outcome.TheVariants.{Missing as Lacks};
 ghost use Rattle.uc_search.specs.Working.{Counts, IsSamePass};
-ghost use Rattle.uc_search.specs.Searching.{AuditsAll, EndsRound, Searches};
+ghost use Rattle.uc_search.specs.Searching.{AuditsMissing, EndsRound, Searches};
 ghost use Rattle.uc_search.specs.Bounds.{CountedRound, CountedSearch, counted_on};
 
 use crate::working::{Ended, has_few_commits, work_alone};
@@ -174,7 +174,7 @@ fn audit_all<R: Wait, O: Order>(
 ) -> Result<Option<Verdict>, AllocError>
     requires drained { IsDrained book.old.state }
     requires missing { IsFinal (O.meaning book.old.order) book.old.opening.problem.axioms book.old.state (Lacks all) }
-    ensures audited { IfOk result (λ verdict. AuditsAll (opening_of book.old.opening) all book.old.state verdict book.new.state) }
+    ensures audited { IfOk result (λ verdict. AuditsMissing (opening_of book.old.opening) all book.old.state verdict book.new.state) }
     ensures verdict { IfOk result (λ verdict. book.new.state.verdict ≡ verdict) }
     ensures out { book.new.state.out ≡ book.old.state.out }
     ensures commits { (w : ℕ) → commits_by w book.new.state.history ≡ commits_by w book.old.state.history }

@@ -2,7 +2,7 @@ use Rattle.std.proofs.Common.{sym, ◌∙◌}
 use Rattle.std.proofs.lemmas.Result.{IfOk-weaker}
 use Rattle.uc_machine.specs.declared.task.Outcome.TheVariants.{Missing as Lacks}
 use Rattle.uc_book.specs.Openings.{opening_of}
-use Rattle.uc_search.specs.Searching.{AuditsAll, EndsRound, audits_missing}
+use Rattle.uc_search.specs.Searching.{AuditsMissing, EndsRound, audits_missing}
 use Rattle.uc_search.proofs.RoundEnds.{final_moved, has_closed}
 use Rattle.uc_search.proofs.rounds.end_round.Goals as goal
 
@@ -11,7 +11,7 @@ returns-in-Ok-clause-ends g c =
     let b = c.args.book.now in
     let f = c.in_ok-outcome.ensures.outcome b.state (sym c.front-front.ensures.entries) (sym (c.as_slice.ensures.value ∙ c.in_ok-stages.ensures.stages)) in
     let lacks = final_moved g.O.Order.meaning b.order c.args.order.now b.opening.problem.axioms c.axioms-axioms.result.now b.state c.in_ok-outcome.outcome (Lacks c.in-Ok.all) c.requires.order (sym c.axioms-axioms.ensures.axioms) c.in-Ok.ensures.missing f in
-    IfOk-weaker c.audit_all.result (λ v. AuditsAll (opening_of b.opening) c.in-Ok.all b.state v c.audit_all.new.book.state) (λ v. EndsRound (g.O.Order.meaning b.order) (opening_of b.opening) b.state v c.audit_all.new.book.state) (λ v a. audits_missing lacks a) c.audit_all.ensures.audited
+    IfOk-weaker c.audit_all.result (λ v. AuditsMissing (opening_of b.opening) c.in-Ok.all b.state v c.audit_all.new.book.state) (λ v. EndsRound (g.O.Order.meaning b.order) (opening_of b.opening) b.state v c.audit_all.new.book.state) (λ v a. audits_missing lacks a) c.audit_all.ensures.audited
 
 pub returns-clause-ends : goal.returns-clause-ends
 returns-clause-ends g c =
