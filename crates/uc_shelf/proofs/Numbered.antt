@@ -1,18 +1,15 @@
 -- What a front keeps beside its places tells where a fact of a number is born, and whether it is dead.
-use Rattle.std.proofs.Common.{◌≡◌, ℕ, zero, suc, ◌==◌, ◌+◌, ◌<◌, ◌≤◌, ◌^◌, Bool, true, false, List, [], ◌∷◌, ◌++◌, length, slice_get, Option, Some, None, MatchOption, refl, sym, ap, ◌∙◌, arith, append-nil, subst}
+use Rattle.std.proofs.Common.{◌≡◌, ℕ, zero, suc, ◌==◌, ◌+◌, ◌<◌, Bool, true, false, List, [], ◌∷◌, ◌++◌, length, slice_get, Option, Some, None, refl, sym, ap, ◌∙◌, arith, append-nil, subst}
 use Rattle.std.specs.Prelude.{◌||◌, IsSome}
-use Rattle.std.proofs.lemmas.List.{map-append, length-map, length-append}
-use Rattle.std.specs.declared.sync.Arc.{Arc}
+use Rattle.std.proofs.lemmas.List.{map-append, length-map}
 use Rattle.boxcar.specs.Table.{Where}
-use Rattle.uc_term.specs.declared.equation.Equation.{Equation}
 use Rattle.uc_fact.specs.declared.fact.Fact.{Fact}
 use Rattle.uc_fact.specs.Live.{fact_at, numbered_from, equation_of}
 use Rattle.uc_shelf.specs.declared.entry.Entry.{Entry}
 use Rattle.uc_shelf.specs.declared.entry.Entry.TheVariants.{Born, Dies}
-use Rattle.uc_shelf.specs.Entries.{born, is_dead, equations, live}
+use Rattle.uc_shelf.specs.Entries.{born, is_dead, equations}
 use Rattle.uc_shelf.specs.Numbers.{births_from, is_among, AreDead, dying, Notes}
 use Rattle.uc_shelf.specs.Sights.{entries_at}
-use Rattle.uc_shelf.proofs.Viewed.{same_if_alive}
 
 from_zero : (n : ℕ) → 0 + n ≡ n
 from_zero n = omega arith
@@ -49,17 +46,14 @@ noted_more es (Dies f l) bs ds bs' ds' b d h = (
   λ n. dead_more es (Dies f l) n ∙ ap (λ z. z || is_dead es n) (sym (or_nothing (f == n))) ∙ ap (λ z. (f == n) || z) (d n) ∙ sym (h.1 n),
 )
 
-pub still_few : {X : Type 0} (xs : List X) (x : X) → length xs < 2 ^ 31 → length (xs ++ x ∷ []) ≤ 2 ^ 31
-still_few xs x few = let more = length-append xs (x ∷ []) in omega (arith, few, more)
-
-pub noted : {Z : Type 0} (ps : List (Arc (Where Entry) Z)) (p : Arc (Where Entry) Z) (e : Entry) (dies : Option ℕ) (k : ℕ) (bs ds bs' ds' : List ℕ)
-    → p.value.value ≡ e → dies ≡ dying e → k ≡ length ps → bs ≡ births_from 0 (entries_at ps) → AreDead (entries_at ps) ds
+pub noted : (ps : List (Where Entry)) (p : Where Entry) (dies : Option ℕ) (k : ℕ) (bs ds bs' ds' : List ℕ)
+    → dies ≡ dying p.value → k ≡ length ps → bs ≡ births_from 0 (entries_at ps) → AreDead (entries_at ps) ds
     → Notes k dies bs ds bs' ds' → (bs' ≡ births_from 0 (entries_at (ps ++ p ∷ []))) × AreDead (entries_at (ps ++ p ∷ [])) ds'
-noted {Z = Z} ps p e dies k bs ds bs' ds' is named long b d h =
-    let f : Arc (Where Entry) Z → Entry = λ q. q.value.value in
+noted ps p dies k bs ds bs' ds' named long b d h =
+    let f : Where Entry → Entry = λ q. q.value in
     let m : k ≡ length (entries_at ps) = long ∙ sym (length-map ps f) in
-    let at : entries_at (ps ++ p ∷ []) ≡ entries_at ps ++ e ∷ [] = map-append f ps (p ∷ []) ∙ ap (λ z. entries_at ps ++ z ∷ []) is in
-    let more = noted_more (entries_at ps) e bs ds bs' ds' b d (subst (λ z. Notes z (dying e) bs ds bs' ds') m (subst (λ z. Notes k z bs ds bs' ds') named h)) in
+    let at : entries_at (ps ++ p ∷ []) ≡ entries_at ps ++ p.value ∷ [] = map-append f ps (p ∷ []) in
+    let more = noted_more (entries_at ps) p.value bs ds bs' ds' b d (subst (λ z. Notes z (dying p.value) bs ds bs' ds') m (subst (λ z. Notes k z bs ds bs' ds') named h)) in
     subst (λ z. (bs' ≡ births_from 0 z) × AreDead z ds') (sym at) more
 
 -- the birth of a fact
@@ -129,26 +123,6 @@ birth_inside es i j h =
     let b = born_at es 0 0 i j (sym h) in
     let l = get_inside es b.place (Born b.fact) b.is in
     omega (arith, l, b.here)
-
--- a fact that isn't born isn't found
-pub none_if_unborn : (es : List Entry) (i : ℕ) → is_dead es i ≡ false → None ≡ slice_get (births_from 0 es) i → fact_at (live es) i ≡ None
-none_if_unborn es i alive h = same_if_alive es i (numbered_from 0 (equations es)) alive ∙ ap (fact_at (numbered_from 0 (equations es))) (sym (from_zero i)) ∙ not_born es 0 0 i (sym h)
-
-of_born : {S : Type 0} (es : List Entry) (i : ℕ) (f : Fact) (e : Entry) (of : S → Equation) (o : Option S) → e ≡ Born f
-    → fact_at (live es) i ≡ Some (equation_of f) → MatchOption o (equations (e ∷ []) ≡ []) (λ s. equations (e ∷ []) ≡ of s ∷ [])
-    → MatchOption o (fact_at (live es) i ≡ None) (λ s. fact_at (live es) i ≡ Some (of s))
-of_born es i f e of None is found h = (let none : equation_of f ∷ [] ≡ [] = sym (ap (λ z. equations (z ∷ [])) is) ∙ h in absurd (cc))
-of_born es i f e of (Some s) is found h = (let one : equation_of f ∷ [] ≡ of s ∷ [] = sym (ap (λ z. equations (z ∷ [])) is) ∙ h in let same : equation_of f ≡ of s = cc in found ∙ ap (λ z. Some z) same)
-
--- what is read at a fact's birth are its sides
-pub sides_at_birth : {S : Type 0} (es : List Entry) (i j : ℕ) (e : Entry) (of : S → Equation) (o : Option S) → is_dead es i ≡ false
-    → Some j ≡ slice_get (births_from 0 es) i → Some e ≡ slice_get es j
-    → MatchOption o (equations (e ∷ []) ≡ []) (λ s. equations (e ∷ []) ≡ of s ∷ [])
-    → MatchOption o (fact_at (live es) i ≡ None) (λ s. fact_at (live es) i ≡ Some (of s))
-sides_at_birth es i j e of o alive birth at h =
-    let b = born_at es 0 0 i j (sym birth) in
-    let same : Some e ≡ Some (Born b.fact) = at ∙ ap (slice_get es) (b.here ∙ from_zero b.place) ∙ b.is in
-    of_born es i b.fact e of o (let r : e ≡ Born b.fact = cc in r) (same_if_alive es i (numbered_from 0 (equations es)) alive ∙ ap (fact_at (numbered_from 0 (equations es))) (sym (from_zero i)) ∙ b.found) h
 
 -- the fact of a number
 

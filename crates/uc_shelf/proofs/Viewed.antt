@@ -1,5 +1,5 @@
 -- What is found by looking through the entries of a front.
-use Rattle.std.proofs.Common.{◌≡◌, ℕ, zero, suc, ◌==◌, ◌+◌, ◌≤◌, Bool, true, false, cond, List, [], ◌∷◌, ◌++◌, length, drop, slice_get, Option, Some, None, if◌then◌else◌, MatchOption, refl, sym, ap, ◌∙◌, arith, append_assoc, append-nil, subst, inl, inr}
+use Rattle.std.proofs.Common.{◌≡◌, ℕ, zero, suc, ◌==◌, ◌+◌, ◌≤◌, Bool, true, false, List, [], ◌∷◌, ◌++◌, length, drop, slice_get, Option, Some, None, if◌then◌else◌, refl, sym, ap, ◌∙◌, arith, append_assoc, append-nil, subst, inl, inr}
 use Rattle.std.specs.Prelude.{not, filter}
 use Rattle.std.proofs.lemmas.Bool.{cases_Bool, eqb-true}
 use Rattle.std.proofs.Math.ListN.{drop_of_length-le}
@@ -7,7 +7,7 @@ use Rattle.uc_term.specs.declared.equation.Side.{Side}
 use Rattle.uc_term.specs.declared.equation.Side.TheVariants.{Left, Right}
 use Rattle.uc_term.specs.Tree.{Tree}
 use Rattle.uc_term.specs.Equations.{side_of}
-use Rattle.uc_unify.specs.Matching.{IsMatch, HasNoMatch}
+use Rattle.uc_unify.specs.Matching.{HasNoMatch}
 use Rattle.uc_fact.specs.declared.fact.Fact.{Fact}
 use Rattle.uc_fact.specs.declared.index.Found.{Found}
 use Rattle.uc_fact.specs.Live.{Live, Rule, fact_at, numbered_from, rule_of, rules_of, equation_of}
@@ -15,11 +15,10 @@ use Rattle.uc_fact.specs.Retrieval.{Generalises, no_rules, is_instance, is_no_in
 use Rattle.uc_shelf.specs.declared.entry.Entry.{Entry}
 use Rattle.uc_shelf.specs.declared.entry.Entry.TheVariants.{Born, Dies}
 use Rattle.uc_shelf.specs.Entries.{born, is_dead, equations, living}
-use Rattle.uc_shelf.specs.Viewing.{Adds, FindsOnly, rule_if_lives}
+use Rattle.uc_shelf.specs.Viewing.{rule_if_lives}
 use Rattle.std.specs.Prelude.{Result, Ok, Err, OnErr}
 use Rattle.uc_term.specs.Subst.{image}
 use Rattle.uc_fact.specs.Against.{HasMatch}
-use Rattle.uc_fact.proofs.Matched.{one_match}
 
 -- the entry of a number and what stands behind it
 pub drop_at : (es : List Entry) (k : ℕ) (e : Entry) → Some e ≡ slice_get es k → drop k es ≡ e ∷ drop (k + 1) es
@@ -36,7 +35,7 @@ pub numbered_split : (n : ℕ) (e : Entry) (es : List Entry) → numbered_from n
 numbered_split n (Born f) es = refl
 numbered_split n (Dies f k) es = ap (λ m. numbered_from m (equations es)) (let e : n ≡ n + 0 = omega arith in e)
 
-filtered : (p : Live → Bool) (xs ys : List Live) → filter p (xs ++ ys) ≡ filter p xs ++ filter p ys
+pub filtered : (p : Live → Bool) (xs ys : List Live) → filter p (xs ++ ys) ≡ filter p xs ++ filter p ys
 filtered p [] ys = refl
 filtered p (x ∷ xs) ys = elim (cases_Bool (p x)) as (λ _. filter p (x ∷ (xs ++ ys)) ≡ filter p (x ∷ xs) ++ filter p ys) [
   | inl b ↦ rw b (ap (λ z. x ∷ z) (filtered p xs ys))
@@ -46,7 +45,7 @@ filtered p (x ∷ xs) ys = elim (cases_Bool (p x)) as (λ _. filter p (x ∷ (xs
 pub living_split : (all : List Entry) (n : ℕ) (e : Entry) (es : List Entry) → living all n (e ∷ es) ≡ living all n (e ∷ []) ++ living all (n + length (born (e ∷ []))) es
 living_split all n e es = ap (filter (λ (f : Live). not (is_dead all f.number))) (numbered_split n e es) ∙ filtered (λ (f : Live). not (is_dead all f.number)) (numbered_from n (equations (e ∷ []))) (numbered_from (n + length (born (e ∷ []))) (equations es))
 
-rules_split : (xs ys : List Live) → rules_of (xs ++ ys) ≡ rules_of xs ++ rules_of ys
+pub rules_split : (xs ys : List Live) → rules_of (xs ++ ys) ≡ rules_of xs ++ rules_of ys
 rules_split [] ys = refl
 rules_split (x ∷ xs) ys = ap (λ z. rule_of Left x ∷ rule_of Right x ∷ z) (rules_split xs ys)
 
@@ -62,12 +61,6 @@ both_sides all n f = elim (cases_Bool (is_dead all n)) as (λ _. rules_of (livin
   | inl b ↦ rw b refl
   | inr b ↦ rw b refl
 ]
-
-pub no_rule : (all : List Entry) (side : Side) (n : ℕ) (f : Fact) → is_dead all n ≡ true → rule_if_lives all side n f ≡ []
-no_rule all side n f h = rw h refl
-
-pub one_rule : (all : List Entry) (side : Side) (n : ℕ) (f : Fact) → is_dead all n ≡ false → rule_if_lives all side n f ≡ rule_of side (record { number = n; equation = equation_of f }) ∷ []
-one_rule all side n f h = rw h refl
 
 -- the fact of a number
 
@@ -94,16 +87,6 @@ same_if_alive all i (f ∷ fs) h = elim (cases_Bool (is_dead all f.number)) as (
   ])
 ]
 
--- matches
-
-pub match_some : (p q t : Tree) (o : Option (List (ℕ × Tree))) (pairs : List (ℕ × Tree)) → MatchOption o (HasNoMatch p t) (IsMatch p t) → o ≡ Some pairs → p ≡ q → IsMatch q t pairs
-match_some p q t None pairs m e f = absurd cc
-match_some p q t (Some ps) pairs m e f = subst (λ z. IsMatch z t pairs) f (subst (λ z. IsMatch p t z) (let h : ps ≡ pairs = cc in h) m)
-
-pub match_none : (p q t : Tree) (o : Option (List (ℕ × Tree))) → MatchOption o (HasNoMatch p t) (IsMatch p t) → o ≡ None → p ≡ q → HasNoMatch q t
-match_none p q t None m e f = subst (λ z. HasNoMatch z t) f m
-match_none p q t (Some ps) m e f = absurd cc
-
 pub err_of : {T E : Type 0} (r : Result T E) (P : Type 0) → P → OnErr r P
 err_of (Ok x) P p = tt
 err_of (Err e) P p = p
@@ -112,20 +95,10 @@ pub answered : (Accepted : Found → Type 0) (t : Tree) (rules : List Rule) (a b
 answered Accepted t rules a b e f = subst (FirstThat Accepted t rules) e f
 
 module _ (t : Tree) where
-  joined : (xs ys : List Rule) (ls ms : List Found) → Generalises t xs ls → Generalises t ys ms → Generalises t (xs ++ ys) (ls ++ ms)
+  pub joined : (xs ys : List Rule) (ls ms : List Found) → Generalises t xs ls → Generalises t ys ms → Generalises t (xs ++ ys) (ls ++ ms)
   joined [] ys ls ms no_rules h = h
   joined (x ∷ xs) ys _ ms (is_instance {list = ls} m g) h = is_instance m (joined xs ys ls ms g h)
   joined (x ∷ xs) ys ls ms (is_no_instance n g) h = is_no_instance n (joined xs ys ls ms g h)
-
-  pub adds_nothing : (old : List Found) → Adds t [] old old
-  adds_nothing old = record { list = []; new_is = sym (append-nil old); generalises = no_rules }
-
-  pub adds_both : (xs ys : List Rule) (old middle new : List Found) → Adds t xs old middle → Adds t ys middle new → Adds t (xs ++ ys) old new
-  adds_both xs ys old middle new a b = record {
-    list = a.list ++ b.list;
-    new_is = b.new_is ∙ ap (λ l. l ++ b.list) a.new_is ∙ append_assoc old a.list b.list;
-    generalises = joined xs ys a.list b.list a.generalises b.generalises;
-  }
 
   -- nothing is found by a part of the rules, where nothing is found by all
 
@@ -147,12 +120,12 @@ module _ (t : Tree) where
     pub gives : (rest : List Found) → Generalises t left rest → Generalises t all (list ++ rest)
     pub nothing : Generalises t all [] → Generalises t left []
 
-  pub ahead_on : (all left these later : List Rule) (old new : List Found) → left ≡ these ++ later → Adds t these old new → Ahead all left old → Ahead all later new
-  ahead_on all left these later old new at a s = record {
-    gives = λ rest g. (
-        let more : Generalises t all (old ++ (a.list ++ rest)) = s.gives (a.list ++ rest) (subst (λ r. Generalises t r (a.list ++ rest)) (sym at) (joined these later a.list rest a.generalises g)) in
-        subst (Generalises t all) (sym (append_assoc old a.list rest) ∙ ap (λ l. l ++ rest) (sym a.new_is)) more);
-    nothing = λ g. nothing_right these later (subst (λ r. Generalises t r []) at (s.nothing g));
+  pub ahead_on : (all left these later : List Rule) (old list new : List Found) → left ≡ these ++ later → new ≡ old ++ list → Generalises t these list → Ahead all left old → Ahead all later new
+  ahead_on all left these later old list new at is g s = record {
+    gives = λ rest h. (
+        let more : Generalises t all (old ++ (list ++ rest)) = s.gives (list ++ rest) (subst (λ r. Generalises t r (list ++ rest)) (sym at) (joined these later list rest g h)) in
+        subst (Generalises t all) (sym (append_assoc old list rest) ∙ ap (λ l. l ++ rest) (sym is)) more);
+    nothing = λ h. nothing_right these later (subst (λ r. Generalises t r []) at (s.nothing h));
   }
 
   pub nothing_now : (all left these later : List Rule) (list : List Found) → left ≡ these ++ later → Ahead all left list → Generalises t all [] → Generalises t these []
@@ -172,30 +145,11 @@ module _ (t : Tree) where
   pub nothing_dead : (all : List Entry) (side : Side) (n : ℕ) (f : Fact) → is_dead all n ≡ true → Generalises t (rule_if_lives all side n f) []
   nothing_dead all side n f b = rw b no_rules
 
-  pub only_alive : (all : List Entry) (side : Side) (n : ℕ) (f : Fact) (pairs : List (ℕ × Tree)) → is_dead all n ≡ false → IsMatch (side_of side (equation_of f)) t pairs → FindsOnly t (rule_if_lives all side n f) n side pairs
-  only_alive all side n f pairs b m = rw b (is_instance m no_rules)
-
   pub something_alive : (all : List Entry) (side : Side) (n : ℕ) (f : Fact) → is_dead all n ≡ false → HasMatch (side_of side (equation_of f)) t → Generalises t (rule_if_lives all side n f) [] → ⊥
   something_alive all side n f b m g = found_none (rule_of side (record { number = n; equation = equation_of f })) m (subst (λ r. Generalises t r []) (let e : rule_if_lives all side n f ≡ rule_of side (record { number = n; equation = equation_of f }) ∷ [] = rw b refl in e) g)
     where
       found_none : (rule : Rule) → HasMatch rule.from t → Generalises t (rule ∷ []) [] → ⊥
       found_none rule m (is_no_instance n g) = n m.σ m.gives
-
-  found_one : (rule : Rule) (found : Found) → IsFound t (rule ∷ []) found → (found.fact ≡ rule.number) × (found.side ≡ rule.side)
-  found_one rule _ (by_first m) = (refl, refl)
-  found_one rule found (by_later i) = elim i [ ]
-
-  pub found_side : (all : List Entry) (side : Side) (n : ℕ) (f : Fact) (found : Found) → IsFound t (rule_if_lives all side n f) found → (found.fact ≡ n) × (found.side ≡ side)
-  found_side all side n f found i = by_dead (is_dead all n) found i
-    where
-      by_dead : (b : Bool) (found : Found) → IsFound t (cond b [] (rule_of side (record { number = n; equation = equation_of f }) ∷ [])) found → (found.fact ≡ n) × (found.side ≡ side)
-      by_dead true found i = elim i [ ]
-      by_dead false found i = found_one (rule_of side (record { number = n; equation = equation_of f })) found i
-
-  pub found_only : (rules : List Rule) (found : Found) → Generalises t rules (found ∷ []) → IsFound t rules found
-  found_only [] found g = elim g [ ]
-  found_only (x ∷ xs) _ (is_instance m g) = by_first m
-  found_only (x ∷ xs) found (is_no_instance n g) = by_later (found_only xs found g)
 
   -- what some of the rules find, all find
   pub found_before : (xs ys : List Rule) (found : Found) → IsFound t xs found → IsFound t (xs ++ ys) found
@@ -221,20 +175,6 @@ module _ (t : Tree) where
     none_of_nothing [] no_rules = no_rule_left
     none_of_nothing (x ∷ xs) (is_no_instance n g) = not_accepted (λ pairs m a. n (image pairs) m.gives) (none_of_nothing xs g)
 
-    pub none_ruled_out : (rules : List Rule) → ((found : Found) → IsFound t rules found → Accepted found → ⊥) → FirstThat Accepted t rules None
-    none_ruled_out [] f = no_rule_left
-    none_ruled_out (x ∷ xs) f = not_accepted (λ pairs m a. f _ (by_first m) a) (none_ruled_out xs (λ found i a. f found (by_later i) a))
-
-    pub first_only : (rules : List Rule) (found : Found) → Generalises t rules (found ∷ []) → Accepted found → FirstThat Accepted t rules (Some found)
-    first_only [] found g a = elim g [ ]
-    first_only (x ∷ xs) _ (is_instance m g) a = accepted m a
-    first_only (x ∷ xs) found (is_no_instance n g) a = not_accepted (λ pairs m b. n (image pairs) m.gives) (first_only xs found g a)
-
-    pub none_only : (rules : List Rule) (found : Found) → Generalises t rules (found ∷ []) → (Accepted found → ⊥) → FirstThat Accepted t rules None
-    none_only [] found g a = elim g [ ]
-    none_only (x ∷ xs) _ (is_instance {pairs = pairs} m g) a = not_accepted (λ others n b. a (subst (λ q. Accepted (record { fact = x.number; side = x.side; subst = q })) (one_match x.from t others pairs n m) b)) (none_of_nothing xs g)
-    none_only (x ∷ xs) found (is_no_instance n g) a = not_accepted (λ pairs m b. n (image pairs) m.gives) (none_only xs found g a)
-
     -- what the rest of the rules comes to, all come to; what the rest finds, all find; and it finds nothing, where all don't
     pub record Passes (all left : List Rule) : Type 0 where
       pub nothing : Generalises t all [] → Generalises t left []
@@ -259,11 +199,3 @@ module _ (t : Tree) where
 
     pub none_passes : (all left : List Rule) → left ≡ [] → Passes all left → FirstThat Accepted t all None
     none_passes all left e p = p.comes_to None (subst (λ r. FirstThat Accepted t r None) (sym e) no_rule_left)
-
-pub only_some : (t : Tree) (rules : List Rule) (n : ℕ) (side : Side) (o : Option (List (ℕ × Tree))) (pairs : List (ℕ × Tree)) → MatchOption o (Generalises t rules []) (FindsOnly t rules n side) → o ≡ Some pairs → FindsOnly t rules n side pairs
-only_some t rules n side None pairs m e = absurd cc
-only_some t rules n side (Some ps) pairs m e = subst (λ z. FindsOnly t rules n side z) (let h : ps ≡ pairs = cc in h) m
-
-pub only_none : (t : Tree) (rules : List Rule) (n : ℕ) (side : Side) (o : Option (List (ℕ × Tree))) → MatchOption o (Generalises t rules []) (FindsOnly t rules n side) → o ≡ None → Generalises t rules []
-only_none t rules n side None m e = m
-only_none t rules n side (Some ps) m e = absurd cc

@@ -1,4 +1,5 @@
 pub mod Sights
+pub mod Segments
 pub mod Fronts
 pub mod Entries
 pub mod Numbers

@@ -6,7 +6,7 @@ use Rattle.uc_fact.specs.Live.{Live, RiseFrom, AreRising, numbered_from}
 use Rattle.uc_shelf.specs.declared.entry.Entry.{Entry}
 use Rattle.uc_shelf.specs.Entries.{equations, is_dead, live}
 
-rise_on : (n m : ℕ) (fs : List Live) → n ≤ m → RiseFrom m fs → RiseFrom n fs
+pub rise_on : (n m : ℕ) (fs : List Live) → n ≤ m → RiseFrom m fs → RiseFrom n fs
 rise_on n m [] h r = tt
 rise_on n m (f ∷ fs) h r = (omega (arith, r.0), r.1)
 
@@ -14,7 +14,7 @@ first_rises : (n : ℕ) (e : Equation) (fs : List Live) (b : Bool) → RiseFrom 
 first_rises n e fs true r = (omega arith, r)
 first_rises n e fs false r = rise_on n (n + 1) fs (omega arith) r
 
-filtered_rise : (p : Live → Bool) (n : ℕ) (es : List Equation) → RiseFrom n (filter p (numbered_from n es))
+pub filtered_rise : (p : Live → Bool) (n : ℕ) (es : List Equation) → RiseFrom n (filter p (numbered_from n es))
 filtered_rise p n [] = tt
 filtered_rise p n (e ∷ es) = first_rises n e (filter p (numbered_from (n + 1) es)) (p (record { number = n; equation = e })) (filtered_rise p (n + 1) es)
 

@@ -1,6 +1,5 @@
 -- What contracts see of a front: its entries, and where its places are.
 use Rattle.std.specs.Prelude.{ℕ, List, map}
-use Rattle.std.specs.declared.sync.Arc.{Arc}
 use Rattle.boxcar.specs.Table.{Where}
 use Rattle.uc_shelf.specs.declared.entry.Entry.{Entry}
 
@@ -8,9 +7,9 @@ pub record Sight : Type 0 where
   pub entries : List Entry
   pub homes : List (ℕ × ℕ)
 
-abbrev pub entries_at : {Z : Type 0} → List (Arc (Where Entry) Z) → List Entry
-entries_at places = map (λ p. p.value.value) places
+abbrev pub entries_at : List (Where Entry) → List Entry
+entries_at places = map (λ p. p.value) places
 
 -- for each place the bucket, and the name of the slot that the bucket lies in
-abbrev pub homes_of : {Z : Type 0} → List (Arc (Where Entry) Z) → List (ℕ × ℕ)
-homes_of places = map (λ p. (p.value.bucket, p.value.row)) places
+abbrev pub homes_of : List (Where Entry) → List (ℕ × ℕ)
+homes_of places = map (λ p. (p.bucket, p.row)) places

@@ -13,10 +13,13 @@
 #![tactic(auto)]
 
 mod entry;
+mod front;
 mod same;
+mod segment;
 mod shelf;
 mod view;
 
 pub use entry::Entry;
-pub use shelf::{Front, Shelf};
+pub use front::Front;
+pub use shelf::Shelf;
 pub use view::View;

@@ -1,22 +1,28 @@
 //! An index of the facts that live in a front.
 
-ghost use Rattle.std.specs.Prelude.{◌≡◌, ◌≤◌, ◌∷◌, [], length, Some, None, IfOk, OnErr, MatchOption, IsTrue};
+ghost use Rattle.std.specs.Prelude.{◌≡◌, ◌≤◌, ◌∷◌, ◌++◌, [], false, filter, not, length, IfOk, OnErr, OnOk, MatchOption, IsTrue};
 ghost use Rattle.uc_term.specs.Flat.{tree_of, IsWhole};
 ghost use Rattle.uc_term.specs.Equations.{side_of};
+ghost use Rattle.uc_unify.specs.Matching.{HasNoMatch};
+ghost use Rattle.uc_fact.specs.Against.{HasMatch};
 ghost use Rattle.uc_fact.specs.declared.index.Found.{Found as AnyFound};
 ghost use Rattle.uc_fact.specs.Live.{rules_of, equation_of};
-ghost use Rattle.uc_fact.specs.Retrieval.{IsFound, FirstThat, FindsNothing};
-ghost use Rattle.uc_shelf.specs.Entries.{born, equations, is_dead, living};
+ghost use Rattle.uc_fact.specs.Retrieval.{IsFound, FirstThat, FindsNothing, Generalises};
+ghost use Rattle.uc_shelf.specs.Entries.{born, is_dead, live, living};
 ghost use Rattle.uc_shelf.specs.Fronts.{IsOf};
-ghost use Rattle.uc_shelf.specs.Viewing.{Adds, FindsOnly, rule_if_lives};
+ghost use Rattle.uc_shelf.specs.Viewing.{found_living};
 
+use crate::segment::births;
 use crate::{Entry, Front, Shelf};
 use std::alloc::{AllocError, Global};
 use std::marker::Model;
-use uc_fact::{Fact, Found, Index, Side, Test, is_instance, matching};
-use uc_term::{MAX_NODES, Node, Seq, Subst, Term};
+use uc_fact::{Fact, Found, Index, Side, Test, is_instance};
+use uc_term::{MAX_NODES, Node, Seq, Term};
 
 /// An index of the facts that are born and not dead in a front. A contract sees the front's entries.
+///
+/// It asks the trees of the front's segments, first to last: facts of an earlier segment have smaller numbers, so that the
+/// first tree with an answer has the first one. What is dead is passed over.
 #[derive(Drop)]
 pub struct View<'a> {
     shelf: &'a Shelf,
@@ -49,6 +55,31 @@ impl Shelf {
     }
 }
 
+/// A test that passes what lives in a front and passes another test.
+#[derive(Drop)]
+struct Living<'a, T> {
+    front: &'a Front,
+    test: &'a T,
+}
+
+impl<'a, T: Test> Test for Living<'a, T> {
+    ghost can_test = { λ s found. is_dead s.front.now.entries found.fact ≡ false → T.can_test s.test.now found };
+
+    ghost accepts = { λ s found. (is_dead s.front.now.entries found.fact ≡ false) × T.accepts s.test.now found };
+
+    fn rules_out(&self, fact: u32, side: Side) -> bool {
+        self.front.is_dead(fact) || self.test.rules_out(fact, side)
+    }
+
+    fn passes(&self, alloc: Global, found: &Found) -> Result<bool, AllocError> {
+        if self.front.is_dead(found.fact) {
+            Ok(false)
+        } else {
+            self.test.passes(alloc, found)
+        }
+    }
+}
+
 impl<'a> Index for View<'a> {
     ghost use Rattle.uc_shelf.specs.Entries.{live};
     ghost use Rattle.uc_shelf.specs.Rising.{live_rise};
@@ -56,14 +87,16 @@ impl<'a> Index for View<'a> {
     ghost live = { live };
 
     fn generalisations(&self, alloc: Global, term: &[Node]) -> Result<Seq<Found>, AllocError> {
-        let mut list = Vec::new(alloc);
-        let mut number = 0;
-        for k in 0..self.front.len() {
-            let entry = self.shelf.read(self.front, k);
-            self.add_matches(alloc, &mut list, entry, number, term)?;
-            number += births(entry);
+        match self.all_in_trees(alloc, term) {
+            Ok(list) => Ok(list),
+            Err(fault) => {
+                if self.has_match(term) {
+                    Err(fault)
+                } else {
+                    Ok(Seq::from_vec(Vec::new(alloc)))
+                }
+            }
         }
-        Ok(Seq::from_vec(list))
     }
 
     fn first_that<T: Test>(
@@ -72,195 +105,127 @@ impl<'a> Index for View<'a> {
         term: &[Node],
         test: &T,
     ) -> Result<Option<Found>, AllocError> {
-        let mut number = 0;
-        for k in 0..self.front.len() {
-            let entry = self.shelf.read(self.front, k);
-            if let Some(found) = self.first_of_entry(alloc, entry, number, term, test)? {
-                return Ok(Some(found));
+        match self.first_in_trees(alloc, term, test) {
+            Ok(found) => Ok(found),
+            Err(fault) => {
+                if self.has_match(term) {
+                    Err(fault)
+                } else {
+                    Ok(None)
+                }
             }
-            number += births(entry);
         }
-        Ok(None)
     }
 
     fn pair(&self, fact: u32) -> Option<(&Term, &Term)> {
-        if self.is_dead(fact) {
+        if self.front.is_dead(fact) {
             return None;
         }
-        let k = self.front.birth(fact)?;
-        sides(self.shelf.read(self.front, k))
+        self.front.home(fact)?.tree().pair(fact)
     }
 
     ghost rising = { live_rise };
 }
 
 impl<'a> View<'a> {
-    /// Whether the fact of a number is dead.
-    fn is_dead(&self, number: u32) -> bool
-        ensures { result ≡ is_dead self.now number }
-    {
-        self.front.is_dead(number)
-    }
-
-    /// Puts both sides of a fact that is born here at the end of the list, left before right, as `add_side` does.
-    fn add_matches(
+    /// Asks the trees for the first that lives and passes a test. Memory may be refused for what is dead, too.
+    fn first_in_trees<T: Test>(
         &self,
         alloc: Global,
-        list: &mut Vec<Found>,
-        entry: &Entry,
-        number: u32,
-        term: &[Node],
-    ) -> Result<(), AllocError>
-        requires whole { IsWhole term.now }
-        requires small { length term.now ≤ MAX_NODES }
-        ensures value { IfOk result (λ _. Adds (tree_of term.now) (rules_of (living self.now number (entry.now ∷ []))) list.old.items list.new.items) }
-        ensures memory { OnErr result (FindsNothing (tree_of term.now) (rules_of (living self.now number (entry.now ∷ []))) → ⊥) }
-    {
-        match entry {
-            Entry::Born(fact) => {
-                self.add_side(alloc, list, fact, number, Side::Left, term)?;
-                self.add_side(alloc, list, fact, number, Side::Right, term)
-            }
-            Entry::Dies { .. } => Ok(()),
-        }
-    }
-
-    /// Puts a side of a fact at the end of the list, where the term is an instance of it and the fact lives.
-    fn add_side(
-        &self,
-        alloc: Global,
-        list: &mut Vec<Found>,
-        fact: &Fact,
-        number: u32,
-        side: Side,
-        term: &[Node],
-    ) -> Result<(), AllocError>
-        requires whole { IsWhole term.now }
-        requires small { length term.now ≤ MAX_NODES }
-        ensures value { IfOk result (λ _. Adds (tree_of term.now) (rule_if_lives self.now side number fact.now) list.old.items list.new.items) }
-        ensures memory { OnErr result (FindsNothing (tree_of term.now) (rule_if_lives self.now side number fact.now) → ⊥) }
-    {
-        match self.match_if_alive(alloc, fact, number, side, term)? {
-            Some(subst) => {
-                list.push(Found {
-                    fact: number,
-                    side,
-                    subst,
-                })?;
-                Ok(())
-            }
-            None => Ok(()),
-        }
-    }
-
-    /// The substitution that makes a side of a fact the term, where the fact lives. None, where there is none or the fact is
-    /// dead, takes no memory.
-    fn match_if_alive(
-        &self,
-        alloc: Global,
-        fact: &Fact,
-        number: u32,
-        side: Side,
-        term: &[Node],
-    ) -> Result<Option<Subst>, AllocError>
-        requires whole { IsWhole term.now }
-        requires small { length term.now ≤ MAX_NODES }
-        ensures value { IfOk result (λ found. MatchOption found (FindsNothing (tree_of term.now) (rule_if_lives self.now side number fact.now)) (FindsOnly (tree_of term.now) (rule_if_lives self.now side number fact.now) number side)) }
-        ensures memory { OnErr result (FindsNothing (tree_of term.now) (rule_if_lives self.now side number fact.now) → ⊥) }
-    {
-        match matching(alloc, side_term(fact, side).as_nodes(), term) {
-            Ok(Some(subst)) => {
-                if self.is_dead(number) {
-                    Ok(None)
-                } else {
-                    Ok(Some(subst))
-                }
-            }
-            Ok(None) => Ok(None),
-            Err(fault) => {
-                if self.is_dead(number) {
-                    Ok(None)
-                } else {
-                    Err(fault)
-                }
-            }
-        }
-    }
-
-    /// Tells whether the term is no instance of a side of a fact. It takes no memory.
-    fn misses(&self, fact: &Fact, number: u32, side: Side, term: &[Node]) -> bool
-        requires whole { IsWhole term.now }
-        requires small { length term.now ≤ MAX_NODES }
-        ensures { IsTrue result → FindsNothing (tree_of term.now) (rule_if_lives self.now side number fact.now) }
-    {
-        !is_instance(side_term(fact, side).as_nodes(), term)
-    }
-
-    /// The first side of a fact that is born here, left before right, as `first_of_side` gives it.
-    fn first_of_entry<T: Test>(
-        &self,
-        alloc: Global,
-        entry: &Entry,
-        number: u32,
         term: &[Node],
         test: &T,
     ) -> Result<Option<Found>, AllocError>
         requires whole { IsWhole term.now }
         requires small { length term.now ≤ MAX_NODES }
-        requires can { (found : AnyFound) → IsFound (tree_of term.now) (rules_of (living self.now number (entry.now ∷ []))) found → T.can_test test.now found }
-        ensures value { IfOk result (FirstThat (T.accepts test.now) (tree_of term.now) (rules_of (living self.now number (entry.now ∷ [])))) }
-        ensures memory { OnErr result (FindsNothing (tree_of term.now) (rules_of (living self.now number (entry.now ∷ []))) → ⊥) }
+        requires can { (found : AnyFound) → IsFound (tree_of term.now) (rules_of (live self.now)) found → T.can_test test.now found }
+        ensures { IfOk result (FirstThat (T.accepts test.now) (tree_of term.now) (rules_of (live self.now))) }
+    {
+        let living = Living {
+            front: self.front,
+            test,
+        };
+        let segments = self.front.segments();
+        for k in 0..segments.len() {
+            if let Some(found) = segments[k].tree().first_that(alloc, term, &living)? {
+                return Ok(Some(found));
+            }
+        }
+        Ok(None)
+    }
+
+    /// Asks the trees for all that lives. Memory may be refused for what is dead, too.
+    fn all_in_trees(&self, alloc: Global, term: &[Node]) -> Result<Seq<Found>, AllocError>
+        requires whole { IsWhole term.now }
+        requires small { length term.now ≤ MAX_NODES }
+        ensures { IfOk result (Generalises (tree_of term.now) (rules_of (live self.now))) }
+    {
+        let mut list = Vec::new(alloc);
+        let segments = self.front.segments();
+        for k in 0..segments.len() {
+            let found = segments[k].tree().generalisations(alloc, term)?;
+            self.add_living(&mut list, found)?;
+        }
+        Ok(Seq::from_vec(list))
+    }
+
+    /// Puts those that live at the end of a list.
+    fn add_living(&self, list: &mut Vec<Found>, found: Seq<Found>) -> Result<(), AllocError>
+        ensures { OnOk result (list.new.items ≡ list.old.items ++ found_living self.now found) }
+    {
+        for one in found.into_vec() {
+            if !self.front.is_dead(one.fact) {
+                list.push(one)?;
+            }
+        }
+        Ok(())
+    }
+
+    /// Tells whether the term is an instance of a side of a fact that lives, by a look through the entries. It takes no
+    /// memory: it is asked where a tree found none.
+    #[inline(never)]
+    fn has_match(&self, term: &[Node]) -> bool
+        requires whole { IsWhole term.now }
+        requires small { length term.now ≤ MAX_NODES }
+        ensures yes { IsTrue result → FindsNothing (tree_of term.now) (rules_of (live self.now)) → ⊥ }
+        ensures no { result ≡ false → FindsNothing (tree_of term.now) (rules_of (live self.now)) }
+    {
+        let mut number = 0;
+        for k in 0..self.front.len() {
+            let entry = self.shelf.read(self.front, k);
+            if self.entry_matches(entry, number, term) {
+                return true;
+            }
+            number += births(entry);
+        }
+        false
+    }
+
+    /// Tells whether the term is an instance of a side of the fact that is born in an entry, and the fact lives.
+    fn entry_matches(&self, entry: &Entry, number: u32, term: &[Node]) -> bool
+        requires whole { IsWhole term.now }
+        requires small { length term.now ≤ MAX_NODES }
+        ensures yes { IsTrue result → FindsNothing (tree_of term.now) (rules_of (living self.now number (entry.now ∷ []))) → ⊥ }
+        ensures no { result ≡ false → FindsNothing (tree_of term.now) (rules_of (living self.now number (entry.now ∷ []))) }
     {
         match entry {
             Entry::Born(fact) => {
-                match self.first_of_side(alloc, fact, number, Side::Left, term, test)? {
-                    Some(found) => Ok(Some(found)),
-                    None => self.first_of_side(alloc, fact, number, Side::Right, term, test),
-                }
+                !self.front.is_dead(number)
+                    && (side_matches(fact, Side::Left, term)
+                        || side_matches(fact, Side::Right, term))
             }
-            Entry::Dies { .. } => Ok(None),
+            Entry::Dies { .. } => false,
         }
     }
+}
 
-    /// A side of a fact, where the term is an instance of it, the fact lives and the test passes.
-    fn first_of_side<T: Test>(
-        &self,
-        alloc: Global,
-        fact: &Fact,
-        number: u32,
-        side: Side,
-        term: &[Node],
-        test: &T,
-    ) -> Result<Option<Found>, AllocError>
-        requires whole { IsWhole term.now }
-        requires small { length term.now ≤ MAX_NODES }
-        requires can { (found : AnyFound) → IsFound (tree_of term.now) (rule_if_lives self.now side number fact.now) found → T.can_test test.now found }
-        ensures value { IfOk result (FirstThat (T.accepts test.now) (tree_of term.now) (rule_if_lives self.now side number fact.now)) }
-        ensures memory { OnErr result (FindsNothing (tree_of term.now) (rule_if_lives self.now side number fact.now) → ⊥) }
-    {
-        // hot: the walk over both costs less than what the test may ask of an order
-        if self.misses(fact, number, side, term) {
-            return Ok(None);
-        }
-        if test.rules_out(number, side) {
-            return Ok(None);
-        }
-        match self.match_if_alive(alloc, fact, number, side, term)? {
-            Some(subst) => {
-                let found = Found {
-                    fact: number,
-                    side,
-                    subst,
-                };
-                if test.passes(alloc, &found)? {
-                    Ok(Some(found))
-                } else {
-                    Ok(None)
-                }
-            }
-            None => Ok(None),
-        }
-    }
+/// Tells whether the term is an instance of a side of a fact. It takes no memory.
+fn side_matches(fact: &Fact, side: Side, term: &[Node]) -> bool
+    requires whole { IsWhole term.now }
+    requires small { length term.now ≤ MAX_NODES }
+    ensures yes { IsTrue result → HasMatch (side_of side (equation_of fact.now)) (tree_of term.now) }
+    ensures no { result ≡ false → HasNoMatch (side_of side (equation_of fact.now)) (tree_of term.now) }
+{
+    is_instance(side_term(fact, side).as_nodes(), term)
 }
 
 /// The side of a fact.
@@ -270,28 +235,5 @@ fn side_term(fact: &Fact, side: Side) -> &Term
     match side {
         Side::Left => &fact.left,
         Side::Right => &fact.right,
-    }
-}
-
-/// How many facts are born in one entry.
-#[inline]
-fn births(entry: &Entry) -> u32
-    ensures value { result ≡ length (born (entry.now ∷ [])) }
-    ensures few { result ≤ 1 }
-{
-    match entry {
-        Entry::Born(_) => 1,
-        Entry::Dies { .. } => 0,
-    }
-}
-
-/// The sides of the fact that is born in an entry.
-#[inline]
-fn sides(entry: &Entry) -> Option<(&Term, &Term)>
-    ensures { MatchOption result (equations (entry.now ∷ []) ≡ []) (λ sides. equations (entry.now ∷ []) ≡ record { left = sides.0.now; right = sides.1.now } ∷ []) }
-{
-    match entry {
-        Entry::Born(born) => Some((&born.left, &born.right)),
-        Entry::Dies { .. } => None,
     }
 }

@@ -1,22 +1,27 @@
-use Rattle.std.proofs.Common.{◌≡◌, false, sym, ap, ◌∙◌}
-use Rattle.uc_fact.specs.Live.{numbered_from}
-use Rattle.uc_shelf.specs.Entries.{equations, is_dead}
+use Rattle.std.proofs.Common.{◌≡◌, Option, Some, None, MatchOption, sym, ap, ◌∙◌, subst}
+use Rattle.uc_term.specs.declared.equation.Equation.{Equation}
+use Rattle.uc_fact.specs.Live.{fact_at, numbered_from}
+use Rattle.uc_disc.specs.Numbered.{risen}
+use Rattle.uc_shelf.specs.Entries.{equations, live}
+use Rattle.uc_shelf.proofs.Runs.{none_past, fact_in_run}
 use Rattle.uc_shelf.proofs.Viewed.{none_if_dead}
-use Rattle.uc_shelf.proofs.Numbered.{none_if_unborn, birth_inside, sides_at_birth}
 use Rattle.uc_shelf.proofs.view.ViewIndex.pair.Goals as goal
 
 pub returns-then-is_dead : goal.returns-then-is_dead
-returns-then-is_dead c = none_if_dead c.args.self.now c.args.fact (numbered_from 0 (equations c.args.self.now)) (sym c.is_dead.ensures ∙ c.if-is_dead.true)
+returns-then-is_dead c =
+    let es = c.self.inside.front.now.entries in
+    rw (← c.self.view_is) (none_if_dead es c.args.fact (numbered_from 0 (equations es)) (sym c.is_dead.ensures ∙ c.if-is_dead.true))
 
-pub returns-in_err-k : goal.returns-in_err-k
-returns-in_err-k c =
-    let alive : is_dead c.self.inside.front.now.entries c.args.fact ≡ false = ap (λ z. is_dead z c.args.fact) c.self.view_is ∙ sym c.is_dead.ensures ∙ c.if-is_dead.false in
-    rw (c.from_residual.ensures, ← c.self.view_is) (none_if_unborn c.self.inside.front.now.entries c.args.fact alive c.in_err-k.ensures)
-
-pub read-requires-clause-inside : goal.read-requires-clause-inside
-read-requires-clause-inside c = birth_inside c.self.inside.front.now.entries c.args.fact c.in_ok-k.k c.in_ok-k.ensures
+pub returns-in_err-home : goal.returns-in_err-home
+returns-in_err-home c =
+    let es = c.self.inside.front.now.entries in
+    rw (c.from_residual.ensures, ← c.self.view_is) (none_past es c.args.fact (sym c.is_dead.ensures ∙ c.if-is_dead.false) c.in_err-home.ensures)
 
 pub returns : goal.returns
 returns c =
-    let alive : is_dead c.self.inside.front.now.entries c.args.fact ≡ false = ap (λ z. is_dead z c.args.fact) c.self.view_is ∙ sym c.is_dead.ensures ∙ c.if-is_dead.false in
-    rw (← c.self.view_is) (sides_at_birth c.self.inside.front.now.entries c.args.fact c.in_ok-k.k c.read.result.now (λ s. record { left = s.0.now; right = s.1.now }) c.sides.result alive c.in_ok-k.ensures c.read.ensures c.sides.ensures)
+    let es = c.self.inside.front.now.entries in
+    let s = c.in_ok-home.field-0.now in
+    let i = c.in_ok-home.ensures in
+    let same : fact_at (live c.args.self.now) c.args.fact ≡ fact_at (risen 0 c.tree.result.now) c.args.fact =
+    ap (λ z. fact_at (live z) c.args.fact) (sym c.self.view_is) ∙ fact_in_run es s c.args.fact i.run (sym c.is_dead.ensures ∙ c.if-is_dead.false) i.from_base i.below ∙ ap (λ z. fact_at z c.args.fact) (sym c.tree.ensures) in
+    subst (λ (z : Option Equation). MatchOption c.pair.result (z ≡ None) (λ sides. z ≡ Some (record { left = sides.0.now; right = sides.1.now }))) (sym same) c.pair.ensures
