@@ -2,9 +2,11 @@
 //!
 //! A [`Front`] is a list of entries that only its own [`Shelf::publish`] changes: that makes it one entry longer, a copy has
 //! the same list, and whatever is put on the shelf for other fronts leaves it as it is. [`Shelf::same`] compares two lists
-//! exactly, and [`Shelf::view`] is an index of the facts that are born and not dead in a front. A front keeps the numbers of
-//! its facts' entries and of the dead ones, so that a fact is found by its number at once. It goes with the shelf on which
-//! its places are.
+//! exactly, and [`Shelf::view`] is an index of the facts that are born and not dead in a front. A front goes with the shelf
+//! on which its places are.
+//!
+//! It has at most 32 segments, runs of its entries whose lengths are powers of two, the longest first (Bentley and Saxe,
+//! Decomposable searching problems). Each has a discrimination tree of its facts; a copy of a front shares them.
 //!
 //! Memory is taken by `Shelf::new`, `Shelf::publish`, `Front::copy`, `Entry::copy` and what a view finds (`generalisations`,
 //! `first_that`), and by no other call. Where `publish` finds none, the entry is dropped and the front stays.
