@@ -1,6 +1,6 @@
 //! The table of symbols.
 
-ghost use Rattle.std.specs.Prelude.{◌≡◌, ◌<◌, ◌^◌, ℕ, [], ◌∷◌, ◌++◌, length, IfOk, OnErr, MatchOption};
+ghost use Rattle.std.specs.Prelude.{◌≡◌, ◌<◌, ◌≤◌, ◌-◌, ◌^◌, ℕ, [], ◌∷◌, ◌++◌, length, IfOk, OnOk, OnErr, MatchOption};
 ghost use Rattle.uc_term.specs.declared.node.Sym.{Sym};
 ghost use Rattle.uc_term.specs.Table.{IsSymbol, IsDistinct, IsInterned, Has, name_of, arity_of};
 
@@ -63,15 +63,13 @@ impl Symbols {
         self.keys.len()
     }
 
-    /// The symbol of a name and an arity, which may be new. A full table takes no new one, and answers as for want of
-    /// memory; then it stays as it was.
+    /// The symbol of a name and an arity, which may be new. A table of 4,294,967,295 symbols is full: it takes no other one,
+    /// and answers as where an allocation fails; then it stays as it was.
     pub fn intern(&mut self, alloc: Global, name: &[u8], arity: u32) -> Result<Sym, AllocError>
         ensures interned { IfOk result (IsInterned self.old self.new name.now arity) }
         ensures err { OnErr result (self.new ≡ self.old) }
     {
-        if self.keys.len() >= MOST {
-            return Err(AllocError);
-        }
+        check_room(self.keys.len())?;
         let place = self.names.insert(alloc, name)?;
         let (index, _) = self.keys.insert_full(Key { place, arity })?;
         Ok(Sym(index as u32))
@@ -104,4 +102,16 @@ impl Symbols {
     }
 }
 
+/// The most symbols that a table has.
 const MOST: usize = u32::MAX as usize;
+
+/// Refuses exactly a symbol more than a table may have.
+fn check_room(count: usize) -> Result<(), AllocError>
+    ensures room { OnOk result (count < 2 ^ 32 - 1) }
+    ensures refused { OnErr result (2 ^ 32 - 1 ≤ count) }
+{
+    if count >= MOST {
+        return Err(AllocError);
+    }
+    Ok(())
+}

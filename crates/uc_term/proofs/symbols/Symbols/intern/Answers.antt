@@ -26,7 +26,7 @@ invariant_of-self-2 c =
     let different = c.in_ok-place.ensures.different in (
       distinct_insert c.insert.new.self c.self.inside.keys.keys named different k c.args.name.now there c.insert_full.new.self.keys c.in_ok-index.ensures.keys (rw kept c.self.invariant.0),
       named_insert c.insert.new.self c.self.inside.keys.keys named different k c.args.name.now there c.insert_full.new.self.keys c.in_ok-index.ensures.keys,
-      omega (arith, length_insert c.insert.new.self c.self.inside.keys.keys named different k c.args.name.now there c.insert_full.new.self.keys c.in_ok-index.ensures.keys, c.len.ensures.len, c.if-len-ge-MOST.false),
+      omega (arith, length_insert c.insert.new.self c.self.inside.keys.keys named different k c.args.name.now there c.insert_full.new.self.keys c.in_ok-index.ensures.keys, c.len.ensures.len, c.in_ok-check_room.ensures.room),
     )
 
 pub returns-clause-interned : goal.returns-clause-interned
