@@ -44,6 +44,7 @@ use Rattle.uc_answer.proofs.SearchEnds.{o, laws, reaches, verdict_is, opens, eac
 use Rattle.uc_answer.proofs.OwnTerms.{own_ground, own_equal}
 use Rattle.uc_answer.proofs.NoGoalFollows.{goals_closed, ground_term, encoded_follows}
 use Rattle.uc_answer.proofs.Saturation.{facts_over as system_over, decided as system_decides}
+use Rattle.uc_answer.proofs.PrintableSymbols.{encoded_symbols}
 use Rattle.uc_answer.proofs.SmallAxioms.{encoded_small}
 
 -- LISTS
@@ -154,9 +155,11 @@ module _ (table : Table) (command : Command) (problem : Problem) (encoded : Enco
       record {
         encoded = encoded;
         encodes = h.encodes;
+        fits = subst (λ (fs : List Sym). Fits table fs spec) (encoded_symbols table problem encoded h.encodes) h.fits;
         system = record { facts = facts };
         reads = printed (system_printable can.clauses);
         decides = decided;
+        own_form = λ u over. decided.one_normal_form u (own_ground table problem h.agrees encoded h.encodes spec h.fits u over);
         own = own;
         none_follows = λ f. no_goal (meaning_of table spec) (laws table command problem encoded spec Saturated s h) facts encoded.axioms decided encoded.goals apart (encoded_follows table problem h.agrees encoded h.encodes f);
       }

@@ -20,11 +20,12 @@ use Rattle.uc_machine.specs.declared.event.Verdict.{Verdict}
 use Rattle.uc_machine.specs.State.{State}
 use Rattle.uc_search.specs.Searching.{IsSearched}
 use Rattle.uc_search.specs.Causes.{HasCause}
-use Rattle.uc_decide.specs.NormalForms.{HasNormalForm}
+use Rattle.uc_decide.specs.NormalForms.{HasNormalForm, HasOneNormalForm}
 use Rattle.uc_decide.specs.Deciding.{Decides}
 use Rattle.uc_system.specs.Reading.{ReadsSystem}
 use Rattle.uc_words.specs.declared.command.Command.{Command}
-use Rattle.uc_ordering.specs.Choice.{IsChosen}
+use Rattle.uc_ordering.specs.Choice.{IsChosen, all_symbols}
+use Rattle.uc_ordering.specs.Fits.{Fits}
 use Rattle.uc_ordering.specs.Meaning.{meaning_of}
 use Rattle.uc_answer.specs.VerdictLines.{opening_for}
 use Rattle.uc_answer.specs.StatusLines.{status_line, line_for}
@@ -56,15 +57,18 @@ pub record IsRefuted (table : Table) (name : List ℕ) (problem : Problem) (answ
 abbrev pub IsOwnGround : Table → Problem → Tree → Type 0
 IsOwnGround table problem = IsGround (In problem.signature.symbols) (arity_of table)
 
--- The text is read as a system of this order, by which every ground term has exactly one normal form, two share it exactly if
--- their equation follows from the encoded axioms, and that form is the least of its class. Two terms over the problem's own symbols
--- share it exactly if their equation follows from the problem's own axioms. And no goal of the problem follows.
+-- The text is read as a system of this order, whose symbols are the problem's own, its fresh constant among them, and those of the
+-- encoding, where there is one. By it every ground term has exactly one normal form, two share it exactly if their equation follows
+-- from the encoded axioms, and that form is the least of its class. So each term over the problem's own symbols has exactly one, and
+-- two of these share it exactly if their equation follows from the problem's own axioms. And no goal of the problem follows.
 pub record Settles (table : Table) (problem : Problem) (spec : OrderSpec) (text : List ℕ) : Type 0 where
   pub encoded : Encoded
   pub encodes : Encodes table problem (Ok encoded)
+  pub fits : Fits table (all_symbols problem.signature encoded.fresh) spec
   pub system : System
   pub reads : ReadsSystem table text (Ok (record { spec = spec; system = system }))
   pub decides : Decides (meaning_of table spec) system.facts encoded.axioms
+  pub own_form : (u : Tree) → IsOwnGround table problem u → HasOneNormalForm (meaning_of table spec) system.facts u
   pub own : (u v n k : Tree) → IsOwnGround table problem u → IsOwnGround table problem v → HasNormalForm (meaning_of table spec) system.facts u n → HasNormalForm (meaning_of table spec) system.facts v k → (n ≡ k) ↔ Conv (axioms_of problem.clauses) u v
   pub none_follows : SomeFollows (axioms_of problem.clauses) (goals_of problem.clauses) → ⊥
 

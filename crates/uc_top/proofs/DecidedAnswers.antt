@@ -160,7 +160,8 @@ module _ (table : Table) (command : Command) (name : List ℕ) (words : List (Li
 
     promise_of : (s : State) (v : Verdict) (status : ℕ) (answer : List ℕ) → IsSearched m o 0 v s → Told s v status answer → IsAnswered table command problem spec questions status answer ⊎ IsOut table command name problem spec status answer
     promise_of s _ _ _ searched (tells_replies {replies = replies} d a right) = inl (record {
-      system = equations_of (live s.entries);
+      state = s;
+      searched = searched;
       decides = d;
       replies = replies;
       are_replies = a;

@@ -2,7 +2,6 @@
 use Rattle.std.specs.Prelude.{ℕ, ◌≡◌, ◌≤◌, ◌⊎◌, List, [], ◌∷◌, ◌++◌, codes, slice_get, Option, Some, None}
 use Rattle.std.proofs.Common.{inl, inr}
 use Rattle.std.specs.Io.KnownBytes.{Appends}
-use Rattle.uc_term.specs.declared.equation.Equation.{Equation}
 use Rattle.uc_term.specs.Tree.{Tree}
 use Rattle.uc_term.specs.Table.{Table, IsDistinct}
 use Rattle.uc_edge.specs.Files.{Files}
@@ -11,7 +10,8 @@ use Rattle.uc_problem.specs.declared.problem.Problem.{Problem}
 use Rattle.uc_problem.specs.Holds.{Holds}
 use Rattle.uc_problem.specs.Filling.{IsFilled}
 use Rattle.uc_order.specs.declared.spec.OrderSpec.{OrderSpec}
-use Rattle.uc_fact.specs.Live.{numbered}
+use Rattle.uc_fact.specs.Live.{equations_of}
+use Rattle.uc_shelf.specs.Entries.{live}
 use Rattle.uc_machine.specs.declared.event.Verdict.{Verdict}
 use Rattle.uc_machine.specs.declared.event.Verdict.TheVariants.{Saturated}
 use Rattle.uc_machine.specs.State.{State}
@@ -38,13 +38,15 @@ use Rattle.uc_top.specs.Loaded.{IsLoaded}
 use Rattle.uc_top.specs.DecideAnswers.{opening_of_axioms, facts_of}
 use Rattle.uc_top.specs.Runs.{EndsWith}
 
--- A system that decides what follows from the problem's axioms answers the questions: the answer has one line for each, and each
--- line is right. A line is `spent` or `grown` only where so many steps, or so large a term, came before a normal form.
+-- The system that the search ended with, saturated, decides what follows from the problem's axioms and answers the questions: the
+-- answer has one line for each, and each line is right. A line is `spent` or `grown` only where so many steps, or so large a term,
+-- came before a normal form.
 pub record IsAnswered (table : Table) (command : Command) (problem : Problem) (spec : OrderSpec) (questions : List (Tree × Tree)) (status : ℕ) (answer : List ℕ) : Type 0 where
-  pub system : List Equation
-  pub decides : Decides (meaning_of table spec) system (axioms_of problem.clauses)
+  pub state : State
+  pub searched : IsSearched (meaning_of table spec) (opening_of_axioms command problem) 0 Saturated state
+  pub decides : Decides (meaning_of table spec) (equations_of (live state.entries)) (axioms_of problem.clauses)
   pub replies : List Reply
-  pub are_replies : AreReplies (meaning_of table spec) (numbered system) command.steps questions replies
+  pub are_replies : AreReplies (meaning_of table spec) (facts_of state) command.steps questions replies
   pub are_right : AreRight (meaning_of table spec) (axioms_of problem.clauses) questions replies
   pub status_is : status ≡ replies_status replies
   pub answer_is : answer ≡ reply_lines table replies

@@ -8,6 +8,8 @@ ghost use Rattle.uc_edge.specs.Faults.{Rose};
 ghost use Rattle.uc_check.specs.Clauses.{axioms_of};
 ghost use Rattle.uc_words.specs.declared.command.Command.{Command};
 ghost use Rattle.uc_words.specs.Reads.{Reads};
+ghost use Rattle.uc_ordering.specs.Choice.{all_symbols};
+ghost use Rattle.uc_ordering.specs.Fits.{Fits};
 ghost use Rattle.uc_search.specs.Bounds.{rounds_in, IsBounded};
 ghost use Rattle.uc_answer.specs.VerdictLines.{opening_for};
 ghost use Rattle.uc_top.specs.Answers.{Answers};
@@ -34,6 +36,12 @@ pub fn one_run()
 pub fn one_history()
     ensures prove { (files : Files) (words : List (List ℕ)) (command : Command) (name : List ℕ) (s t : ℕ) (a b : List ℕ) (x : IsHeldAnswer files command name s a) (y : IsHeldAnswer files command name t b) → Reads words command → (x.verdict ≡ y.verdict) × (x.state ≡ y.state) }
     ensures decide { (files : Files) (words : List (List ℕ)) (k l : Command) (name : List ℕ) (asked others : List (List ℕ)) (s t : ℕ) (a b : List ℕ) (x : IsHeldDecision files k name asked s a) (y : IsHeldDecision files l name others t b) → Reads words k → k.root ≡ l.root → k.order ≡ l.order → k.budget ≡ l.budget → k.pairs ≡ l.pairs → (x.verdict ≡ y.verdict) × (x.state ≡ y.state) }
+{}
+
+/// The order that the words of `prove` name is one of exactly the encoded problem's symbols: the problem's own, its fresh constant
+/// among them, and those of the encoding, where there is one. Its weights are good, and it has a constant.
+pub fn chosen_order_fits()
+    ensures { (files : Files) (words : List (List ℕ)) (command : Command) (name : List ℕ) (s : ℕ) (a : List ℕ) (x : IsHeldAnswer files command name s a) → Reads words command → Fits x.table (all_symbols x.problem.signature x.encoded.fresh) x.spec }
 {}
 
 /// Two runs of `decide` for one problem by one order that both say of a question whether its equation follows print the same line for

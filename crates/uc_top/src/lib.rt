@@ -14,6 +14,6 @@ mod proving;
 mod rewriting;
 mod showing;
 
-pub use laws::{one_answer, one_history, one_line, one_run, searches_are_short};
+pub use laws::{chosen_order_fits, one_answer, one_history, one_line, one_run, searches_are_short};
 pub use output::tell_memory_out;
 pub use program::run;
