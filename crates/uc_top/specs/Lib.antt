@@ -5,6 +5,7 @@ pub mod PairsAnswers
 pub mod ProveAnswers
 pub mod DecideAnswers
 pub mod Told
+pub mod Faulting
 pub mod Answers
 pub mod Runs
 pub mod OrderRuns

@@ -4,7 +4,7 @@ ghost use Rattle.std.specs.Prelude.{◌≡◌, ◌<◌, ◌≤◌, ◌^◌, ℕ,
 ghost use Rattle.std.specs.Option.{option_copied};
 ghost use Rattle.uc_term.specs.Table.{Table, Grows, IsDistinct};
 ghost use Rattle.uc_term.specs.Conversion.{SomeFollows};
-ghost use Rattle.uc_edge.specs.Files.{Files};
+ghost use Rattle.uc_edge.specs.Files.{Files, failing};
 ghost use Rattle.uc_check.specs.Clauses.{axioms_of, goals_of, AreFresh, HasGoalIfEncoded};
 ghost use Rattle.uc_problem.specs.Holds.{Agrees};
 ghost use Rattle.uc_tstp.specs.Interning.{InternsProof};
@@ -13,6 +13,8 @@ ghost use Rattle.uc_answer.specs.Lines.{joined, proof_line};
 ghost use Rattle.uc_answer.specs.Refusals.{large_line};
 ghost use Rattle.uc_top.specs.Answers.{checked_status, IsProofFetched, TextAnswers, ProofAnswers, ProblemAnswers, CheckAnswers};
 ghost use Rattle.uc_top.specs.Runs.{HasProof};
+ghost use Rattle.uc_top.specs.Faulting.{AnswersFault};
+ghost use Rattle.uc_edge.specs.Faults.{IsCounted};
 
 use crate::loading::bytes_of;
 use std::alloc::{AllocError, Global};
@@ -39,6 +41,7 @@ pub(crate) fn check_answer<L: Library>(
     ensures certified { IfOk result (λ answer. answer.status ≡ 0 → (files : Files) → L.holds library.old ≡ Some files → HasProof files (option_copied root.entry) name.now proof.now) }
     ensures same { L.holds library.new ≡ L.holds library.old }
     ensures later { L.faults library.old ≤ L.faults library.new }
+    ensures faulted { AnswersFault (L.faults library.old) (L.faults library.new) (L.failed_at library.old) (L.failed_at library.new) [] result }
 {
     let root = bytes_of(root);
     let mut symbols = Symbols::new(alloc);
@@ -62,6 +65,7 @@ fn load_and_check<L: Library>(
     ensures certified { IsDistinct symbols.new → IfOk result (λ answer. answer.status ≡ 0 → (files : Files) → L.holds library.old ≡ Some files → HasProof files (option_copied root.entry) name.now proof.now) }
     ensures same { L.holds library.new ≡ L.holds library.old }
     ensures later { L.faults library.old ≤ L.faults library.new }
+    ensures faulted { AnswersFault (L.faults library.old) (L.faults library.new) (L.failed_at library.old) (L.failed_at library.new) [] result }
 {
     match load(alloc, library, root, name, symbols) {
         Ok(problem) => problem_answer(alloc, &problem, proof, symbols, library),
@@ -83,6 +87,7 @@ fn problem_answer<L: Library>(
     ensures grows { Grows symbols.old symbols.new }
     ensures same { L.holds library.new ≡ L.holds library.old }
     ensures later { L.faults library.old ≤ L.faults library.new }
+    ensures faulted { AnswersFault (L.faults library.old) (L.faults library.new) (L.failed_at library.old) (L.failed_at library.new) [] result }
 {
     let clauses = problem.clauses.as_slice();
     match marks(alloc, problem, symbols) {
@@ -108,6 +113,7 @@ fn proof_answer<L: Library>(
     ensures grows { Grows symbols.old symbols.new }
     ensures same { L.holds library.new ≡ L.holds library.old }
     ensures later { L.faults library.old ≤ L.faults library.new }
+    ensures faulted { AnswersFault (L.faults library.old) (L.faults library.new) (L.failed_at library.old) (L.failed_at library.new) [] result }
 {
     let file = name.as_bytes();
     match fetch_proof(alloc, library, file)? {
@@ -128,6 +134,7 @@ fn fetch_proof<L: Library>(
     ensures fetched { IfOk result (IsProofFetched (L.holds library.old) (L.faults library.old) (L.faults library.new) name.now) }
     ensures same { L.holds library.new ≡ L.holds library.old }
     ensures later { L.faults library.old ≤ L.faults library.new }
+    ensures counted { IsCounted (failing name.now result) (L.faults library.old) (L.faults library.new) (L.failed_at library.old) (L.failed_at library.new) }
 {
     match str::from_utf8(name) {
         Ok(name) => library.fetch(alloc, name, MAX_PROOF + 1),

@@ -23,6 +23,7 @@ ghost use Rattle.uc_top.specs.DecideAnswers.{opening_of_axioms, IsDecided};
 ghost use Rattle.uc_top.specs.Answers.{DecideAnswers};
 ghost use Rattle.uc_top.specs.DecideRuns.{Decided, KeepsDecision};
 ghost use Rattle.uc_top.specs.DecideTold.{AreGroundOfTable, TellsEnd, IsToldBySearch};
+ghost use Rattle.uc_top.specs.Faulting.{AnswersFault};
 
 use crate::axioms::without_goals;
 use crate::loading::bytes_of;
@@ -63,6 +64,7 @@ pub(crate) fn decide_answer<R: Wait, L: Library>(
     ensures promise { IfOk result (λ answer. answer.status ≤ 2 → (files : Files) → L.holds library.old ≡ Some files → KeepsDecision files command.now name.now words.now answer.status (joined answer.lines)) }
     ensures same { L.holds library.new ≡ L.holds library.old }
     ensures later { L.faults library.old ≤ L.faults library.new }
+    ensures faulted { AnswersFault (L.faults library.old) (L.faults library.new) (L.failed_at library.old) (L.failed_at library.new) [] result }
 {
     let mut symbols = Symbols::new(alloc);
     let name = name.as_bytes();
@@ -89,6 +91,7 @@ fn load_and_decide<R: Wait, L: Library>(
     ensures promise { IfOk result (λ answer. answer.status ≤ 2 → (files : Files) → L.holds library.old ≡ Some files → KeepsDecision files command.now name.now words.now answer.status (joined answer.lines)) }
     ensures same { L.holds library.new ≡ L.holds library.old }
     ensures later { L.faults library.old ≤ L.faults library.new }
+    ensures faulted { AnswersFault (L.faults library.old) (L.faults library.new) (L.failed_at library.old) (L.failed_at library.new) [] result }
 {
     match load(
         alloc,

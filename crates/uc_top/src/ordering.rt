@@ -10,6 +10,7 @@ ghost use Rattle.uc_answer.specs.Lines.{joined};
 ghost use Rattle.uc_answer.specs.Directions.{AreDirected};
 ghost use Rattle.uc_top.specs.OrderAnswers.{IsOrdered};
 ghost use Rattle.uc_top.specs.Answers.{OrderAnswers};
+ghost use Rattle.uc_top.specs.Faulting.{AnswersFault};
 
 use crate::axioms::axioms_of;
 use crate::loading::bytes_of;
@@ -35,6 +36,7 @@ pub(crate) fn order_answer<L: Library>(
     ensures answers { IfOk result (λ answer. OrderAnswers (L.holds library.old) (L.faults library.old) (L.faults library.new) words.now (option_copied root.entry) name.now answer.status (joined answer.lines)) }
     ensures same { L.holds library.new ≡ L.holds library.old }
     ensures later { L.faults library.old ≤ L.faults library.new }
+    ensures faulted { AnswersFault (L.faults library.old) (L.faults library.new) (L.failed_at library.old) (L.failed_at library.new) [] result }
 {
     let root = bytes_of(root);
     let mut symbols = Symbols::new(alloc);
@@ -56,6 +58,7 @@ fn load_and_order<L: Library>(
     ensures answers { IfOk result (λ answer. OrderAnswers (L.holds library.old) (L.faults library.old) (L.faults library.new) words.now (option_copied root.entry) name.now answer.status (joined answer.lines)) }
     ensures same { L.holds library.new ≡ L.holds library.old }
     ensures later { L.faults library.old ≤ L.faults library.new }
+    ensures faulted { AnswersFault (L.faults library.old) (L.faults library.new) (L.failed_at library.old) (L.failed_at library.new) [] result }
 {
     match load(alloc, library, root, name, symbols) {
         Ok(problem) => ordered_answer(alloc, &problem, words, symbols),

@@ -1,10 +1,10 @@
 //! Writing an answer.
 
-ghost use Rattle.std.specs.Prelude.{◌≤◌};
+ghost use Rattle.std.specs.Prelude.{◌≡◌, ◌≤◌};
 ghost use Rattle.std.specs.List.{flat_map};
-ghost use Rattle.uc_edge.specs.Pieces.{IsPut};
+ghost use Rattle.uc_edge.specs.Pieces.{IsPut, counted_put};
 ghost use Rattle.uc_answer.specs.Lines.{joined, memory_line};
-ghost use Rattle.uc_top.specs.Told.{IsTold};
+ghost use Rattle.uc_top.specs.Told.{IsTold, CountsWrites};
 
 use uc_answer::{Answer, WANT_OF_MEMORY};
 use uc_edge::{Sink, WriteFault, put};
@@ -19,6 +19,7 @@ const MEMORY_OUT: &[u8] = b"% SZS status MemoryOut\n";
 fn put_lines<S: Sink>(sink: &mut S, lines: &[Text]) -> Result<(), WriteFault>
     ensures put { IsPut (S.written sink.old) (S.written sink.new) (S.faults sink.old) (S.faults sink.new) (joined lines.now) result }
     ensures later { S.faults sink.old ≤ S.faults sink.new }
+    ensures counted { S.faults sink.new ≡ counted_put result (S.faults sink.old) }
 {
     for line in lines {
         put(sink, line.as_bytes())?;
@@ -30,6 +31,7 @@ fn put_lines<S: Sink>(sink: &mut S, lines: &[Text]) -> Result<(), WriteFault>
 pub(crate) fn tell<S: Sink>(sink: &mut S, answer: &Answer) -> u8
     ensures told { IsTold (S.written sink.old) (S.written sink.new) (S.faults sink.old) (S.faults sink.new) (joined answer.now.lines) answer.now.status result }
     ensures later { S.faults sink.old ≤ S.faults sink.new }
+    ensures counted { CountsWrites (S.faults sink.old) (S.faults sink.new) answer.now.status result }
 {
     match put_lines(sink, answer.lines.as_slice()) {
         Ok(()) => answer.status,
@@ -41,6 +43,7 @@ pub(crate) fn tell<S: Sink>(sink: &mut S, answer: &Answer) -> u8
 pub fn tell_memory_out<S: Sink>(sink: &mut S) -> u8
     ensures told { IsTold (S.written sink.old) (S.written sink.new) (S.faults sink.old) (S.faults sink.new) memory_line 7 result }
     ensures later { S.faults sink.old ≤ S.faults sink.new }
+    ensures counted { CountsWrites (S.faults sink.old) (S.faults sink.new) 7 result }
 {
     match put(sink, MEMORY_OUT) {
         Ok(()) => WANT_OF_MEMORY,

@@ -7,6 +7,7 @@ ghost use Rattle.uc_ordering.specs.Fits.{Fits};
 ghost use Rattle.uc_answer.specs.Lines.{joined};
 ghost use Rattle.uc_top.specs.PairsAnswers.{ArePairsFor, IsPaired};
 ghost use Rattle.uc_top.specs.Answers.{PairsAnswers};
+ghost use Rattle.uc_top.specs.Faulting.{AnswersFault};
 
 use crate::axioms::axioms_of;
 use crate::loading::bytes_of;
@@ -32,6 +33,7 @@ pub(crate) fn pairs_answer<L: Library>(
     ensures answers { IfOk result (λ answer. PairsAnswers (L.holds library.old) (L.faults library.old) (L.faults library.new) words.now (option_copied root.entry) name.now answer.status (joined answer.lines)) }
     ensures same { L.holds library.new ≡ L.holds library.old }
     ensures later { L.faults library.old ≤ L.faults library.new }
+    ensures faulted { AnswersFault (L.faults library.old) (L.faults library.new) (L.failed_at library.old) (L.failed_at library.new) [] result }
 {
     let root = bytes_of(root);
     let mut symbols = Symbols::new(alloc);
@@ -53,6 +55,7 @@ fn load_and_pair<L: Library>(
     ensures answers { IfOk result (λ answer. PairsAnswers (L.holds library.old) (L.faults library.old) (L.faults library.new) words.now (option_copied root.entry) name.now answer.status (joined answer.lines)) }
     ensures same { L.holds library.new ≡ L.holds library.old }
     ensures later { L.faults library.old ≤ L.faults library.new }
+    ensures faulted { AnswersFault (L.faults library.old) (L.faults library.new) (L.failed_at library.old) (L.failed_at library.new) [] result }
 {
     match load(alloc, library, root, name, symbols) {
         Ok(problem) => paired_answer(alloc, &problem, words, symbols),

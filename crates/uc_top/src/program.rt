@@ -2,7 +2,8 @@
 
 ghost use Rattle.std.specs.Prelude.{◌≡◌, ◌≤◌, ℕ, List, true, IfOk, IsTrue, IsFalse, Some, map, string_bytes, length};
 ghost use Rattle.uc_edge.specs.Files.{Files};
-ghost use Rattle.uc_edge.specs.Faults.{Rose};
+ghost use Rattle.std.specs.Io.KnownBytes.{Appends};
+ghost use Rattle.uc_edge.specs.Faults.{Rose, IsCounted};
 ghost use Rattle.uc_words.specs.declared.command.Command.{Command};
 ghost use Rattle.uc_words.specs.declared.command.Verb.TheVariants.{Check, Prove, Decide};
 ghost use Rattle.uc_words.specs.Reads.{Reads};
@@ -14,6 +15,8 @@ ghost use Rattle.uc_top.specs.RewriteRuns.{CompletesRewrite};
 ghost use Rattle.uc_top.specs.PairsRuns.{CompletesPairs};
 ghost use Rattle.uc_top.specs.ProveRuns.{KeepsCommand, CompletesProve};
 ghost use Rattle.uc_top.specs.DecideRuns.{KeepsDecideCommand, CompletesDecide};
+ghost use Rattle.uc_top.specs.Faulting.{AnswersFault, IsStatusFaulted, IsFaultedRun, fault_opening, fault_text};
+ghost use Rattle.uc_top.specs.Told.{CountsWrites};
 ghost use Rattle.uc_top.specs.Headline.{Headline};
 
 use crate::checking::check_answer;
@@ -52,6 +55,9 @@ use uc_words::{Command, Verb, WordsFault, read_words};
 /// limit on pairs or the size that ended the search; 4 where the order is refused; else 3. 4 stands for words that have no
 /// reading, name a command that isn't built, or ask for more than one worker, 5 for a failure of the library and 6 for one of
 /// the sink, each only where its count of faults rose in this call, and 7 for want of memory.
+///
+/// At most one fetch fails, and it ends the call with status 5, in which case the text names the file whose fetch failed, or with 6 or
+/// 7, where its line isn't written. At most one write fails, and it ends the call with status 6.
 pub fn run<R: Threads + Wait + Sync, L: Library, S: Sink, G: Gate + Sync>(
     rt: &R,
     alloc: Global,
@@ -72,7 +78,10 @@ pub fn run<R: Threads + Wait + Sync, L: Library, S: Sink, G: Gate + Sync>(
     ensures complete_decide { (files : Files) → L.holds library.old ≡ Some files → (Rose (L.faults library.old) (L.faults library.new) → ⊥) → (Rose (S.faults sink.old) (S.faults sink.new) → ⊥) → CompletesDecide files (map string_bytes words.now) (S.written sink.old) (S.written sink.new) result }
     ensures same { L.holds library.new ≡ L.holds library.old }
     ensures later { L.faults library.old ≤ L.faults library.new }
+    ensures faulted { IsFaultedRun (L.faults library.old) (L.faults library.new) (L.failed_at library.old) (L.failed_at library.new) result }
+    ensures named { result ≡ 5 → (command : Command) → Reads (map string_bytes words.now) command → (file : List ℕ) → IsCounted (Some file) (L.faults library.old) (L.faults library.new) (L.failed_at library.old) (L.failed_at library.new) → Appends (S.written sink.old) (S.written sink.new) (fault_text command file) }
     ensures sink_later { S.faults sink.old ≤ S.faults sink.new }
+    ensures sink_counted { (status : ℕ) × CountsWrites (S.faults sink.old) (S.faults sink.new) status result }
 {
     match answer_of(rt, alloc, words, library) {
         Ok(answer) => tell(sink, &answer),
@@ -93,6 +102,8 @@ fn answer_of<R: Wait, L: Library>(
     ensures decided { IfOk result (λ answer. answer.status ≤ 2 → (files : Files) → L.holds library.old ≡ Some files → (command : Command) → Reads (map string_bytes words.now) command → command.verb ≡ Decide → KeepsDecideCommand files command answer.status (joined answer.lines)) }
     ensures same { L.holds library.new ≡ L.holds library.old }
     ensures later { L.faults library.old ≤ L.faults library.new }
+    ensures faulted { (command : Command) → Reads (map string_bytes words.now) command → AnswersFault (L.faults library.old) (L.faults library.new) (L.failed_at library.old) (L.failed_at library.new) (fault_opening command) result }
+    ensures counted { IsStatusFaulted (L.faults library.old) (L.faults library.new) (L.failed_at library.old) (L.failed_at library.new) result }
 {
     match read_words(alloc, words) {
         Ok(command) => command_answer(rt, alloc, &command, library),
@@ -116,6 +127,7 @@ fn command_answer<R: Wait, L: Library>(
     ensures decided { command.now.verb ≡ Decide → IfOk result (λ answer. answer.status ≤ 2 → (files : Files) → L.holds library.old ≡ Some files → KeepsDecideCommand files command.now answer.status (joined answer.lines)) }
     ensures same { L.holds library.new ≡ L.holds library.old }
     ensures later { L.faults library.old ≤ L.faults library.new }
+    ensures faulted { AnswersFault (L.faults library.old) (L.faults library.new) (L.failed_at library.old) (L.failed_at library.new) (fault_opening command.now) result }
 {
     match command.verb {
         Verb::Check => match command.positionals.as_slice() {
@@ -166,6 +178,7 @@ fn prove_command<R: Wait, L: Library>(
     ensures promise { IfOk result (λ answer. answer.status ≤ 2 → (files : Files) → L.holds library.old ≡ Some files → KeepsCommand files command.now answer.status (joined answer.lines)) }
     ensures same { L.holds library.new ≡ L.holds library.old }
     ensures later { L.faults library.old ≤ L.faults library.new }
+    ensures faulted { AnswersFault (L.faults library.old) (L.faults library.new) (L.failed_at library.old) (L.failed_at library.new) (fault_opening command.now) result }
 {
     if !is_alone(command) {
         return usage_answer(alloc);
@@ -190,6 +203,7 @@ fn decide_command<R: Wait, L: Library>(
     ensures decided { IfOk result (λ answer. answer.status ≤ 2 → (files : Files) → L.holds library.old ≡ Some files → KeepsDecideCommand files command.now answer.status (joined answer.lines)) }
     ensures same { L.holds library.new ≡ L.holds library.old }
     ensures later { L.faults library.old ≤ L.faults library.new }
+    ensures faulted { AnswersFault (L.faults library.old) (L.faults library.new) (L.failed_at library.old) (L.failed_at library.new) (fault_opening command.now) result }
 {
     if !is_alone(command) {
         return usage_answer(alloc);

@@ -15,6 +15,7 @@ ghost use Rattle.uc_answer.specs.PrintableProblems.{are_seen, IsRootSeen, CanBeP
 ghost use Rattle.uc_answer.specs.Promises.{Keeps};
 ghost use Rattle.uc_top.specs.ProveAnswers.{IsProveAnswer, ProveAnswers};
 ghost use Rattle.uc_top.specs.ProveRuns.{IsKept, KeepsPromise};
+ghost use Rattle.uc_top.specs.Faulting.{AnswersFault, input_error};
 
 use crate::loading::bytes_of;
 use std::alloc::{AllocError, Global};
@@ -51,6 +52,7 @@ pub(crate) fn prove_answer<R: Wait, L: Library>(
     ensures promise { IfOk result (λ answer. answer.status ≤ 2 → (files : Files) → L.holds library.old ≡ Some files → KeepsPromise files command.now name.now answer.status (joined answer.lines)) }
     ensures same { L.holds library.new ≡ L.holds library.old }
     ensures later { L.faults library.old ≤ L.faults library.new }
+    ensures faulted { AnswersFault (L.faults library.old) (L.faults library.new) (L.failed_at library.old) (L.failed_at library.new) (input_error name.now) result }
 {
     let mut symbols = Symbols::new(alloc);
     let answer = load_and_prove(rt, alloc, command, name.as_bytes(), &mut symbols, library);
@@ -80,6 +82,7 @@ fn load_and_prove<R: Wait, L: Library>(
     ensures promise { IfOk result (λ answer. answer.status ≤ 2 → (files : Files) → L.holds library.old ≡ Some files → (kept : IsKept symbols.new files command.now name.now answer.status (joined answer.lines)) × (IsDistinct symbols.new → AddsMarks kept.loaded symbols.new kept.keeps.fresh)) }
     ensures same { L.holds library.new ≡ L.holds library.old }
     ensures later { L.faults library.old ≤ L.faults library.new }
+    ensures faulted { AnswersFault (L.faults library.old) (L.faults library.new) (L.failed_at library.old) (L.failed_at library.new) (input_error name.now) result }
 {
     match load(
         alloc,

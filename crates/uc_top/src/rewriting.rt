@@ -12,6 +12,7 @@ ghost use Rattle.uc_answer.specs.TermWords.{IsTermWord, IsWordFault};
 ghost use Rattle.uc_answer.specs.ChainLines.{stop_status, AreNormalLines};
 ghost use Rattle.uc_top.specs.RewriteAnswers.{IsNormalFor, IsRewritten};
 ghost use Rattle.uc_top.specs.Answers.{RewriteAnswers};
+ghost use Rattle.uc_top.specs.Faulting.{AnswersFault};
 
 use crate::axioms::axioms_of;
 use crate::loading::bytes_of;
@@ -42,6 +43,7 @@ pub(crate) fn rewrite_answer<L: Library>(
     ensures answers { IfOk result (λ answer. RewriteAnswers (L.holds library.old) (L.faults library.old) (L.faults library.new) command.now.order command.now.limit word.now command.now.root name.now answer.status (joined answer.lines)) }
     ensures same { L.holds library.new ≡ L.holds library.old }
     ensures later { L.faults library.old ≤ L.faults library.new }
+    ensures faulted { AnswersFault (L.faults library.old) (L.faults library.new) (L.failed_at library.old) (L.failed_at library.new) [] result }
 {
     let mut symbols = Symbols::new(alloc);
     load_and_rewrite(
@@ -70,6 +72,7 @@ fn load_and_rewrite<L: Library>(
     ensures answers { IfOk result (λ answer. RewriteAnswers (L.holds library.old) (L.faults library.old) (L.faults library.new) command.now.order command.now.limit word.now command.now.root name.now answer.status (joined answer.lines)) }
     ensures same { L.holds library.new ≡ L.holds library.old }
     ensures later { L.faults library.old ≤ L.faults library.new }
+    ensures faulted { AnswersFault (L.faults library.old) (L.faults library.new) (L.failed_at library.old) (L.failed_at library.new) [] result }
 {
     match load(
         alloc,

@@ -6,6 +6,7 @@ ghost use Rattle.uc_term.specs.Gathering.{AreOf};
 ghost use Rattle.uc_problem.specs.Holds.{terms_of};
 ghost use Rattle.uc_answer.specs.Lines.{joined, shown_lines};
 ghost use Rattle.uc_top.specs.Answers.{ShowAnswers};
+ghost use Rattle.uc_top.specs.Faulting.{AnswersFault};
 
 use crate::loading::bytes_of;
 use std::alloc::{AllocError, Global};
@@ -25,6 +26,7 @@ pub(crate) fn show_answer<L: Library>(
     ensures answers { IfOk result (λ answer. ShowAnswers (L.holds library.old) (L.faults library.old) (L.faults library.new) (option_copied root.entry) name.now answer.status (joined answer.lines)) }
     ensures same { L.holds library.new ≡ L.holds library.old }
     ensures later { L.faults library.old ≤ L.faults library.new }
+    ensures faulted { AnswersFault (L.faults library.old) (L.faults library.new) (L.failed_at library.old) (L.failed_at library.new) [] result }
 {
     let mut symbols = Symbols::new(alloc);
     load_and_show(
@@ -48,6 +50,7 @@ fn load_and_show<L: Library>(
     ensures answers { IfOk result (λ answer. ShowAnswers (L.holds library.old) (L.faults library.old) (L.faults library.new) (option_copied root.entry) name.now answer.status (joined answer.lines)) }
     ensures same { L.holds library.new ≡ L.holds library.old }
     ensures later { L.faults library.old ≤ L.faults library.new }
+    ensures faulted { AnswersFault (L.faults library.old) (L.faults library.new) (L.failed_at library.old) (L.failed_at library.new) [] result }
 {
     match load(alloc, library, root, name, symbols) {
         Ok(problem) => clauses_answer(alloc, problem.clauses.as_slice(), symbols),

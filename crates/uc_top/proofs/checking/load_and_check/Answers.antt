@@ -1,4 +1,6 @@
 use Rattle.uc_top.proofs.Answering.{loaded_answers, loaded_certified, refused_answers, refused_not_done}
+use Rattle.std.proofs.Common.{[]}
+use Rattle.uc_top.proofs.Faulted.{load_failed, later_failed}
 use Rattle.uc_top.proofs.checking.load_and_check.Goals as goal
 
 pub returns-in-Ok-clause-answers : goal.returns-in-Ok-clause-answers
@@ -12,3 +14,9 @@ returns-in-Err-clause-answers g c = λ distinct. refused_answers c.args.symbols.
 
 pub returns-in-Err-clause-certified : goal.returns-in-Err-clause-certified
 returns-in-Err-clause-certified g c = λ distinct. refused_not_done _ c.in-Err.fault c.load_answer.result c.load_answer.ensures.answer
+
+pub returns-in-Ok-clause-faulted : goal.returns-in-Ok-clause-faulted
+returns-in-Ok-clause-faulted g c = later_failed _ _ [] c.problem_answer.result (rw c.in-Ok.is at c.load.ensures.counted) c.problem_answer.ensures.faulted
+
+pub returns-in-Err-clause-faulted : goal.returns-in-Err-clause-faulted
+returns-in-Err-clause-faulted g c = load_failed (g.L.Library.faults c.args.library.now) (g.L.Library.faults c.load.new.library) (g.L.Library.failed_at c.args.library.now) (g.L.Library.failed_at c.load.new.library) c.in-Err.fault c.load_answer.result c.load_answer.ensures.answer c.load_answer.ensures.not_memory (rw c.in-Err.is at c.load.ensures.counted)

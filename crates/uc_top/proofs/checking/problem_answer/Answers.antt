@@ -1,4 +1,6 @@
 use Rattle.uc_top.proofs.Answering.{large_within, large_goal, marked_answers}
+use Rattle.std.proofs.Common.{[], refl}
+use Rattle.uc_top.proofs.Faulted.{none_failed}
 use Rattle.uc_top.proofs.checking.problem_answer.Goals as goal
 
 pub bounds-clauses-number : goal.bounds-clauses-number
@@ -9,3 +11,6 @@ returns-in-Ok-clause-answers g c = marked_answers c.args.symbols.now c.marks.new
 
 pub returns-in-Err-GoalTooLarge-clause-answers : goal.returns-in-Err-GoalTooLarge-clause-answers
 returns-in-Err-GoalTooLarge-clause-answers g c = λ distinct. large_goal c.args.symbols.now c.marks.new.symbols _ _ _ c.args.problem.now c.args.proof.now c.in-Err-GoalTooLarge.number c.index-clauses-number.result c.large_answer.result (rw (c.in-Err-GoalTooLarge.is, c.in-Err-GoalTooLarge.field-0-is) at c.marks.ensures.marked) (rw c.as_slice-clauses.ensures at c.index-clauses-number.is) c.large_answer.ensures
+
+pub returns-in-Err-GoalTooLarge-clause-faulted : goal.returns-in-Err-GoalTooLarge-clause-faulted
+returns-in-Err-GoalTooLarge-clause-faulted g c = none_failed (g.L.Library.faults c.args.library.now) (g.L.Library.faults c.args.library.now) (g.L.Library.failed_at c.args.library.now) (g.L.Library.failed_at c.args.library.now) [] c.large_answer.result (refl, refl)

@@ -1,6 +1,8 @@
 use Rattle.uc_top.proofs.Answering.{loaded, refused_answers}
 use Rattle.uc_top.proofs.DecidedAnswers.{loaded_decided}
 use Rattle.uc_top.proofs.ProvedAnswers.{no_promise, high_status}
+use Rattle.std.proofs.Common.{[]}
+use Rattle.uc_top.proofs.Faulted.{none_failed, load_failed}
 use Rattle.uc_top.proofs.deciding.load_and_decide.Goals as goal
 
 pub returns-in-Ok-clause-answers : goal.returns-in-Ok-clause-answers
@@ -14,3 +16,9 @@ returns-in-Err-clause-answers g c = refused_answers c.args.symbols.now c.load.ne
 
 pub returns-in-Err-clause-promise : goal.returns-in-Err-clause-promise
 returns-in-Err-clause-promise g c = no_promise _ _ _ c.load_answer.result (high_status c.in-Err.fault) c.load_answer.ensures.answer
+
+pub returns-in-Ok-clause-faulted : goal.returns-in-Ok-clause-faulted
+returns-in-Ok-clause-faulted g c = none_failed (g.L.Library.faults c.args.library.now) (g.L.Library.faults c.load.new.library) (g.L.Library.failed_at c.args.library.now) (g.L.Library.failed_at c.load.new.library) [] c.asked_answer.result (rw c.in-Ok.is at c.load.ensures.counted)
+
+pub returns-in-Err-clause-faulted : goal.returns-in-Err-clause-faulted
+returns-in-Err-clause-faulted g c = load_failed (g.L.Library.faults c.args.library.now) (g.L.Library.faults c.load.new.library) (g.L.Library.failed_at c.args.library.now) (g.L.Library.failed_at c.load.new.library) c.in-Err.fault c.load_answer.result c.load_answer.ensures.answer c.load_answer.ensures.not_memory (rw c.in-Err.is at c.load.ensures.counted)

@@ -1,4 +1,5 @@
 use Rattle.uc_top.specs.Told.{told, cut_short}
+use Rattle.uc_top.specs.Told.{no_write_fails, one_write_fails}
 use Rattle.uc_top.proofs.output.tell_memory_out.Goals as goal
 
 pub returns-in-Ok-clause-told : goal.returns-in-Ok-clause-told
@@ -6,3 +7,9 @@ returns-in-Ok-clause-told g c = told c.in-Ok.ensures.put
 
 pub returns-in-Err-clause-told : goal.returns-in-Err-clause-told
 returns-in-Err-clause-told g c = let p = c.in-Err.ensures.put in cut_short p.1 p.2 p.3
+
+pub returns-in-Ok-clause-counted : goal.returns-in-Ok-clause-counted
+returns-in-Ok-clause-counted g c = no_write_fails c.in-Ok.ensures.counted
+
+pub returns-in-Err-clause-counted : goal.returns-in-Err-clause-counted
+returns-in-Err-clause-counted g c = one_write_fails c.in-Err.ensures.counted

@@ -5,6 +5,8 @@ use Rattle.uc_top.specs.Answers.{checks, shows, orders, rewrites, pairs_up, isnt
 use Rattle.uc_top.specs.Runs.{MayAnswer, is_answer}
 use Rattle.uc_top.proofs.Answering.{one_line, one_name, two_names, not_built, usage_not_done}
 use Rattle.uc_top.proofs.ShortWords.{positionals_short}
+use Rattle.uc_top.specs.Faulting.{fault_opening}
+use Rattle.uc_top.proofs.Faulted.{none_failed}
 use Rattle.uc_top.proofs.program.command_answer.Goals as goal
 
 pub returns-in-len2-clause-answers : goal.returns-in-len2-clause-answers
@@ -55,4 +57,20 @@ returns-in_default g c = record {
   decided = λ v. absurd (c.in_default.not-Decide v);
   same = refl;
   later = omega arith;
+  faulted = none_failed (g.L.Library.faults c.args.library.now) (g.L.Library.faults c.args.library.now) (g.L.Library.failed_at c.args.library.now) (g.L.Library.failed_at c.args.library.now) (fault_opening c.args.command.now) c.usage_answer.result (refl, refl);
 }
+
+pub returns-in-len2-clause-faulted : goal.returns-in-len2-clause-faulted
+returns-in-len2-clause-faulted g c = rw c.in-Check.is c.check_answer.ensures.faulted
+
+pub returns-in-len1-clause-faulted : goal.returns-in-len1-clause-faulted
+returns-in-len1-clause-faulted g c = rw c.in-Show.is c.show_answer.ensures.faulted
+
+pub returns-in-len1-as_slice-clause-faulted : goal.returns-in-len1-as_slice-clause-faulted
+returns-in-len1-as_slice-clause-faulted g c = rw c.in-Order.is c.order_answer.ensures.faulted
+
+pub returns-in-len2-as_slice-clause-faulted : goal.returns-in-len2-as_slice-clause-faulted
+returns-in-len2-as_slice-clause-faulted g c = rw c.in-Rewrite.is c.rewrite_answer.ensures.faulted
+
+pub returns-in-len1-as_slice-2-clause-faulted : goal.returns-in-len1-as_slice-2-clause-faulted
+returns-in-len1-as_slice-2-clause-faulted g c = rw c.in-Pairs.is c.pairs_answer.ensures.faulted

@@ -9,6 +9,9 @@ use Rattle.uc_top.proofs.ProvedAnswers.{no_promise}
 use Rattle.uc_top.proofs.SeenWords.{budget_within, pairs_within}
 use Rattle.uc_top.proofs.ShortWords.{positionals_short}
 use Rattle.uc_top.proofs.VariableWeights.{w0_within}
+use Rattle.std.proofs.Common.{refl}
+use Rattle.uc_top.specs.Faulting.{fault_opening}
+use Rattle.uc_top.proofs.Faulted.{none_failed}
 use Rattle.uc_top.proofs.program.decide_command.Goals as goal
 
 pub returns-then-not-is_alone-clause-answers : goal.returns-then-not-is_alone-clause-answers
@@ -43,3 +46,9 @@ pub returns-clause-decided : goal.returns-clause-decided
 returns-clause-decided g c =
     let names : c.args.command.now.positionals ≡ c.name-item.result ∷ take (length c.as_slice.result.now - 1) (drop 1 c.as_slice.result.now) = sym c.as_slice.ensures ∙ name_and_more c.as_slice.result.now c.name-item.result c.in-len1-up.len_at_least c.name-item.is in
     kept_answers c.args.command.now c.name-item.result (take (length c.as_slice.result.now - 1) (drop 1 c.as_slice.result.now)) _ c.decide_answer.result names c.decide_answer.ensures.promise
+
+pub returns-then-not-is_alone-clause-faulted : goal.returns-then-not-is_alone-clause-faulted
+returns-then-not-is_alone-clause-faulted g c = none_failed (g.L.Library.faults c.args.library.now) (g.L.Library.faults c.args.library.now) (g.L.Library.failed_at c.args.library.now) (g.L.Library.failed_at c.args.library.now) (fault_opening c.args.command.now) c.usage_answer.result (refl, refl)
+
+pub returns-clause-faulted : goal.returns-clause-faulted
+returns-clause-faulted g c = rw c.requires.decide c.decide_answer.ensures.faulted

@@ -7,6 +7,9 @@ use Rattle.uc_top.proofs.Positionals.{only_name}
 use Rattle.uc_top.proofs.ProvedAnswers.{no_promise}
 use Rattle.uc_top.proofs.SeenWords.{AreTitles, positionals_seen, root_seen, budget_within, pairs_within}
 use Rattle.uc_top.proofs.VariableWeights.{w0_within}
+use Rattle.std.proofs.Common.{refl}
+use Rattle.uc_top.specs.Faulting.{fault_opening}
+use Rattle.uc_top.proofs.Faulted.{none_failed}
 use Rattle.uc_top.proofs.program.prove_command.Goals as goal
 
 pub returns-then-not-is_alone-clause-answers : goal.returns-then-not-is_alone-clause-answers
@@ -49,3 +52,11 @@ pub returns-clause-promise : goal.returns-clause-promise
 returns-clause-promise g c =
     let names : c.args.command.now.positionals ≡ c.name-item.result ∷ [] = sym c.as_slice.ensures ∙ one_name c.as_slice.result.now c.name-item.result c.in-len1.len_at_least c.in-len1.len_below c.name-item.is in
     IfOk-weaker c.prove_answer.result _ _ (λ answer k few files told name one is. rw (only_name (sym is ∙ names)) (k few files told)) c.prove_answer.ensures.promise
+
+pub returns-then-not-is_alone-clause-faulted : goal.returns-then-not-is_alone-clause-faulted
+returns-then-not-is_alone-clause-faulted g c = none_failed (g.L.Library.faults c.args.library.now) (g.L.Library.faults c.args.library.now) (g.L.Library.failed_at c.args.library.now) (g.L.Library.failed_at c.args.library.now) (fault_opening c.args.command.now) c.usage_answer.result (refl, refl)
+
+pub returns-clause-faulted : goal.returns-clause-faulted
+returns-clause-faulted g c =
+    let names : c.args.command.now.positionals ≡ c.name-item.result ∷ [] = sym c.as_slice.ensures ∙ one_name c.as_slice.result.now c.name-item.result c.in-len1.len_at_least c.in-len1.len_below c.name-item.is in
+    rw (c.requires.prove, names) c.prove_answer.ensures.faulted

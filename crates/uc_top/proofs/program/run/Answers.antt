@@ -8,6 +8,7 @@ use Rattle.uc_top.proofs.PairsCompleting.{pairs_complete}
 use Rattle.uc_top.proofs.ProveCompleting.{prove_completes, keeps_word}
 use Rattle.uc_top.proofs.DecidePromises.{keeps_decide_word}
 use Rattle.uc_top.proofs.DecideCompleting.{decide_completes}
+use Rattle.uc_top.proofs.Faulted.{wants, tells, named, never_five}
 use Rattle.uc_top.proofs.program.run.Goals as goal
 
 pub returns-in-Err-clause-answers : goal.returns-in-Err-clause-answers
@@ -69,3 +70,21 @@ returns-in-Err-clause-complete_decide g c = decide_completes _ _ _ _ _ _ _ _ _ (
 
 pub returns-in-Ok-clause-complete_decide : goal.returns-in-Ok-clause-complete_decide
 returns-in-Ok-clause-complete_decide g c = decide_completes _ _ _ _ _ _ _ _ _ (record { status = _; text = _; answer = c.in-Ok.ensures.answers; told = c.tell.ensures.told })
+
+pub returns-in-Ok-clause-faulted : goal.returns-in-Ok-clause-faulted
+returns-in-Ok-clause-faulted g c = tells (g.L.Library.faults c.args.library.now) (g.L.Library.faults c.answer_of.new.library) (g.L.Library.failed_at c.args.library.now) (g.L.Library.failed_at c.answer_of.new.library) c.in-Ok.ensures.counted c.tell.ensures.counted
+
+pub returns-in-Err-clause-faulted : goal.returns-in-Err-clause-faulted
+returns-in-Err-clause-faulted g c = wants (g.L.Library.faults c.args.library.now) (g.L.Library.faults c.answer_of.new.library) (g.L.Library.failed_at c.args.library.now) (g.L.Library.failed_at c.answer_of.new.library) c.in-Err.ensures.counted.0 c.in-Err.ensures.counted.1 c.tell_memory_out.ensures.counted
+
+pub returns-in-Ok-clause-named : goal.returns-in-Ok-clause-named
+returns-in-Ok-clause-named g c five command reads file counted = named (g.L.Library.faults c.args.library.now) (g.L.Library.faults c.answer_of.new.library) (g.L.Library.failed_at c.args.library.now) (g.L.Library.failed_at c.answer_of.new.library) file c.tell.ensures.told five (c.in-Ok.ensures.faulted command reads) counted
+
+pub returns-in-Err-clause-named : goal.returns-in-Err-clause-named
+returns-in-Err-clause-named g c five command reads file counted = absurd (never_five c.tell_memory_out.ensures.counted five)
+
+pub returns-in-Ok-clause-sink_counted : goal.returns-in-Ok-clause-sink_counted
+returns-in-Ok-clause-sink_counted g c = (_, c.tell.ensures.counted)
+
+pub returns-in-Err-clause-sink_counted : goal.returns-in-Err-clause-sink_counted
+returns-in-Err-clause-sink_counted g c = (7, c.tell_memory_out.ensures.counted)

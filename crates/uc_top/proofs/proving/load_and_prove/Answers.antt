@@ -1,4 +1,6 @@
 use Rattle.uc_top.proofs.ProvedAnswers.{loaded, loaded_kept, unloaded, no_promise, high_status}
+use Rattle.uc_top.specs.Faulting.{input_error}
+use Rattle.uc_top.proofs.Faulted.{none_failed, prove_failed}
 use Rattle.uc_top.proofs.proving.load_and_prove.Goals as goal
 
 pub returns-in-Ok-clause-answers : goal.returns-in-Ok-clause-answers
@@ -12,3 +14,9 @@ returns-in-Err-clause-answers g c = λ distinct. unloaded c.args.symbols.now c.l
 
 pub returns-in-Err-clause-promise : goal.returns-in-Err-clause-promise
 returns-in-Err-clause-promise g c = no_promise _ _ _ c.unloaded_answer.result (high_status c.in-Err.fault) c.unloaded_answer.ensures.answer
+
+pub returns-in-Ok-clause-faulted : goal.returns-in-Ok-clause-faulted
+returns-in-Ok-clause-faulted g c = none_failed (g.L.Library.faults c.args.library.now) (g.L.Library.faults c.load.new.library) (g.L.Library.failed_at c.args.library.now) (g.L.Library.failed_at c.load.new.library) (input_error c.args.name.now) c.encoded_answer.result (rw c.in-Ok.is at c.load.ensures.counted)
+
+pub returns-in-Err-clause-faulted : goal.returns-in-Err-clause-faulted
+returns-in-Err-clause-faulted g c = prove_failed (g.L.Library.faults c.args.library.now) (g.L.Library.faults c.load.new.library) (g.L.Library.failed_at c.args.library.now) (g.L.Library.failed_at c.load.new.library) c.args.name.now c.in-Err.fault c.unloaded_answer.result c.unloaded_answer.ensures.answer c.unloaded_answer.ensures.not_memory (rw c.in-Err.is at c.load.ensures.counted)
