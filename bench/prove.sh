@@ -20,7 +20,7 @@ phases() {
         else if (name ~ /uc_rewrite|uc_unify|uc_fact/) phase = "normalising"
         else if (name ~ /uc_pair/) phase = "overlaps"
         else if (name ~ /uc_ground/) phase = "ground joinability"
-        else if (name ~ /uc_shelf|boxcar/) phase = "fronts"
+        else if (name ~ /uc_shelf|uc_disc|boxcar/) phase = "fronts"
         else if (name ~ /uc_book|uc_rows|uc_queue|uc_ledger|uc_machine/) phase = "the book"
         sum[phase] += share
         if (name ~ /uc_shelf::shelf::Front::copy/) sum["of the fronts, copying"] += share
