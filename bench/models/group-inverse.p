@@ -1,0 +1,4 @@
+cnf(left_identity, axiom, m(e,X) = X).
+cnf(left_inverse, axiom, m(i(X),X) = e).
+cnf(associativity, axiom, m(m(X,Y),Z) = m(X,m(Y,Z))).
+cnf(goal, negated_conjecture, i(a) != a).

@@ -1,0 +1,2 @@
+cnf(ax, axiom, f(b) = c).
+cnf(g, negated_conjecture, f(X) != a).

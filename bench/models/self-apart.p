@@ -1,0 +1,1 @@
+cnf(g, negated_conjecture, a != a).
