@@ -1,0 +1,14 @@
+//! Finite tables: algebras on a few values, as models of a problem that refute its goals (McCune, A Davis-Putnam program and
+//! its application to finite first-order model search).
+//!
+//! A table gives each symbol a value below its size for each list of arguments. Where the two sides of every axiom have one value
+//! under every assignment, and the sides of a goal two values under every assignment, the goal doesn't follow from the axioms.
+#![tactic(auto)]
+
+mod answers;
+mod fault;
+mod table;
+
+pub use answers::{Searched, Tabled};
+pub use fault::TableFault;
+pub use table::{MAX_ASSIGNMENTS, MAX_CELLS, MAX_SIZE, Table};
