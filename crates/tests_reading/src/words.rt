@@ -54,22 +54,40 @@ gen|0|1
 gen|2001|1
 gen|5|2147483648
 gen|5
-gen|--root|x|5|1";
+gen|--root|x|5|1
+table|r4.p
+table|r4.p|t|t
+table|--size|2|r4.p|t
+table|--budget|5|r4.p|t
+model
+model|r4.p|t
+model|--size|0|r4.p
+model|--size|9|r4.p
+model|--size=2|--size=3|r4.p
+model|--budget|10000001|r4.p
+model|--pairs|5|r4.p
+model|--workers|1|r4.p
+model|--order|lpo|r4.p
+prove|--size|2|r5.p";
 
 // lines that have one, each with its command behind an arrow
-const ONE_READING: &str = "show|--|--root => Show 100000 1000000 1 100000 4096 1 false false;--root
-prove|--budget=0|r5.p|--trace|--workers|64 => Prove 0 1000000 64 100000 4096 1 true false;r5.p
-prove|--budget|10000000|--pairs|8000000|r5.p => Prove 10000000 8000000 1 100000 4096 1 false false;r5.p
-prove|--pairs=1|--workers=1|r5.p => Prove 100000 1 1 100000 4096 1 false false;r5.p
-decide|--steps=10000000|--w0=1000000|r5.p|a = b => Decide 100000 1000000 1 10000000 4096 1000000 false false;r5.p;a = b
-decide|--steps=0|r5.p|a = b|b = a => Decide 100000 1000000 1 0 4096 1 false false;r5.p;a = b;b = a
-rewrite|--limit=10000000|r5.p|f(a) => Rewrite 100000 1000000 1 100000 10000000 1 false false;r5.p;f(a)
-rewrite|--limit=0|r5.p|f(a) => Rewrite 100000 1000000 1 100000 0 1 false false;r5.p;f(a)
-gen|1|0 => Gen 100000 1000000 1 100000 4096 1 false false;1;0
-gen|2000|2147483647 => Gen 100000 1000000 1 100000 4096 1 false false;2000;2147483647
-check|--root=-x=y|-|--|-- => Check 100000 1000000 1 100000 4096 1 false false;-;--:-x=y
-order|--precedence|f<'g<\\''<f|r5.p|--order=lpo => Order 100000 1000000 1 100000 4096 1 false true;r5.p<f<g<'<f
-order|--w0|2|--weights='f'=007,g_1=4294967295|r5.p => Order 100000 1000000 1 100000 4096 2 false false;r5.p,f=7,g_1=4294967295";
+const ONE_READING: &str = "show|--|--root => Show 100000 1000000 1 100000 4096 4 1 false false;--root
+prove|--budget=0|r5.p|--trace|--workers|64 => Prove 0 1000000 64 100000 4096 4 1 true false;r5.p
+prove|--budget|10000000|--pairs|8000000|r5.p => Prove 10000000 8000000 1 100000 4096 4 1 false false;r5.p
+prove|--pairs=1|--workers=1|r5.p => Prove 100000 1 1 100000 4096 4 1 false false;r5.p
+decide|--steps=10000000|--w0=1000000|r5.p|a = b => Decide 100000 1000000 1 10000000 4096 4 1000000 false false;r5.p;a = b
+decide|--steps=0|r5.p|a = b|b = a => Decide 100000 1000000 1 0 4096 4 1 false false;r5.p;a = b;b = a
+rewrite|--limit=10000000|r5.p|f(a) => Rewrite 100000 1000000 1 100000 10000000 4 1 false false;r5.p;f(a)
+rewrite|--limit=0|r5.p|f(a) => Rewrite 100000 1000000 1 100000 0 4 1 false false;r5.p;f(a)
+gen|1|0 => Gen 100000 1000000 1 100000 4096 4 1 false false;1;0
+gen|2000|2147483647 => Gen 100000 1000000 1 100000 4096 4 1 false false;2000;2147483647
+check|--root=-x=y|-|--|-- => Check 100000 1000000 1 100000 4096 4 1 false false;-;--:-x=y
+order|--precedence|f<'g<\\''<f|r5.p|--order=lpo => Order 100000 1000000 1 100000 4096 4 1 false true;r5.p<f<g<'<f
+order|--w0|2|--weights='f'=007,g_1=4294967295|r5.p => Order 100000 1000000 1 100000 4096 4 2 false false;r5.p,f=7,g_1=4294967295
+table|--root|x|r4.p|t => Table 100000 1000000 1 100000 4096 4 1 false false;r4.p;t:x
+model|r4.p => Model 100000 1000000 1 100000 4096 4 1 false false;r4.p
+model|--size=1|--budget|0|r4.p => Model 0 1000000 1 100000 4096 1 1 false false;r4.p
+model|r4.p|--budget=10000000|--size|08|--root|x => Model 10000000 1000000 1 100000 4096 8 1 false false;r4.p:x";
 
 fn words(alloc: Global, line: &str) -> Result<Vec<String>, AllocError> {
     let mut words = Vec::new(alloc);
@@ -123,12 +141,13 @@ fn told(alloc: Global, command: &Command) -> Result<Text, AllocError> {
         workers,
         steps,
         limit,
+        size,
         trace,
         order,
         ..
     } = command;
     let numbers = format!(in alloc;
-        "{verb:?} {budget} {pairs} {workers} {steps} {limit} {} {trace} {}",
+        "{verb:?} {budget} {pairs} {workers} {steps} {limit} {size} {} {trace} {}",
         order.w0, order.lpo
     )?;
     let mut out = Text::from_bytes(alloc, numbers.as_bytes())?;

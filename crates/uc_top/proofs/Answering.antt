@@ -334,6 +334,8 @@ not_built verb.Decide n m o r p q d b = d refl
 not_built verb.Rewrite n m o r p q d b = r refl
 not_built verb.Pairs n m o r p q d b = p refl
 not_built verb.Gen n m o r p q d b = b
+not_built verb.Table n m o r p q d b = b
+not_built verb.Model n m o r p q d b = b
 
 pub usage_not_done : (Q : Answer → Type 0) (r : Result Answer AllocError) (line : List ℕ) → IfOk r (λ answer. (answer.status ≡ 4) × (joined answer.lines ≡ line)) → IfOk r (λ answer. answer.status ≡ 0 → Q answer)
 usage_not_done Q (Ok answer) line h = λ e. absurd (omega (arith, h.0, e))

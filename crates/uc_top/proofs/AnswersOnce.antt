@@ -83,6 +83,8 @@ module _ (files : Files) (before now again later : ℕ) where
         rewrite_once k.order k.limit word k.root name v w x (subst (λ n. RewriteAnswers (Some files) again later k.order k.limit word k.root n t b) (first_name names) (subst (λ u. RewriteAnswers (Some files) again later k.order k.limit u k.root named t b) (second_name names) y))
     verb_once verb.Pairs k within {t = t} {b = b} v w (name, p, x) (named, q, y) = pairs_once k.order k.root name v w x (subst (λ n. PairsAnswers (Some files) again later k.order k.root n t b) (only_name (sym q ∙ p)) y)
     verb_once verb.Gen k within v w x y = usage_once x y
+    verb_once verb.Table k within v w x y = usage_once x y
+    verb_once verb.Model k within v w x y = usage_once x y
 
     module _ (words : List (List ℕ)) where
       abbrev Either : ℕ → ℕ → ℕ → List ℕ → Type 0

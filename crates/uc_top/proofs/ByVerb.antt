@@ -32,6 +32,8 @@ module _ (holds : Option Files) (before now : ℕ) where
   Of verb.Rewrite k status text = (name : List ℕ) × (word : List ℕ) × (k.positionals ≡ name ∷ word ∷ []) × RewriteAnswers holds before now k.order k.limit word k.root name status text
   Of verb.Pairs k status text = (name : List ℕ) × (k.positionals ≡ name ∷ []) × PairsAnswers holds before now k.order k.root name status text
   Of verb.Gen k status text = IsUsage status text
+  Of verb.Table k status text = IsUsage status text
+  Of verb.Model k status text = IsUsage status text
 
   not_of : (v : Verb) (k : Command) → (IsBuilt v → ⊥) → Of v k 4 usage_line
   not_of verb.Check k n = absurd (n tt)
@@ -42,6 +44,8 @@ module _ (holds : Option Files) (before now : ℕ) where
   not_of verb.Rewrite k n = absurd (n tt)
   not_of verb.Pairs k n = absurd (n tt)
   not_of verb.Gen k n = (refl, refl)
+  not_of verb.Table k n = (refl, refl)
+  not_of verb.Model k n = (refl, refl)
 
   -- a command that searches, by more workers than one
   of_many : (v : Verb) (k : Command) → IsSearching v → (k.workers ≡ 1 → ⊥) → Of v k 4 usage_line
@@ -53,6 +57,8 @@ module _ (holds : Option Files) (before now : ℕ) where
   of_many verb.Rewrite k s n = absurd s
   of_many verb.Pairs k s n = absurd s
   of_many verb.Gen k s n = absurd s
+  of_many verb.Table k s n = absurd s
+  of_many verb.Model k s n = absurd s
 
   module _ (words : List (List ℕ)) where
     -- the answer of a command that the words are, which is the only one

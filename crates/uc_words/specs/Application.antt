@@ -22,6 +22,8 @@ verb_name verb.Rewrite = codes "rewrite"
 verb_name verb.Order = codes "order"
 verb_name verb.Pairs = codes "pairs"
 verb_name verb.Gen = codes "gen"
+verb_name verb.Table = codes "table"
+verb_name verb.Model = codes "model"
 
 abbrev pub key_name : Key → List ℕ
 key_name key.Root = codes "root"
@@ -34,13 +36,14 @@ key_name key.Pairs = codes "pairs"
 key_name key.Workers = codes "workers"
 key_name key.Steps = codes "steps"
 key_name key.Limit = codes "limit"
+key_name key.Size = codes "size"
 key_name key.Trace = codes "trace"
 
 abbrev pub all_verbs : List Verb
-all_verbs = verb.Prove ∷ verb.Check ∷ verb.Decide ∷ verb.Show ∷ verb.Rewrite ∷ verb.Order ∷ verb.Pairs ∷ verb.Gen ∷ []
+all_verbs = verb.Prove ∷ verb.Check ∷ verb.Decide ∷ verb.Show ∷ verb.Rewrite ∷ verb.Order ∷ verb.Pairs ∷ verb.Gen ∷ verb.Table ∷ verb.Model ∷ []
 
 abbrev pub all_keys : List Key
-all_keys = key.Root ∷ key.Order ∷ key.Precedence ∷ key.Weights ∷ key.W0 ∷ key.Budget ∷ key.Pairs ∷ key.Workers ∷ key.Steps ∷ key.Limit ∷ key.Trace ∷ []
+all_keys = key.Root ∷ key.Order ∷ key.Precedence ∷ key.Weights ∷ key.W0 ∷ key.Budget ∷ key.Pairs ∷ key.Workers ∷ key.Steps ∷ key.Limit ∷ key.Size ∷ key.Trace ∷ []
 
 -- an option takes one value, the flag none, and neither may stand twice
 abbrev pub action_for : Bool → ArgAction

@@ -87,7 +87,8 @@ place key.Pairs = 6
 place key.Workers = 7
 place key.Steps = 8
 place key.Limit = 9
-place key.Trace = 10
+place key.Size = 10
+place key.Trace = 11
 
 abbrev pub same : Key → Key → Bool
 same a b = place a == place b

@@ -10,7 +10,7 @@ use crate::table::{Key, allows, is_flag};
 use clap::{Arg, ArgAction};
 use std::alloc::{AllocError, Global};
 
-const VERBS: [Verb; 8] = [
+const VERBS: [Verb; 10] = [
     Verb::Prove,
     Verb::Check,
     Verb::Decide,
@@ -19,9 +19,11 @@ const VERBS: [Verb; 8] = [
     Verb::Order,
     Verb::Pairs,
     Verb::Gen,
+    Verb::Table,
+    Verb::Model,
 ];
 
-const KEYS: [Key; 11] = [
+const KEYS: [Key; 12] = [
     Key::Root,
     Key::Order,
     Key::Precedence,
@@ -32,6 +34,7 @@ const KEYS: [Key; 11] = [
     Key::Workers,
     Key::Steps,
     Key::Limit,
+    Key::Size,
     Key::Trace,
 ];
 
@@ -48,6 +51,8 @@ pub fn verb_name<'a>(verb: Verb) -> &'a str
         Verb::Order => "order",
         Verb::Pairs => "pairs",
         Verb::Gen => "gen",
+        Verb::Table => "table",
+        Verb::Model => "model",
     }
 }
 
@@ -66,6 +71,7 @@ pub fn key_name<'a>(key: Key) -> &'a str
         Key::Workers => "workers",
         Key::Steps => "steps",
         Key::Limit => "limit",
+        Key::Size => "size",
         Key::Trace => "trace",
     }
 }

@@ -230,6 +230,7 @@ fn command(alloc: Global, verb: Verb, found: &ArgMatches<'_>) -> Result<Command,
     let workers = limited(value(Key::Workers, found), 1, 64, 1)?;
     let steps = limited(value(Key::Steps, found), 0, 10_000_000, 100_000)?;
     let limit = limited(value(Key::Limit, found), 0, 10_000_000, 4_096)?;
+    let size = limited(value(Key::Size, found), 1, 8, 4)?;
     let root = optional_text(alloc, value(Key::Root, found))?;
     let order = order_words(alloc, found)?;
     Ok(Command {
@@ -242,6 +243,7 @@ fn command(alloc: Global, verb: Verb, found: &ArgMatches<'_>) -> Result<Command,
         workers,
         steps,
         limit,
+        size,
         trace: is_traced(found),
     })
 }
