@@ -5,3 +5,6 @@ pub mod Checks
 pub mod Lines
 pub mod Printing
 pub mod Reading
+pub mod SearchPrefixes
+pub mod SearchCells
+pub mod Searching

@@ -1,0 +1,56 @@
+-- Prefixes of the cells of a table in lexicographic order, and which of them a search visits.
+use Rattle.std.specs.Prelude.{ℕ, ◌<◌, ◌≤◌, ◌≡◌, ◌⊎◌, List, [], ◌∷◌, ◌++◌, length}
+
+-- p goes before q in lexicographic order, a proper prefix before what it begins
+abbrev pub Before : List ℕ → List ℕ → Type 0
+Before p [] = ⊥
+Before [] (w ∷ q) = Unit {0}
+Before (v ∷ p) (w ∷ q) = (v < w) ⊎ ((v ≡ w) × Before p q)
+
+-- each value is below the size
+abbrev pub AreBelow : ℕ → List ℕ → Type 0
+AreBelow size [] = Unit {0}
+AreBelow size (v ∷ p) = (v < size) × AreBelow size p
+
+-- the longest proper prefix of a nonempty one
+abbrev pub front : List ℕ → List ℕ
+front [] = []
+front (v ∷ []) = []
+front (v ∷ w ∷ p) = v ∷ front (w ∷ p)
+
+pub data In (p : List ℕ) : List (List ℕ) → Type 0 where
+  here : {ps : List (List ℕ)} → In p (p ∷ ps)
+  there : {q : List ℕ} {ps : List (List ℕ)} → In p ps → In p (q ∷ ps)
+
+-- in lexicographic order, each once
+abbrev pub AreOrdered : List (List ℕ) → Type 0
+AreOrdered [] = Unit {0}
+AreOrdered (p ∷ ps) = ((q : List ℕ) → In q ps → Before p q) × AreOrdered ps
+
+-- The values are below the size, there are so many cells, and these prefixes are refuted.
+module _ (size cells : ℕ) (Refuted : List ℕ → Type 0) where
+  -- a whole table that isn't refuted
+  pub record IsOpen (t : List ℕ) : Type 0 where
+    pub whole : length t ≡ cells
+    pub below : AreBelow size t
+    pub open_is : Refuted t → ⊥
+
+  -- a nonempty prefix whose longest proper prefix isn't refuted, with no whole table before it that isn't refuted
+  pub record IsVisited (p : List ℕ) : Type 0 where
+    pub nonempty : 0 < length p
+    pub fits : length p ≤ cells
+    pub below : AreBelow size p
+    pub open_front : Refuted (front p) → ⊥
+    pub is_first : (t : List ℕ) → IsOpen t → Before t p → ⊥
+
+  -- these are the first of the visited prefixes, in order
+  pub record AreFirst (ps : List (List ℕ)) : Type 0 where
+    pub ordered : AreOrdered ps
+    pub visited : (p : List ℕ) → In p ps → IsVisited p
+    pub earlier : (p q : List ℕ) → In p ps → IsVisited q → Before q p → In q ps
+
+  -- these are all visited prefixes, in order
+  pub record AreAll (ps : List (List ℕ)) : Type 0 where
+    pub ordered : AreOrdered ps
+    pub visited : (p : List ℕ) → In p ps → IsVisited p
+    pub all : (p : List ℕ) → IsVisited p → In p ps
