@@ -54,6 +54,6 @@ module _ (symbols : SymbolTable) (signature : List Sym) (clauses : List Sourced)
     pub data Searches (size : ℕ) : Searched → Type 0 where
       is_found : {m count : ℕ} (ps : List (List ℕ)) {t : List ℕ} {table : Table} → IsReached m count → m ≤ size → IsWithin m → AreAllAt m (ps ++ t ∷ []) → IsOpenAt m t → count + length (ps ++ t ∷ []) ≤ budget → Holds symbols signature m t table → Searches size (Found table)
       has_too_many_cells : {m count : ℕ} → IsReached m count → m ≤ size → MOST_CELLS < cells_at m → Searches size (Cells m)
-      has_too_many_assignments : {m count k : ℕ} {s : Sourced} → IsReached m count → m ≤ size → cells_at m ≤ MOST_CELLS → slice_get clauses k ≡ Some s → HasTooMany m s → Searches size (Assignments m)
+      has_too_many_assignments : {m count : ℕ} (k : ℕ) {s : Sourced} → IsReached m count → m ≤ size → cells_at m ≤ MOST_CELLS → slice_get clauses k ≡ Some s → HasTooMany m s → Searches size (Assignments m)
       is_spent : {m count : ℕ} {ps : List (List ℕ)} {p : List ℕ} → IsReached m count → m ≤ size → IsWithin m → AreFirstAt m ps → count + length ps ≡ budget → IsVisitedAt m p → (In p ps → ⊥) → Searches size (Spent budget)
       is_absent : {count : ℕ} → IsReached (size + 1) count → Searches size Absent
