@@ -1,2 +1,4 @@
 pub mod Ordering
 pub mod Visits
+pub mod Cells
+pub mod Refuting

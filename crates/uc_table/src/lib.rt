@@ -7,8 +7,10 @@
 
 mod answers;
 mod fault;
+mod laws;
 mod table;
 
 pub use answers::{Searched, Tabled};
 pub use fault::TableFault;
+pub use laws::model_refutes;
 pub use table::{MAX_ASSIGNMENTS, MAX_CELLS, MAX_SIZE, Table};

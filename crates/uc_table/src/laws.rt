@@ -1,0 +1,17 @@
+//! Laws over the definitions, each the contract of a function that does nothing.
+
+ghost use Rattle.std.specs.Prelude.{List};
+ghost use Rattle.uc_term.specs.declared.node.Sym.{Sym};
+ghost use Rattle.uc_term.specs.declared.equation.Equation.{Equation};
+ghost use Rattle.uc_term.specs.Table.{Table as SymbolTable};
+ghost use Rattle.uc_term.specs.Conversion.{Follows};
+ghost use Rattle.uc_table.specs.declared.table.Table.{Table as AnyTable};
+ghost use Rattle.uc_table.specs.Tables.{IsTableOf};
+ghost use Rattle.uc_table.specs.Models.{SatisfiesAll, KeepsApart};
+
+/// A goal whose sides a table keeps apart under every assignment doesn't follow from equations that the table satisfies
+/// (Birkhoff's soundness of replacement of equals). The terms of a conversion may have any symbols, also with any number of
+/// arguments: where the table has no cell, the value is 0.
+pub fn model_refutes()
+    ensures { (symbols : SymbolTable) (signature : List Sym) (table : AnyTable) (axioms : List Equation) (goal : Equation) → IsTableOf symbols signature table → SatisfiesAll table axioms → KeepsApart table goal → Follows axioms goal → ⊥ }
+{}
