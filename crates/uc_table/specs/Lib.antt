@@ -8,3 +8,4 @@ pub mod Reading
 pub mod SearchPrefixes
 pub mod SearchCells
 pub mod Searching
+pub mod Evaluating

@@ -6,8 +6,10 @@
 #![tactic(auto)]
 
 mod answers;
+mod evaluating;
 mod fault;
 mod laws;
+mod places;
 mod table;
 
 pub use answers::{Searched, Tabled};
