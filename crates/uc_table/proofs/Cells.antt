@@ -1,13 +1,12 @@
 -- The cells of a table, and the values of terms.
-use Rattle.std.proofs.Common.{◌≡◌, ℕ, zero, suc, ◌+◌, ◌<◌, ◌≤◌, ◌==◌, Bool, true, false, List, [], ◌∷◌, length, get_or, if◌then◌else◌, refl, sym, ap, ◌∙◌, subst, arith}
-use Rattle.std.specs.List.{AllByRecursion}
+use Rattle.std.proofs.Common.{ℕ, zero, suc, ◌<◌, Bool, true, false, List, [], ◌∷◌, get_or, if◌then◌else◌, sym, subst, arith}
 use Rattle.uc_term.specs.declared.node.Sym.{Sym}
 use Rattle.uc_term.specs.Signatures.{same_symbol}
 use Rattle.uc_term.specs.Table.{Table as SymbolTable}
-use Rattle.uc_term.specs.Tree.{Tree, var, app, Trees, none, more}
+use Rattle.uc_term.specs.Tree.{Tree, var, app}
 use Rattle.uc_table.specs.declared.table.Table.{Table}
-use Rattle.uc_table.specs.Algebras.{place_of, cells_among, cells_of, operation, value, value_by, values_by}
-use Rattle.uc_table.specs.Tables.{AreValues, IsRow, AreRows, IsTableOf}
+use Rattle.uc_table.specs.Algebras.{place_of, cells_among, cells_of, operation, value, values_by}
+use Rattle.uc_table.specs.Tables.{AreValues, AreRows, IsTableOf}
 use Rattle.uc_table.specs.Models.{Assigns}
 
 -- a value of a list of values, or 0 behind its end, is below the size

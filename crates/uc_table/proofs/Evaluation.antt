@@ -1,5 +1,5 @@
 -- The value of a term, from its flat list.
-use Rattle.std.proofs.Common.{◌≡◌, ℕ, zero, suc, ◌+◌, ◌<◌, ◌≤◌, List, [], ◌∷◌, ◌++◌, length, get_or, take, drop, refl, sym, ap, ap₂, ◌∙◌, subst, arith, append_assoc, append-nil, length-append}
+use Rattle.std.proofs.Common.{◌≡◌, ℕ, zero, suc, ◌+◌, ◌<◌, ◌≤◌, List, [], ◌∷◌, ◌++◌, length, get_or, take, drop, refl, sym, ap, subst, arith, append_assoc, append-nil, length-append}
 use Rattle.std.proofs.lemmas.List.{take_at, drop_at, drop_more, length-drop}
 use Rattle.uc_term.specs.declared.node.Sym.{Sym}
 use Rattle.uc_term.specs.declared.node.Node.{Node}
@@ -7,8 +7,8 @@ use Rattle.uc_term.specs.declared.node.Node.TheVariants.{Var, App}
 use Rattle.uc_term.specs.Tree.{Tree, var, app, Trees, none, more, count}
 use Rattle.uc_term.specs.Flat.{flat, flat_all}
 use Rattle.uc_table.specs.declared.table.Table.{Table}
-use Rattle.uc_table.specs.Algebras.{place_of, cells_of, operation, value, value_by, values_by, given}
-use Rattle.uc_table.specs.Tables.{AreValues, IsRow}
+use Rattle.uc_table.specs.Algebras.{place_of, cells_of, operation, value_by, values_by, given}
+use Rattle.uc_table.specs.Tables.{AreValues}
 use Rattle.uc_table.specs.Evaluating.{IsNumbered, IsReady, AreReady, IsReadyFor, stepped, values_on, AreReadyNodes}
 use Rattle.uc_table.proofs.Cells.{get_below}
 use Rattle.uc_table.proofs.Lists.{dropped}

@@ -5,3 +5,7 @@ pub mod Refuting
 pub mod Lists
 pub mod Evaluation
 pub mod Numbering
+pub mod Assignments
+pub mod Polarity
+pub mod Readiness
+pub mod Verdicts

@@ -1,13 +1,13 @@
 -- What a table that satisfies equations says of their conversions.
-use Rattle.std.proofs.Common.{◌≡◌, ℕ, ◌<◌, ◌≤◌, List, [], ◌∷◌, refl, sym, ap, ap₂, ◌∙◌, subst, arith}
+use Rattle.std.proofs.Common.{◌≡◌, ℕ, List, ◌∷◌, refl, sym, ap, ap₂, ◌∙◌, arith}
 use Rattle.uc_term.specs.declared.node.Sym.{Sym}
 use Rattle.uc_term.specs.declared.equation.Equation.{Equation}
 use Rattle.uc_term.specs.declared.equation.Side.{Side}
 use Rattle.uc_term.specs.declared.equation.Side.TheVariants.{Left, Right}
-use Rattle.uc_term.specs.Equations.{side_of, other_side_of, Sides}
+use Rattle.uc_term.specs.Equations.{side_of, other_side_of}
 use Rattle.uc_term.specs.Table.{Table as SymbolTable}
 use Rattle.uc_term.specs.Tree.{Tree, var, app, Trees, none, more, apply, apply_all}
-use Rattle.uc_term.specs.Within.{Within, at_root, under, WithinOne, at_first, at_later, Steps, stay, go_by}
+use Rattle.uc_term.specs.Within.{at_root, under, WithinOne, at_first, at_later, stay, go_by}
 use Rattle.uc_term.specs.Conversion.{Turn, Step, Conv, Follows}
 use Rattle.uc_table.specs.declared.table.Table.{Table}
 use Rattle.uc_table.specs.Algebras.{operation, value, value_by, values_by}

@@ -9,3 +9,4 @@ pub mod SearchPrefixes
 pub mod SearchCells
 pub mod Searching
 pub mod Evaluating
+pub mod Against

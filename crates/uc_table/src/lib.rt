@@ -6,6 +6,7 @@
 #![tactic(auto)]
 
 mod answers;
+mod checking;
 mod evaluating;
 mod fault;
 mod laws;
@@ -13,6 +14,7 @@ mod places;
 mod table;
 
 pub use answers::{Searched, Tabled};
+pub use checking::check_table;
 pub use fault::TableFault;
 pub use laws::model_refutes;
 pub use table::{MAX_ASSIGNMENTS, MAX_CELLS, MAX_SIZE, Table};

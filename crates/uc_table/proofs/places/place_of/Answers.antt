@@ -1,4 +1,4 @@
-use Rattle.std.proofs.Common.{◌≡◌, ◌+◌, ◌*◌, ◌<◌, ◌^◌, ◌≤◌, take, get_or, length, arith, sym, subst}
+use Rattle.std.proofs.Common.{◌≡◌, ◌<◌, ◌^◌, take, length, arith, sym}
 use Rattle.std.proofs.lemmas.List.{take_all}
 use Rattle.uc_table.specs.Algebras.{place_of}
 use Rattle.uc_table.proofs.Lists.{place_more, place_below, front_fits}

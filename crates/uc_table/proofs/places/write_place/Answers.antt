@@ -1,4 +1,4 @@
-use Rattle.std.proofs.Common.{◌≡◌, ◌+◌, ◌-◌, ◌*◌, ◌<◌, ◌^◌, ◌≤◌, length, drop, arith, subst}
+use Rattle.std.proofs.Common.{◌≡◌, ◌+◌, ◌-◌, ◌*◌, ◌<◌, ◌^◌, length, drop, arith, subst}
 use Rattle.uc_table.specs.Algebras.{place_of}
 use Rattle.uc_table.proofs.Lists.{value_written, all_written}
 use Rattle.uc_table.proofs.places.write_place.Goals as goal
