@@ -25,3 +25,4 @@ pub mod Upwards
 pub mod Finds
 pub mod NameLists
 pub mod TakenNames
+pub mod FreshNames

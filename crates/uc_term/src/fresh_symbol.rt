@@ -12,7 +12,8 @@ use itoa::Buffer;
 use std::alloc::{AllocError, Global};
 
 /// A symbol of this arity with the first name among the word, the word with `_1`, the word with `_2` and so on that none
-/// of the taken symbols has. Where the table lacks it, it is added.
+/// of the taken symbols has. Where the table lacks it, it is added. Of one more name than there are taken symbols some is
+/// free.
 pub fn add_fresh(
     alloc: Global,
     symbols: &mut Symbols,
@@ -27,18 +28,18 @@ pub fn add_fresh(
     ensures err { OnErr result (symbols.new ≡ symbols.old) }
 {
     let names = taken_names(alloc, symbols, taken)?;
-    // some number is free long before the last one, since a signature has at most 60,000 symbols
-    for number in 0..u32::MAX {
+    let most = taken.len() + 1;
+    for number in 0..most {
         let name = name_tried(alloc, word, number)?;
         if is_free(&names, name.as_slice()) {
             return symbols.intern(alloc, name.as_slice(), arity);
         }
     }
-    Err(AllocError)
+    unreachable!()
 }
 
 /// The name of this number that is tried.
-fn name_tried(alloc: Global, word: &[u8], number: u32) -> Result<Vec<u8>, AllocError>
+fn name_tried(alloc: Global, word: &[u8], number: usize) -> Result<Vec<u8>, AllocError>
     ensures { IfOk result (λ name. name.items ≡ tried_name word.now number) }
 {
     let mut name = Vec::from_slice(alloc, word)?;

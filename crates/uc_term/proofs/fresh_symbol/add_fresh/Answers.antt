@@ -1,9 +1,10 @@
-use Rattle.std.proofs.Common.{◌≡◌, ℕ, ◌<◌, List, [], Result, Ok, Err, IfOk, OnErr, append-nil, refl, sym, ◌∙◌, subst}
+use Rattle.std.proofs.Common.{arith, ◌≡◌, ℕ, ◌<◌, List, [], Result, Ok, Err, IfOk, OnErr, append-nil, refl, sym, ◌∙◌, subst}
 use Rattle.uc_term.specs.declared.node.Sym.{Sym}
 use Rattle.uc_term.specs.Table.{Table, IsInterned, AddsAtMost, Grows}
 use Rattle.uc_term.specs.Signatures.{tried_name, IsFree, IsFreshFor}
 use Rattle.uc_term.specs.Gathering.{HasAll, AreNamesOf}
 use Rattle.uc_term.proofs.Grown.{is_fresh_for, adds_at_most, interned_grows}
+use Rattle.uc_term.proofs.FreshNames.{some_is_free}
 use Rattle.uc_term.proofs.fresh_symbol.add_fresh.Goals as goal
 
 made : {E : Type 0} (start old new : Table) (word : List ℕ) (arity : ℕ) (fs : List Sym) (number : ℕ) (name name' : List ℕ) (r : Result Sym E) → old ≡ start → HasAll start fs → name ≡ tried_name word number → name' ≡ name → IsFree old fs name' → ((n : ℕ) → n < number → IsFree old fs (tried_name word n) → ⊥) → IfOk r (IsInterned old new name' arity) → IfOk r (IsFreshFor new word arity fs)
@@ -29,3 +30,6 @@ grown start old new arity name (Err x) same i e = subst (λ (t : Table). Grows t
 
 pub returns-then-is_free-clause-grows : goal.returns-then-is_free-clause-grows
 returns-then-is_free-clause-grows c = grown c.args.symbols.now c.loop-number.symbols c.intern.new.self c.args.arity c.as_slice-then-is_free.result.now c.intern.result c.loop-number.invariant.same c.intern.ensures.interned c.intern.ensures.err
+
+pub unreachable-requires : goal.unreachable-requires
+unreachable-requires c = some_is_free c.loop-number.symbols c.args.taken.now c.args.word.now (search (arith)) (λ n p. c.loop-number.invariant.none_before n (omega (arith, p, c.loop-number-test.false)))
