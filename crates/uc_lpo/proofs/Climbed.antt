@@ -1,12 +1,12 @@
 -- From the first place where two lists differ, level by level, up to the roots.
-use Rattle.std.proofs.Common.{◌≡◌, ◌≢◌, ℕ, ◌+◌, ◌-◌, ◌<◌, ◌≤◌, List, ◌∷◌, ◌++◌, length, take, drop, get_or, map, refl, sym, ap, ◌∙◌, subst, arith, ◌⊎◌, inl, inr}
+use Rattle.std.proofs.Common.{◌≡◌, ◌≢◌, ℕ, ◌+◌, ◌-◌, ◌<◌, ◌≤◌, List, [], ◌∷◌, ◌++◌, append-nil, length, take, drop, get_or, map, refl, sym, ap, ◌∙◌, subst, arith, ◌⊎◌, inl, inr}
 use Rattle.std.proofs.lemmas.List.{take-append-drop}
 use Rattle.std.proofs.Math.Seq.{take-append_seam}
 use Rattle.uc_term.specs.declared.node.Sym.{Sym}
 use Rattle.uc_term.specs.declared.node.Node.{Node}
 use Rattle.uc_term.specs.declared.node.Node.TheVariants.{Var, App}
 use Rattle.uc_term.specs.Tree.{Tree, app, Trees, none, more, of_list, nodes, nodes_all, apply}
-use Rattle.uc_term.specs.Flat.{flat_all, spelled, tree_of, trees_of, first_of_trees, IsWhole, AreWhole}
+use Rattle.uc_term.specs.Flat.{flat, flat_all, spelled, tree_of, trees_of, first_of_trees, IsWhole, AreWhole}
 use Rattle.uc_term.specs.Code.{tree_of-flat}
 use Rattle.uc_term.proofs.Terms.{whole-drop, whole-flat, whole_one, nodes_whole, nodes_pos, length-flat, length-flat_all, trees_of-flat_all}
 use Rattle.uc_term.proofs.Ahead.{join, flat_all-join}
@@ -51,6 +51,17 @@ module _ (ns : List Node) (p k e : ℕ) (w : AreWhole ns) (q : e ≡ p + nodes_a
 
   pub later_long : length (take (e - p) (drop p ns)) ≡ e - p
   later_long = omega (arith, ap length later_nodes, length-flat_all (of_list (take k (spelled (drop p ns)))), q)
+
+-- the first of some terms, alone
+single : (ts : List Tree) → 1 ≤ length ts → IsWhole (flat_all (of_list (take 1 ts)))
+single [] h = absurd (omega arith)
+single (t ∷ ts) h = let P : List Node → Type 0 = IsWhole in subst P (sym (append-nil (flat t))) (whole-flat t)
+
+pub later_single : (ns : List Node) (p k e : ℕ) → AreWhole ns → e ≡ p + nodes_all (of_list (take k (spelled (drop p ns)))) → k ≤ length (spelled (drop p ns)) → k ≡ 1 → IsWhole (take (e - p) (drop p ns))
+later_single ns p k e w q enough one =
+    let P : List Node → Type 0 = IsWhole in
+    let first : flat_all (of_list (take k (spelled (drop p ns)))) ≡ flat_all (of_list (take 1 (spelled (drop p ns)))) = ap (λ m. flat_all (of_list (take m (spelled (drop p ns))))) one in
+    subst P (sym (later_nodes ns p k e w q ∙ first)) (single (spelled (drop p ns)) (omega (arith, enough, one)))
 
 differ_up : (cs : Trees) (s t : Tree) (rs rt : Trees) → s ≢ t → join cs (more s rs) ≡ join cs (more t rt) → ⊥
 differ_up none s t rs rt ne e = ne cc

@@ -1,5 +1,5 @@
 -- What is left of a comparison.
-use Rattle.std.specs.Prelude.{◌≡◌, ◌↔◌, ℕ, ◌+◌, ◌<◌, ◌≤◌, IsTrue, Bool, true, false, List, length}
+use Rattle.std.specs.Prelude.{◌↔◌, ℕ, ◌+◌, ◌<◌, ◌≤◌, IsTrue, true, false, List, length}
 use Rattle.uc_term.specs.Flat.{tree_of, IsWhole}
 use Rattle.uc_order.specs.VarOrders.{Classes, representative, IsHigher}
 use Rattle.uc_lpo.specs.declared.compare.Rest.{Rest}

@@ -21,7 +21,7 @@ ghost use Rattle.uc_lpo.specs.Heads.{SameHead, IsLower, IsPassed};
 ghost use Rattle.uc_lpo.specs.Rests.{Says, IsWithin, Goes};
 ghost use Rattle.uc_lpo.specs.Ranks.{rank_of};
 
-use crate::levels::{end_of_level, first_difference};
+use crate::levels::{end_among, end_of_level, first_difference};
 use crate::variables::{are_alike, is_above};
 use uc_order::Cmp;
 use uc_term::{MAX_INSTANCE, Node, Seq, Sym, end_of};
@@ -127,14 +127,14 @@ fn step<'a>(ranks: &[usize], classes: &[Seq<u32>], s: &'a [Node], t: &'a [Node])
             Node::App(_, _) => Rest::Known(false),
         },
         Node::App(f, _) => match t[0] {
-            Node::Var(_) => left_to_reach(ranks, classes, &s[1..], t, s.len() / 2),
+            Node::Var(_) => left_to_reach(ranks, classes, &s[1..], t, s.len() / 2, false),
             Node::App(g, _) => {
                 if f == g {
                     from_difference(ranks, classes, s, t)
                 } else if rank(ranks, g) < rank(ranks, f) {
-                    left_to_exceed(ranks, classes, s, &t[1..], t.len() / 2)
+                    left_to_exceed(ranks, classes, s, &t[1..], t.len() / 2, false)
                 } else {
-                    left_to_reach(ranks, classes, &s[1..], t, s.len() / 2)
+                    left_to_reach(ranks, classes, &s[1..], t, s.len() / 2, false)
                 }
             }
         },
@@ -200,12 +200,14 @@ fn left_to_exceed<'a>(
     s: &'a [Node],
     ts: &'a [Node],
     limit: usize,
+    is_single: bool,
 ) -> Rest<'a>
     requires s_whole { IsWhole s.now }
     requires ts_whole { AreWhole ts.now }
     requires s_small { length s.now ≤ MAX_INSTANCE }
     requires ts_small { length ts.now ≤ MAX_INSTANCE }
     requires s_some { 0 < length s.now }
+    requires single { IsTrue is_single → IsWhole ts.now }
     ensures says { Says ranks.now classes.now result (Exceeds (rank_of ranks.now) (IsHigher classes.now) (shown (representative classes.now) (tree_of s.now)) (shown_all (representative classes.now) (trees_of ts.now))) }
     ensures smaller { IsWithin (length s.now + length ts.now + 1) result }
 {
@@ -214,7 +216,7 @@ fn left_to_exceed<'a>(
         if is_lower(ranks, ts[from], s[0]) {
             from += 1;
         } else {
-            let end = end_of(ts, from);
+            let end = end_among(ts, from, is_single);
             let part = &ts[from..end];
             if part.len() > limit {
                 return if exceeds(ranks, classes, s, &ts[end..]) {
@@ -240,12 +242,14 @@ fn left_to_reach<'a>(
     ss: &'a [Node],
     t: &'a [Node],
     limit: usize,
+    is_single: bool,
 ) -> Rest<'a>
     requires ss_whole { AreWhole ss.now }
     requires t_whole { IsWhole t.now }
     requires ss_small { length ss.now ≤ MAX_INSTANCE }
     requires t_small { length t.now ≤ MAX_INSTANCE }
     requires t_some { 0 < length t.now }
+    requires single { IsTrue is_single → IsWhole ss.now }
     ensures says { Says ranks.now classes.now result (SomeReaches (rank_of ranks.now) (IsHigher classes.now) (shown_all (representative classes.now) (trees_of ss.now)) (shown (representative classes.now) (tree_of t.now))) }
     ensures smaller { IsWithin (length ss.now + length t.now + 1) result }
 {
@@ -254,7 +258,7 @@ fn left_to_reach<'a>(
         if is_passed(ranks, ss[from], t[0]) {
             from += 1;
         } else {
-            let end = end_of(ss, from);
+            let end = end_among(ss, from, is_single);
             let part = &ss[from..end];
             if are_alike(classes, part, t) {
                 return Rest::Known(true);
@@ -306,12 +310,13 @@ fn differs<'a>(ranks: &[usize], classes: &[Seq<u32>], s: &'a [Node], t: &'a [Nod
                 &t[t_end..],
                 s.len() / 2,
                 t.len() / 2,
+                false,
                 first,
             );
         }
         from = s_end;
     }
-    left_to_reach(ranks, classes, &s[from..], t, s.len() / 2)
+    left_to_reach(ranks, classes, &s[from..], t, s.len() / 2, false)
 }
 
 // What is left to find out whether s is greater than t; it is put off where both have more nodes than their limits.
@@ -352,6 +357,7 @@ fn around<'a>(
     t_later: &'a [Node],
     s_limit: usize,
     t_limit: usize,
+    is_single: bool,
     first: Rest<'a>,
 ) -> Rest<'a>
     requires s_whole { IsWhole s.now }
@@ -363,17 +369,19 @@ fn around<'a>(
     requires s_later_small { length s_later.now + 2 ≤ length s.now }
     requires t_later_small { length t_later.now + 2 ≤ length t.now }
     requires first_smaller { IsWithin (length s.now + length t.now) first }
+    requires s_single { IsTrue is_single → IsWhole s_later.now }
+    requires t_single { IsTrue is_single → IsWhole t_later.now }
     ensures goes { Goes ranks.now classes.now first.entry result (SomeReaches (rank_of ranks.now) (IsHigher classes.now) (shown_all (representative classes.now) (trees_of s_later.now)) (shown (representative classes.now) (tree_of t.now))) (Exceeds (rank_of ranks.now) (IsHigher classes.now) (shown (representative classes.now) (tree_of s.now)) (shown_all (representative classes.now) (trees_of t_later.now))) }
     ensures smaller { IsWithin (length s.now + length t.now) result }
 {
     match first {
         Rest::Known(true) => {
             let limit = if s.len() > s_limit { t_limit } else { t.len() };
-            left_to_exceed(ranks, classes, s, t_later, limit)
+            left_to_exceed(ranks, classes, s, t_later, limit, is_single)
         }
         Rest::Known(false) => {
             let limit = if t.len() > t_limit { s_limit } else { s.len() };
-            left_to_reach(ranks, classes, s_later, t, limit)
+            left_to_reach(ranks, classes, s_later, t, limit, is_single)
         }
         Rest::Pair(_, _) => {
             if reaches(ranks, classes, s_later, t) {
@@ -467,6 +475,7 @@ fn climb<'a>(
                         &t[t_to..t_end],
                         s_limit,
                         t_limit,
+                        left == 1,
                         rest,
                     );
                     s_to = s_end;

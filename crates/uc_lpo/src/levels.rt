@@ -1,9 +1,9 @@
 //! Places in flat terms: where two lists first differ, and where a level ends.
 
-ghost use Rattle.std.specs.Prelude.{◌≡◌, ◌≢◌, ◌+◌, ◌<◌, ◌≤◌, length, slice_index_or, take, drop};
+ghost use Rattle.std.specs.Prelude.{◌≡◌, ◌≢◌, ◌+◌, ◌<◌, ◌≤◌, IsTrue, length, slice_index_or, take, drop};
 ghost use Rattle.uc_term.specs.declared.node.Node.{Node as AnyNode};
-ghost use Rattle.uc_term.specs.Tree.{nodes_all, of_list};
-ghost use Rattle.uc_term.specs.Flat.{spelled, AreWhole};
+ghost use Rattle.uc_term.specs.Tree.{nodes, nodes_all, of_list};
+ghost use Rattle.uc_term.specs.Flat.{tree_of, spelled, IsWhole, AreWhole};
 ghost use Rattle.uc_order.specs.VarOrders.{representative};
 ghost use Rattle.uc_order.specs.Renamed.{renamed_nodes};
 
@@ -49,4 +49,20 @@ pub fn end_of_level(list: &[Node], from: usize, to: usize, count: usize) -> usiz
         left -= 1;
     }
     end
+}
+
+// Where the term at `from` ends. Where the list is known to be a single term, that one isn't walked along.
+#[inline]
+pub fn end_among(list: &[Node], from: usize, is_single: bool) -> usize
+    requires whole { AreWhole list.now }
+    requires within { from < length list.now }
+    requires small { length list.now ≤ MAX_INSTANCE }
+    requires single { IsTrue is_single → IsWhole list.now }
+    ensures end { result ≡ from + nodes (tree_of (drop from list.now)) }
+    ensures in_list { result ≤ length list.now }
+{
+    if is_single && from == 0 {
+        return list.len();
+    }
+    end_of(list, from)
 }

@@ -1,6 +1,6 @@
 use Rattle.uc_lpo.proofs.Passes.{pass_exceeds, pass_reaches}
 use Rattle.std.proofs.Common.{◌↔◌}
-use Rattle.std.proofs.Common.{refl, arith, take, ◌≡◌, ℕ, ◌<◌, ◌≤◌, IsTrue, length, drop, ◌-◌, false}
+use Rattle.std.proofs.Common.{◌==◌, refl, arith, take, ◌≡◌, ℕ, ◌<◌, ◌≤◌, IsTrue, length, drop, ◌-◌, false}
 use Rattle.uc_term.specs.Flat.{tree_of}
 use Rattle.uc_lpo.specs.Ranks.{rank_of}
 use Rattle.uc_term.proofs.Parts.{split, head_app, head_var}
@@ -11,11 +11,11 @@ use Rattle.uc_lpo.specs.Shown.{shown}
 use Rattle.uc_lpo.proofs.Shown.{shown_same, same_shown}
 use Rattle.uc_lpo.proofs.Fronts.{common_none, heads, answer_first, go_on, answer_end}
 use Rattle.uc_lpo.proofs.Rests.{says_map, within_more}
-use Rattle.uc_lpo.proofs.Climbed.{climbed_init, climbed_var, climbed_app, s_enough, t_enough, s_within, t_within, s_root, t_root, level_sizes, climbed_up, climbed_end, alike_not_greater}
+use Rattle.uc_lpo.proofs.Climbed.{climbed_init, climbed_var, climbed_app, s_enough, t_enough, s_within, t_within, s_root, t_root, later_single, level_sizes, climbed_up, climbed_end, alike_not_greater}
 use Rattle.uc_term.specs.declared.node.Node.TheVariants.{Var}
 use Rattle.uc_lpo.proofs.compare.+path.Goals as goal
 use Rattle.uc_lpo.proofs.compare.+path.Goals.{reaches-then-are_alike-via-then-are_alike, reaches-then-are_alike-via-else-are_alike+then-greater, differs-then-loop-from-test+else-from-t, differs-else-loop-from-test}
-use Rattle.std.proofs.lemmas.Bool.{eq-eqb}
+use Rattle.std.proofs.lemmas.Bool.{eq-eqb, eqb-true}
 use Rattle.std.proofs.Common.{ap, ◌∙◌, ◌⊎◌, inl, inr}
 use Rattle.uc_term.specs.declared.node.Sym.{Sym}
 
@@ -34,7 +34,7 @@ differs-around-requires t c =
     let v = split c.args.t.now c.loop-from.from c.end_of-t_end.result (whole_one c.args.t.now c.requires.t_whole) c.if-from-t.true c.end_of-t_end.ensures.end in
     let l = tail_length c.args.s.now c.end_of-s_end.result in
     let m = tail_length c.args.t.now c.end_of-t_end.result in
-    (omega arith, (c.requires.s_whole, (c.requires.t_whole, (c.requires.s_small, (c.requires.t_small, (tail_whole_at c.args.s.now _ (whole_one c.args.s.now c.requires.s_whole), (tail_whole_at c.args.t.now _ (whole_one c.args.t.now c.requires.t_whole), (omega arith, (omega arith, within_more _ _ _ (omega arith) c.parts-first.ensures.smaller)))))))))
+    (omega arith, (c.requires.s_whole, (c.requires.t_whole, (c.requires.s_small, (c.requires.t_small, (tail_whole_at c.args.s.now _ (whole_one c.args.s.now c.requires.s_whole), (tail_whole_at c.args.t.now _ (whole_one c.args.t.now c.requires.t_whole), (omega arith, (omega arith, (within_more _ _ _ (omega arith) c.parts-first.ensures.smaller, (λ h. absurd (never h), λ h. absurd (never h))))))))))))
 
 pub differs-end_of-s_end-requires-clause-whole : goal.differs-end_of-s_end-requires-clause-whole
 differs-end_of-s_end-requires-clause-whole t c =
@@ -47,7 +47,7 @@ differs-end_of-t_end-requires-clause-whole t c =
 pub differs-left_to_reach-requires : goal.differs-left_to_reach-requires
 differs-left_to_reach-requires t c =
     let m = tail_length c.args.s.now c.loop-from.from in
-    (omega arith, (tail_whole_at c.args.s.now _ (whole_one c.args.s.now c.requires.s_whole), (c.requires.t_whole, (omega arith, (c.requires.t_small, c.requires.t_some)))))
+    (omega arith, (tail_whole_at c.args.s.now _ (whole_one c.args.s.now c.requires.s_whole), (c.requires.t_whole, (omega arith, (c.requires.t_small, (c.requires.t_some, λ h. absurd (never h)))))))
 
 pub differs-loop-from-init : goal.differs-loop-from-init
 differs-loop-from-init t c =
@@ -119,19 +119,19 @@ exceeds-returns-then-not-greater t c =
 
 pub left_to_exceed-exceeds-requires : goal.left_to_exceed-exceeds-requires
 left_to_exceed-exceeds-requires t c =
-    let w = split c.args.ts.now c.loop-from.from c.end_of-end.result c.requires.ts_whole c.loop-from-test.true c.end_of-end.ensures.end in
-    let m = tail_length c.args.ts.now c.end_of-end.result in
+    let w = split c.args.ts.now c.loop-from.from c.end_among-end.result c.requires.ts_whole c.loop-from-test.true c.end_among-end.ensures.end in
+    let m = tail_length c.args.ts.now c.end_among-end.result in
     (omega arith, (c.requires.s_whole, (tail_whole_at c.args.ts.now _ c.requires.ts_whole, (c.requires.s_small, (omega arith, c.requires.s_some)))))
 
 pub left_to_exceed-greater-requires : goal.left_to_exceed-greater-requires
 left_to_exceed-greater-requires t c =
-    let w = split c.args.ts.now c.loop-from.from c.end_of-end.result c.requires.ts_whole c.loop-from-test.true c.end_of-end.ensures.end in
+    let w = split c.args.ts.now c.loop-from.from c.end_among-end.result c.requires.ts_whole c.loop-from-test.true c.end_among-end.ensures.end in
     (omega arith, (c.requires.s_whole, (w.whole, (c.requires.s_small, (omega arith, (c.requires.s_some, w.some.0))))))
 
 pub left_to_exceed-loop-from-preserved : goal.left_to_exceed-loop-from-preserved
 left_to_exceed-loop-from-preserved t c =
-    let w = split c.args.ts.now c.loop-from.from c.end_of-end.result c.requires.ts_whole c.loop-from-test.true c.end_of-end.ensures.end in
-    record { within = c.end_of-end.ensures.in_list; left = exceeds_turn c.args.ranks.now c.args.classes.now _ c.args.ts.now c.loop-from.from c.end_of-end.result c.loop-from.invariant.left w (c.if-not-greater.ensures.0 refl) }
+    let w = split c.args.ts.now c.loop-from.from c.end_among-end.result c.requires.ts_whole c.loop-from-test.true c.end_among-end.ensures.end in
+    record { within = c.end_among-end.ensures.in_list; left = exceeds_turn c.args.ranks.now c.args.classes.now _ c.args.ts.now c.loop-from.from c.end_among-end.result c.loop-from.invariant.left w (c.if-not-greater.ensures.0 refl) }
 
 pub left_to_exceed-loop-from-preserved-then-is_lower : goal.left_to_exceed-loop-from-preserved-then-is_lower
 left_to_exceed-loop-from-preserved-then-is_lower t c =
@@ -140,7 +140,7 @@ left_to_exceed-loop-from-preserved-then-is_lower t c =
 
 pub left_to_exceed-loop-from-smaller : goal.left_to_exceed-loop-from-smaller
 left_to_exceed-loop-from-smaller t c =
-    let w = split c.args.ts.now c.loop-from.from c.end_of-end.result c.requires.ts_whole c.loop-from-test.true c.end_of-end.ensures.end in
+    let w = split c.args.ts.now c.loop-from.from c.end_among-end.result c.requires.ts_whole c.loop-from-test.true c.end_among-end.ensures.end in
     omega arith
 
 pub left_to_exceed-returns-clause-says : goal.left_to_exceed-returns-clause-says
@@ -149,34 +149,34 @@ left_to_exceed-returns-clause-says t c =
 
 pub left_to_exceed-returns-else-exceeds-clause-says : goal.left_to_exceed-returns-else-exceeds-clause-says
 left_to_exceed-returns-else-exceeds-clause-says t c =
-    let w = split c.args.ts.now c.loop-from.from c.end_of-end.result c.requires.ts_whole c.loop-from-test.true c.end_of-end.ensures.end in
-    (λ h. absurd (never h), λ h. absurd (exceeds_no_later c.args.ranks.now c.args.classes.now _ c.args.ts.now c.loop-from.from c.end_of-end.result c.loop-from.invariant.left w (λ k. never (c.if-exceeds.ensures.1 k)) h))
+    let w = split c.args.ts.now c.loop-from.from c.end_among-end.result c.requires.ts_whole c.loop-from-test.true c.end_among-end.ensures.end in
+    (λ h. absurd (never h), λ h. absurd (exceeds_no_later c.args.ranks.now c.args.classes.now _ c.args.ts.now c.loop-from.from c.end_among-end.result c.loop-from.invariant.left w (λ k. never (c.if-exceeds.ensures.1 k)) h))
 
 pub left_to_exceed-returns-then-exceeds-clause-says : goal.left_to_exceed-returns-then-exceeds-clause-says
 left_to_exceed-returns-then-exceeds-clause-says t c =
-    let w = split c.args.ts.now c.loop-from.from c.end_of-end.result c.requires.ts_whole c.loop-from-test.true c.end_of-end.ensures.end in
-    exceeds_put_off c.args.ranks.now c.args.classes.now _ c.args.ts.now c.loop-from.from c.end_of-end.result c.loop-from.invariant.left w (c.if-exceeds.ensures.0 refl)
+    let w = split c.args.ts.now c.loop-from.from c.end_among-end.result c.requires.ts_whole c.loop-from-test.true c.end_among-end.ensures.end in
+    exceeds_put_off c.args.ranks.now c.args.classes.now _ c.args.ts.now c.loop-from.from c.end_among-end.result c.loop-from.invariant.left w (c.if-exceeds.ensures.0 refl)
 
 pub left_to_exceed-returns-then-exceeds-clause-smaller : goal.left_to_exceed-returns-then-exceeds-clause-smaller
 left_to_exceed-returns-then-exceeds-clause-smaller t c =
-    let w = split c.args.ts.now c.loop-from.from c.end_of-end.result c.requires.ts_whole c.loop-from-test.true c.end_of-end.ensures.end in
+    let w = split c.args.ts.now c.loop-from.from c.end_among-end.result c.requires.ts_whole c.loop-from-test.true c.end_among-end.ensures.end in
     (c.requires.s_whole, w.whole, c.requires.s_some, w.some.0, c.requires.s_small, omega arith, omega arith)
 
 pub left_to_exceed-returns-then-not-greater-clause-says : goal.left_to_exceed-returns-then-not-greater-clause-says
 left_to_exceed-returns-then-not-greater-clause-says t c =
-    let w = split c.args.ts.now c.loop-from.from c.end_of-end.result c.requires.ts_whole c.loop-from-test.true c.end_of-end.ensures.end in
-    (λ h. absurd (never h), λ h. c.if-not-greater.ensures.1 (exceeds_stop c.args.ranks.now c.args.classes.now _ c.args.ts.now c.loop-from.from c.end_of-end.result c.loop-from.invariant.left w h))
+    let w = split c.args.ts.now c.loop-from.from c.end_among-end.result c.requires.ts_whole c.loop-from-test.true c.end_among-end.ensures.end in
+    (λ h. absurd (never h), λ h. c.if-not-greater.ensures.1 (exceeds_stop c.args.ranks.now c.args.classes.now _ c.args.ts.now c.loop-from.from c.end_among-end.result c.loop-from.invariant.left w h))
 
 pub left_to_reach-greater-requires : goal.left_to_reach-greater-requires
 left_to_reach-greater-requires t c =
-    let w = split c.args.ss.now c.loop-from.from c.end_of-end.result c.requires.ss_whole c.loop-from-test.true c.end_of-end.ensures.end in
+    let w = split c.args.ss.now c.loop-from.from c.end_among-end.result c.requires.ss_whole c.loop-from-test.true c.end_among-end.ensures.end in
     (omega arith, (w.whole, (c.requires.t_whole, (omega arith, (c.requires.t_small, (w.some.0, c.requires.t_some))))))
 
 pub left_to_reach-loop-from-preserved : goal.left_to_reach-loop-from-preserved
 left_to_reach-loop-from-preserved t c =
-    let w = split c.args.ss.now c.loop-from.from c.end_of-end.result c.requires.ss_whole c.loop-from-test.true c.end_of-end.ensures.end in
-    let ne = λ (e : shown (representative c.args.classes.now) (tree_of (take (c.end_of-end.result - c.loop-from.from) (drop c.loop-from.from c.args.ss.now))) ≡ shown (representative c.args.classes.now) (tree_of c.args.t.now)). never (c.if-are_alike.ensures.1 (same_shown (representative c.args.classes.now) _ _ w.whole c.requires.t_whole e)) in
-    record { within = c.end_of-end.ensures.in_list; left = reaches_turn c.args.ranks.now c.args.classes.now _ c.args.ss.now c.loop-from.from c.end_of-end.result c.loop-from.invariant.left w ne (λ l. never (c.if-greater.ensures.1 l)) }
+    let w = split c.args.ss.now c.loop-from.from c.end_among-end.result c.requires.ss_whole c.loop-from-test.true c.end_among-end.ensures.end in
+    let ne = λ (e : shown (representative c.args.classes.now) (tree_of (take (c.end_among-end.result - c.loop-from.from) (drop c.loop-from.from c.args.ss.now))) ≡ shown (representative c.args.classes.now) (tree_of c.args.t.now)). never (c.if-are_alike.ensures.1 (same_shown (representative c.args.classes.now) _ _ w.whole c.requires.t_whole e)) in
+    record { within = c.end_among-end.ensures.in_list; left = reaches_turn c.args.ranks.now c.args.classes.now _ c.args.ss.now c.loop-from.from c.end_among-end.result c.loop-from.invariant.left w ne (λ l. never (c.if-greater.ensures.1 l)) }
 
 pub left_to_reach-loop-from-preserved-then-is_passed : goal.left_to_reach-loop-from-preserved-then-is_passed
 left_to_reach-loop-from-preserved-then-is_passed t c =
@@ -185,13 +185,13 @@ left_to_reach-loop-from-preserved-then-is_passed t c =
 
 pub left_to_reach-loop-from-smaller : goal.left_to_reach-loop-from-smaller
 left_to_reach-loop-from-smaller t c =
-    let w = split c.args.ss.now c.loop-from.from c.end_of-end.result c.requires.ss_whole c.loop-from-test.true c.end_of-end.ensures.end in
+    let w = split c.args.ss.now c.loop-from.from c.end_among-end.result c.requires.ss_whole c.loop-from-test.true c.end_among-end.ensures.end in
     omega arith
 
 pub left_to_reach-reaches-requires : goal.left_to_reach-reaches-requires
 left_to_reach-reaches-requires t c =
-    let w = split c.args.ss.now c.loop-from.from c.end_of-end.result c.requires.ss_whole c.loop-from-test.true c.end_of-end.ensures.end in
-    let m = tail_length c.args.ss.now c.end_of-end.result in
+    let w = split c.args.ss.now c.loop-from.from c.end_among-end.result c.requires.ss_whole c.loop-from-test.true c.end_among-end.ensures.end in
+    let m = tail_length c.args.ss.now c.end_among-end.result in
     (omega arith, (tail_whole_at c.args.ss.now _ c.requires.ss_whole, (c.requires.t_whole, (omega arith, (c.requires.t_small, c.requires.t_some)))))
 
 pub left_to_reach-returns-clause-says : goal.left_to_reach-returns-clause-says
@@ -200,29 +200,29 @@ left_to_reach-returns-clause-says t c =
 
 pub left_to_reach-returns-else-reaches-clause-says : goal.left_to_reach-returns-else-reaches-clause-says
 left_to_reach-returns-else-reaches-clause-says t c =
-    let w = split c.args.ss.now c.loop-from.from c.end_of-end.result c.requires.ss_whole c.loop-from-test.true c.end_of-end.ensures.end in
-    let ne = λ (e : shown (representative c.args.classes.now) (tree_of (take (c.end_of-end.result - c.loop-from.from) (drop c.loop-from.from c.args.ss.now))) ≡ shown (representative c.args.classes.now) (tree_of c.args.t.now)). never (c.if-are_alike.ensures.1 (same_shown (representative c.args.classes.now) _ _ w.whole c.requires.t_whole e)) in
-    reaches_put_off c.args.ranks.now c.args.classes.now _ c.args.ss.now c.loop-from.from c.end_of-end.result c.loop-from.invariant.left w ne (λ k. never (c.if-reaches.ensures.1 k))
+    let w = split c.args.ss.now c.loop-from.from c.end_among-end.result c.requires.ss_whole c.loop-from-test.true c.end_among-end.ensures.end in
+    let ne = λ (e : shown (representative c.args.classes.now) (tree_of (take (c.end_among-end.result - c.loop-from.from) (drop c.loop-from.from c.args.ss.now))) ≡ shown (representative c.args.classes.now) (tree_of c.args.t.now)). never (c.if-are_alike.ensures.1 (same_shown (representative c.args.classes.now) _ _ w.whole c.requires.t_whole e)) in
+    reaches_put_off c.args.ranks.now c.args.classes.now _ c.args.ss.now c.loop-from.from c.end_among-end.result c.loop-from.invariant.left w ne (λ k. never (c.if-reaches.ensures.1 k))
 
 pub left_to_reach-returns-else-reaches-clause-smaller : goal.left_to_reach-returns-else-reaches-clause-smaller
 left_to_reach-returns-else-reaches-clause-smaller t c =
-    let w = split c.args.ss.now c.loop-from.from c.end_of-end.result c.requires.ss_whole c.loop-from-test.true c.end_of-end.ensures.end in
+    let w = split c.args.ss.now c.loop-from.from c.end_among-end.result c.requires.ss_whole c.loop-from-test.true c.end_among-end.ensures.end in
     (w.whole, c.requires.t_whole, w.some.0, c.requires.t_some, omega arith, c.requires.t_small, omega arith)
 
 pub left_to_reach-returns-then-are_alike-clause-says : goal.left_to_reach-returns-then-are_alike-clause-says
 left_to_reach-returns-then-are_alike-clause-says t c =
-    let w = split c.args.ss.now c.loop-from.from c.end_of-end.result c.requires.ss_whole c.loop-from-test.true c.end_of-end.ensures.end in
-    (λ _. reaches_is c.args.ranks.now c.args.classes.now _ c.args.ss.now c.loop-from.from c.end_of-end.result c.loop-from.invariant.left w (shown_same (representative c.args.classes.now) _ _ w.whole c.requires.t_whole (c.if-are_alike.ensures.0 refl)), λ _. refl)
+    let w = split c.args.ss.now c.loop-from.from c.end_among-end.result c.requires.ss_whole c.loop-from-test.true c.end_among-end.ensures.end in
+    (λ _. reaches_is c.args.ranks.now c.args.classes.now _ c.args.ss.now c.loop-from.from c.end_among-end.result c.loop-from.invariant.left w (shown_same (representative c.args.classes.now) _ _ w.whole c.requires.t_whole (c.if-are_alike.ensures.0 refl)), λ _. refl)
 
 pub left_to_reach-returns-then-greater-clause-says : goal.left_to_reach-returns-then-greater-clause-says
 left_to_reach-returns-then-greater-clause-says t c =
-    let w = split c.args.ss.now c.loop-from.from c.end_of-end.result c.requires.ss_whole c.loop-from-test.true c.end_of-end.ensures.end in
-    (λ _. reaches_above c.args.ranks.now c.args.classes.now _ c.args.ss.now c.loop-from.from c.end_of-end.result c.loop-from.invariant.left w (c.if-greater.ensures.0 refl), λ _. refl)
+    let w = split c.args.ss.now c.loop-from.from c.end_among-end.result c.requires.ss_whole c.loop-from-test.true c.end_among-end.ensures.end in
+    (λ _. reaches_above c.args.ranks.now c.args.classes.now _ c.args.ss.now c.loop-from.from c.end_among-end.result c.loop-from.invariant.left w (c.if-greater.ensures.0 refl), λ _. refl)
 
 pub left_to_reach-returns-then-reaches-clause-says : goal.left_to_reach-returns-then-reaches-clause-says
 left_to_reach-returns-then-reaches-clause-says t c =
-    let w = split c.args.ss.now c.loop-from.from c.end_of-end.result c.requires.ss_whole c.loop-from-test.true c.end_of-end.ensures.end in
-    (λ _. reaches_later c.args.ranks.now c.args.classes.now _ c.args.ss.now c.loop-from.from c.end_of-end.result c.loop-from.invariant.left w (c.if-reaches.ensures.0 refl), λ _. refl)
+    let w = split c.args.ss.now c.loop-from.from c.end_among-end.result c.requires.ss_whole c.loop-from-test.true c.end_among-end.ensures.end in
+    (λ _. reaches_later c.args.ranks.now c.args.classes.now _ c.args.ss.now c.loop-from.from c.end_among-end.result c.loop-from.invariant.left w (c.if-reaches.ensures.0 refl), λ _. refl)
 
 pub reaches-greater-requires : goal.reaches-greater-requires
 reaches-greater-requires t c =
@@ -262,17 +262,17 @@ reaches-returns-then-are_alike t c =
 pub step-left_to_exceed-requires : goal.step-left_to_exceed-requires
 step-left_to_exceed-requires t c =
     let n = tail_length c.args.s.now 1 in let m = tail_length c.args.t.now 1 in
-    (omega arith, (c.requires.s_whole, (tail_whole_at c.args.t.now 1 (whole_one c.args.t.now c.requires.t_whole), (c.requires.s_small, (omega arith, c.requires.s_some)))))
+    (omega arith, (c.requires.s_whole, (tail_whole_at c.args.t.now 1 (whole_one c.args.t.now c.requires.t_whole), (c.requires.s_small, (omega arith, (c.requires.s_some, λ h. absurd (never h)))))))
 
 pub step-left_to_reach-requires : goal.step-left_to_reach-requires
 step-left_to_reach-requires t c =
     let n = tail_length c.args.s.now 1 in let m = tail_length c.args.t.now 1 in
-    (omega arith, (tail_whole_at c.args.s.now 1 (whole_one c.args.s.now c.requires.s_whole), (c.requires.t_whole, (omega arith, (c.requires.t_small, c.requires.t_some)))))
+    (omega arith, (tail_whole_at c.args.s.now 1 (whole_one c.args.s.now c.requires.s_whole), (c.requires.t_whole, (omega arith, (c.requires.t_small, (c.requires.t_some, λ h. absurd (never h)))))))
 
 pub step-left_to_reach-requires-else-rank : goal.step-left_to_reach-requires-else-rank
 step-left_to_reach-requires-else-rank t c =
     let n = tail_length c.args.s.now 1 in let m = tail_length c.args.t.now 1 in
-    (omega arith, (tail_whole_at c.args.s.now 1 (whole_one c.args.s.now c.requires.s_whole), (c.requires.t_whole, (omega arith, (c.requires.t_small, c.requires.t_some)))))
+    (omega arith, (tail_whole_at c.args.s.now 1 (whole_one c.args.s.now c.requires.s_whole), (c.requires.t_whole, (omega arith, (c.requires.t_small, (c.requires.t_some, λ h. absurd (never h)))))))
 
 pub step-returns-else-rank-clause-says : goal.step-returns-else-rank-clause-says
 step-returns-else-rank-clause-says t c =
@@ -353,7 +353,8 @@ climb-around-rest-requires t c =
     let tl = z.t_long in
     let sk = z.s_later_long in
     let tk = z.t_later_long in
-    (omega (arith, sl, tl, z.s_inside, z.t_inside), (z.s_whole, (z.t_whole, (omega (arith, sl, z.s_inside, c.requires.s_small), (omega (arith, tl, z.t_inside, c.requires.t_small), (z.s_later, (z.t_later, (omega (arith, sl, sk, z.s_part, z.s_order), (omega (arith, tl, tk, z.t_part, z.t_order), z.ready)))))))))
+    let one : IsTrue (c.in-App.n - c.loop-from.done - 1 == 1) → c.in-App.n - c.loop-from.done - 1 ≡ 1 = λ h. eqb-true (c.in-App.n - c.loop-from.done - 1) 1 h in
+    (omega (arith, sl, tl, z.s_inside, z.t_inside), (z.s_whole, (z.t_whole, (omega (arith, sl, z.s_inside, c.requires.s_small), (omega (arith, tl, z.t_inside, c.requires.t_small), (z.s_later, (z.t_later, (omega (arith, sl, sk, z.s_part, z.s_order), (omega (arith, tl, tk, z.t_part, z.t_order), (z.ready, (λ h. later_single c.args.s.now c.loop-from.s_to _ c.end_of_level-s_end.result (whole_one c.args.s.now c.requires.s_whole) c.end_of_level-s_end.ensures.end (s_enough c.args.ranks.now c.args.classes.now c.args.s.now c.args.t.now c.args.at c.loop-from.part c.loop-from.from c.loop-from.done c.loop-from.s_to c.loop-from.t_to c.loop-from.rest c.loop-from.invariant c.requires.s_whole c.requires.t_whole c.requires.common c.requires.in_s c.requires.in_t (c.loop-from.from - 1) (omega arith) c.in-App.field-0 c.in-App.n _ c.in-App.is c.if-arity-done.false) (one h), λ h. later_single c.args.t.now c.loop-from.t_to _ c.end_of_level-t_end.result (whole_one c.args.t.now c.requires.t_whole) c.end_of_level-t_end.ensures.end (t_enough c.args.ranks.now c.args.classes.now c.args.s.now c.args.t.now c.args.at c.loop-from.part c.loop-from.from c.loop-from.done c.loop-from.s_to c.loop-from.t_to c.loop-from.rest c.loop-from.invariant c.requires.s_whole c.requires.t_whole c.requires.common c.requires.in_s c.requires.in_t (c.loop-from.from - 1) (omega arith) c.in-App.field-0 c.in-App.n _ c.in-App.is c.if-arity-done.false) (one h))))))))))))
 
 pub climb-loop-from-preserved : goal.climb-loop-from-preserved
 climb-loop-from-preserved t c = climbed_up c.args.ranks.now c.args.classes.now c.args.s.now c.args.t.now c.args.at c.loop-from.part c.loop-from.from c.loop-from.done c.loop-from.s_to c.loop-from.t_to c.loop-from.rest c.loop-from.invariant c.requires.s_whole c.requires.t_whole c.requires.common c.requires.in_s c.requires.in_t (c.loop-from.from - 1) (omega arith) c.in-App.field-0 c.in-App.n _ c.in-App.is c.if-arity-done.false c.end_of_level-s_end.result c.end_of_level-t_end.result c.end_of_level-s_end.ensures.end c.end_of_level-t_end.ensures.end c.around-rest.result c.around-rest.ensures.goes c.around-rest.ensures.smaller
