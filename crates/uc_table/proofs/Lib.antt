@@ -9,3 +9,8 @@ pub mod Assignments
 pub mod Polarity
 pub mod Readiness
 pub mod Verdicts
+pub mod FirstLines
+pub mod InLine
+pub mod Values
+pub mod Rows
+pub mod Canonical

@@ -10,3 +10,5 @@ pub mod SearchCells
 pub mod Searching
 pub mod Evaluating
 pub mod Against
+pub mod Places
+pub mod Reads

@@ -33,11 +33,15 @@ end_line = codes "% end"
 abbrev pub symbol_line : SymbolTable → Sym → List ℕ
 symbol_line symbols f = codes "% symbol " ++ spelling (name_of symbols f) ++ codes " " ++ decimal (arity_of symbols f)
 
+-- values with a space before each of them
+abbrev pub spaced : List ℕ → List ℕ
+spaced [] = []
+spaced (v ∷ vs) = codes " " ++ decimal v ++ spaced vs
+
 -- values with a space between any two
 abbrev pub values_line : List ℕ → List ℕ
 values_line [] = []
-values_line (v ∷ []) = decimal v
-values_line (v ∷ w ∷ vs) = decimal v ++ codes " " ++ values_line (w ∷ vs)
+values_line (v ∷ vs) = decimal v ++ spaced vs
 
 abbrev pub rows_text : SymbolTable → List Sym → List (List ℕ) → List ℕ
 rows_text symbols (f ∷ fs) (row ∷ rows) = ended (symbol_line symbols f) ++ ended (values_line row) ++ rows_text symbols fs rows

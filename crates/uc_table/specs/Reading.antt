@@ -42,6 +42,10 @@ checked_size None = None
 abbrev pub size_of : List ℕ → Option ℕ
 size_of line = if starts_with nat_eq line size_words then checked_size (digit_of (drop (length size_words) line)) else None
 
+-- the first two lines: the size
+abbrev pub header_lines : Rule ℕ
+header_lines = version_line >>= λ _. pick size_of
+
 module _ (size : ℕ) where
   -- a digit that writes a value
   abbrev pub is_value : ℕ → Bool
@@ -80,14 +84,14 @@ module _ (symbols : SymbolTable) (size : ℕ) where
   abbrev pub symbol_at : ℕ → Sym → Rule (Unit {0})
   symbol_at cells f n text = limited cells n (exactly (symbol_line symbols f) n text)
 
-  -- the two lines of a symbol, behind the rows of others
-  abbrev pub row_at : List (List ℕ) → Sym → Rule (List ℕ)
-  row_at rows f = symbol_at (cells_in rows + cell_count symbols size f) f >>= λ _. pick (row_of size (cell_count symbols size f))
+  -- the two lines of a symbol, behind so many cells of others
+  abbrev pub row_at : ℕ → Sym → Rule (List ℕ)
+  row_at cells f = symbol_at (cells + cell_count symbols size f) f >>= λ _. pick (row_of size (cell_count symbols size f))
 
   -- the rows of these symbols, behind others
   abbrev pub rows_after : List (List ℕ) → List Sym → Rule (List (List ℕ))
   rows_after rows [] = gives rows
-  rows_after rows (f ∷ fs) = row_at rows f >>= λ row. rows_after (rows ++ row ∷ []) fs
+  rows_after rows (f ∷ fs) = row_at (cells_in rows) f >>= λ row. rows_after (rows ++ row ∷ []) fs
 
 module _ (symbols : SymbolTable) (signature : List Sym) where
   abbrev pub table_by : ℕ → List (List ℕ) → Table
@@ -96,8 +100,7 @@ module _ (symbols : SymbolTable) (signature : List Sym) where
   -- the lines of a table
   abbrev pub table_lines : Rule Table
   table_lines = do
-    _ ← version_line
-    size ← pick size_of
+    size ← header_lines
     rows ← rows_after symbols size [] signature
     _ ← exactly end_line
     gives (table_by size rows)

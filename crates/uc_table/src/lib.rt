@@ -10,11 +10,16 @@ mod checking;
 mod evaluating;
 mod fault;
 mod laws;
+mod lines;
 mod places;
+mod printing;
+mod reading;
 mod table;
 
 pub use answers::{Searched, Tabled};
 pub use checking::check_table;
 pub use fault::TableFault;
 pub use laws::model_refutes;
+pub use printing::print_table;
+pub use reading::read_table;
 pub use table::{MAX_ASSIGNMENTS, MAX_CELLS, MAX_SIZE, Table};
