@@ -1,6 +1,6 @@
 -- A text that is read as a table is the one that is printed of it.
-use Rattle.std.proofs.Common.{◌≡◌, ℕ, zero, suc, ◌+◌, ◌-◌, ◌<◌, ◌≤◌, ◌==◌, ◌&&◌, nat_lt, nat_le, nat_eq, Bool, true, false, List, [], ◌∷◌, ◌++◌, length, drop, take, codes, bytes_eq, decimal, Option, Some, None, if◌then◌else◌, refl, sym, ap, ap₂, ◌∙◌, subst, arith, append_assoc, append-nil}
-use Rattle.std.specs.Prelude.{Result, Ok, Err}
+use Rattle.std.proofs.Common.{◌≡◌, ℕ, ◌+◌, ◌-◌, ◌<◌, ◌≤◌, ◌==◌, ◌&&◌, nat_lt, nat_le, nat_eq, Bool, true, false, List, [], ◌∷◌, ◌++◌, length, drop, bytes_eq, decimal, Option, Some, None, if◌then◌else◌, refl, sym, ap, ap₂, ◌∙◌, subst, arith, append_assoc, append-nil}
+use Rattle.std.specs.Prelude.{Ok, Err}
 use Rattle.std.specs.Cmp.Lexicographic.{bytes_decides}
 use Rattle.std.specs.List.{starts_with}
 use Rattle.std.proofs.lemmas.Bool.{eqb-true}
@@ -10,11 +10,10 @@ use Rattle.uc_term.specs.declared.node.Sym.{Sym}
 use Rattle.uc_term.specs.Table.{Table as SymbolTable}
 use Rattle.uc_clause.specs.Bytes.{is_digit}
 use Rattle.uc_table.specs.declared.table.Table.{Table}
-use Rattle.uc_table.specs.declared.fault.TableFault.{TableFault}
 use Rattle.uc_table.specs.declared.fault.TableFault.TheVariants.{TooManyCells, TooManyBytes}
 use Rattle.uc_table.specs.Tables.{AreValues, IsRow, cell_count, AreRows, IsTableOf, MOST_CELLS}
-use Rattle.uc_table.specs.Printing.{ended, table_words, table_line, size_words, size_line, end_line, symbol_line, spaced, values_line, rows_text, table_text}
-use Rattle.uc_table.specs.Lines.{Cut, first_line, with_byte, place_in, departs, Outcome, gets, fails, go_on, value_or, picked, pick, just, exactly, ◌>>=◌, gives}
+use Rattle.uc_table.specs.Printing.{ended, table_line, size_words, size_line, end_line, symbol_line, spaced, values_line, rows_text, table_text}
+use Rattle.uc_table.specs.Lines.{Cut, first_line, with_byte, place_in, Outcome, gets, fails, go_on, value_or, picked, pick, just, exactly, ◌>>=◌, gives}
 use Rattle.uc_table.specs.Reading.{version_fault, version_of, version_line, digit_of, checked_size, size_of, header_lines, is_value, with_value, values_of, checked_count, row_of, cells_in, limited, symbol_at, row_at, rows_after, table_by, table_lines, ends, table_of}
 use Rattle.uc_table.proofs.InLine.{and_left, and_right}
 
@@ -249,7 +248,7 @@ module _ (symbols : SymbolTable) (signature : List Sym) where
   has_parts size rows more text first second third last rest some most made are a b c d e = record {
     is_table = record { some = some; most = most; symbols_are = refl; rows = subst (AreRows symbols size signature) (sym made) are };
     is = a ∙ ap (λ r. ended table_line ++ r) (b ∙ ap (λ r. ended (size_line size) ++ r) (c ∙ ap₂ (λ rs r. rows_text symbols signature rs ++ r) (sym made) (d ∙ ap (λ r. ended end_line ++ r) e)))
-      ∙ four_parts (ended table_line) (ended (size_line size)) (rows_text symbols signature rows) (ended end_line) rest;
+        ∙ four_parts (ended table_line) (ended (size_line size)) (rows_text symbols signature rows) (ended end_line) rest;
   }
 
   -- what the lines behind the size come to
@@ -267,7 +266,7 @@ module _ (symbols : SymbolTable) (signature : List Sym) where
       let last = go_on_gets (exactly end_line rows.1 rows.2) (λ _. gives (table_by symbols signature size rows.0)) table m rest rows.4 in
       let same = given_table (table_by symbols signature size rows.0) table last.1 m last.2 rest last.4 in
       subst (λ (t : Table). HasTable t text rest) {x = table_by symbols signature size rows.0} same.0
-        (has_parts size rows.0 all.more text first second rows.2 last.2 rest some most all.all_is all.are a b all.is (exactly_is end_line rows.1 last.1 rows.2 last.2 last.3) same.1)
+      (has_parts size rows.0 all.more text first second rows.2 last.2 rest some most all.all_is all.are a b all.is (exactly_is end_line rows.1 last.1 rows.2 last.2 last.3) same.1)
 
   has_table : (table : Table) (n m : ℕ) (text rest : List ℕ) → table_lines symbols signature n text ≡ gets table m rest → HasTable table text rest
   unfolding after_size

@@ -1,8 +1,8 @@
 -- The rows of symbols, read one after the other.
-use Rattle.std.proofs.Common.{◌≡◌, ℕ, ◌+◌, ◌<◌, ◌≤◌, List, [], ◌∷◌, ◌++◌, length, get_or, drop, refl, sym, ap, ◌∙◌, subst, arith, nat_lt, false}
+use Rattle.std.proofs.Common.{◌≡◌, ℕ, ◌+◌, ◌<◌, ◌≤◌, List, [], ◌∷◌, ◌++◌, length, get_or, drop, refl, ap, ◌∙◌, subst, arith, nat_lt, false}
 use Rattle.std.proofs.lemmas.Bool.Decides.{nat_tests}
-use Rattle.std.specs.Prelude.{Result, Ok, Err}
-use Rattle.std.proofs.lemmas.List.{drop_more, drop_all, length-drop}
+use Rattle.std.specs.Prelude.{Ok, Err}
+use Rattle.std.proofs.lemmas.List.{drop_more, drop_all}
 use Rattle.uc_term.specs.declared.node.Sym.{Sym}
 use Rattle.uc_term.specs.Table.{Table as SymbolTable}
 use Rattle.uc_table.specs.declared.table.Table.{Table}
@@ -10,7 +10,6 @@ use Rattle.uc_table.specs.declared.fault.TableFault.{TableFault}
 use Rattle.uc_table.specs.declared.fault.TableFault.TheVariants.{Syntax, Version, TooManyCells, TooManyBytes, NoMemory}
 use Rattle.uc_table.specs.declared.lines.Cursor.{Cursor}
 use Rattle.uc_table.specs.Lines.{Outcome, gets, fails, go_on, Rule, departs}
-use Rattle.uc_table.specs.Places.{IsAt}
 use Rattle.uc_table.specs.Reads.{Gives}
 use Rattle.uc_table.specs.Reading.{cells_in, row_at, rows_after, table_lines, table_of, ends}
 

@@ -309,12 +309,7 @@ fn values_at(
 }
 
 // The values in a line, if they are so many.
-fn row_of(
-    alloc: Global,
-    size: u32,
-    count: u32,
-    line: &[u8],
-) -> Result<Option<Seq<u32>>, AllocError>
+fn row_of(alloc: Global, size: u32, count: u32, line: &[u8]) -> Result<Option<Seq<u32>>, AllocError>
     ensures { IfOk result (λ row. row ≡ row_of size count line.now) }
 {
     let Some(values) = values_of(alloc, size, line)? else {

@@ -1,4 +1,4 @@
-use Rattle.std.proofs.Common.{◌≡◌, ◌≤◌, length, arith}
+use Rattle.std.proofs.Common.{arith}
 use Rattle.uc_table.proofs.Rows.{goes_further, goes_no_further}
 use Rattle.uc_table.proofs.Canonical.{is_canonical}
 use Rattle.uc_table.proofs.reading.read_table.Goals as goal

@@ -1,5 +1,5 @@
-use Rattle.std.proofs.Common.{◌≡◌, ◌+◌, ◌-◌, ◌==◌, ◌&&◌, true, get_or, drop, [], ◌∷◌, ◌++◌, arith, sym, ap, ◌∙◌, subst}
-use Rattle.uc_table.specs.Reading.{is_value, values_of}
+use Rattle.std.proofs.Common.{◌≡◌, ◌+◌, ◌-◌, get_or, drop, [], ◌∷◌, ◌++◌, arith, sym, ap, ◌∙◌}
+use Rattle.uc_table.specs.Reading.{values_of}
 use Rattle.uc_table.proofs.Values.{no_value_here, value_here, behind}
 use Rattle.uc_table.proofs.reading.values_of.Goals as goal
 
