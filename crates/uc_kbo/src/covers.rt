@@ -36,19 +36,20 @@ pub fn has_all(
     }
 }
 
-// Each counter of the first run is as great as that of the second.
+// Each counter of the first run is as great as that of the second. All are looked at, so that it is done several at a time.
 #[inline]
 fn has_each(a: &Run, b: &Run) -> bool
     requires a { length a.now.counts ≡ 64 }
     requires b { length b.now.counts ≡ 64 }
     ensures { IsTrue result ↔ ((i : ℕ) → i < 64 → slice_index b.now.counts i ≤ slice_index a.now.counts i) }
 {
+    let mut all = true;
     for i in 0..64 {
         if a.counts[i] < b.counts[i] {
-            return false;
+            all = false;
         }
     }
-    true
+    all
 }
 
 // From each counter on the sum of the first run is as great as that of the second.

@@ -89,12 +89,12 @@ fn add_inner<O: Order>(
     requires { NeverDown (O.meaning order.now).greater (rule_read outer.now) → ⊥ }
     ensures { OnOk result (Adds (Lists (O.meaning order.now).greater (rule_read outer.now) (rule_read inner.now) 0) list.old.items list.new.items) }
 {
-    if is_never_down(inner, order) {
-        return Ok(());
-    }
     let Some(first) = first_fit(outer.from, inner.from) else {
         return Ok(());
     };
+    if is_never_down(inner, order) {
+        return Ok(());
+    }
     let terms = rename_apart(alloc, outer, inner)?;
     for place in first..outer.from.nodes() {
         let size = size_at(alloc, &terms, outer, inner, place, order)?;

@@ -1,5 +1,8 @@
-use Rattle.std.proofs.Common.{ℕ, ◌<◌, ◌≤◌, slice_index}
+use Rattle.std.proofs.Common.{ℕ, ◌<◌, ◌≤◌, ◌≡◌, IsTrue, false, slice_index}
 use Rattle.uc_kbo.proofs.covers.has_each.Given as goal
 
 abbrev pub invariant-loop-i : goal.invariant-loop-i
-invariant-loop-i l = (k : ℕ) → k < l.i → slice_index l.b.counts k ≤ slice_index l.a.counts k
+invariant-loop-i l = record {
+  so_far : IsTrue l.all → (k : ℕ) → k < l.i → slice_index l.b.counts k ≤ slice_index l.a.counts k;
+  some : l.all ≡ false → ((k : ℕ) → k < 64 → slice_index l.b.counts k ≤ slice_index l.a.counts k) → ⊥;
+}
