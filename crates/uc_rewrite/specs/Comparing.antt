@@ -1,6 +1,6 @@
 -- What a comparison tells of the two sides of a fact.
-use Rattle.std.specs.Prelude.{ℕ}
-use Rattle.uc_term.specs.Tree.{Tree, apply}
+use Rattle.std.specs.Prelude.{ℕ, ◌≡◌}
+use Rattle.uc_term.specs.Tree.{Tree, var, apply}
 use Rattle.uc_term.specs.Variables.{Occurs}
 use Rattle.uc_rewrite.specs.declared.comparison.Falling.{Falling}
 use Rattle.uc_rewrite.specs.declared.comparison.Falling.TheVariants.{Always, Never, Unclear}
@@ -14,3 +14,9 @@ abbrev pub Tells : (Tree → Tree → Type 0) → Tree → Tree → Falling → 
 Tells Greater from to Always = (σ : ℕ → Tree) → Greater (apply σ from) (apply σ to)
 Tells Greater from to Never = (σ : ℕ → Tree) → Greater (apply σ from) (apply σ to) → ⊥
 Tells Greater from to Unclear = Unit {0}
+
+-- the term is a variable, and it occurs in the other one
+pub record IsVariableOf (term other : Tree) : Type 0 where
+  pub x : ℕ
+  pub term_is : term ≡ var x
+  pub occurs : Occurs x other

@@ -1,6 +1,9 @@
 //! How terms are compared where facts are used: by an order, or by it under an order of variables.
 
-ghost use Rattle.std.specs.Prelude.{◌≡◌};
+ghost use Rattle.std.specs.Prelude.{◌≡◌, ◌↔◌, IsTrue};
+ghost use Rattle.uc_term.specs.Flat.{tree_of, IsWhole};
+ghost use Rattle.uc_term.specs.Variables.{Occurs};
+ghost use Rattle.uc_rewrite.specs.Comparing.{IsVariableOf};
 
 use uc_order::{Cmp, Order};
 use uc_term::{MAX_INSTANCE, Node, Sym, Term, VarOrder};
@@ -41,6 +44,9 @@ pub trait Comparison {
         requires t_known { VariablesAre (knows self.now) (tree_of t.now) }
         ensures { IsTrue result ↔ greater self.now (tree_of s.now) (tree_of t.now) };
 
+    /// Whether the sides of a fact tell anything of their instances at all, so that it is worth looking them up.
+    fn asks_sides(&self) -> bool;
+
     /// What the two sides of a fact tell of their instances. It takes no memory.
     fn of_sides(&self, from: &Term, to: &Term) -> Falling
         ensures { Tells (greater self.now) from.now to.now result };
@@ -67,8 +73,16 @@ impl<'a, O: Order> Comparison for ByOrder<'a, O> {
         self.order.compare(s, t) == Cmp::Greater
     }
 
-    // An order keeps to instances, so what it says of the sides holds of all of them.
+    fn asks_sides(&self) -> bool {
+        true
+    }
+
+    // An order keeps to instances, so what it says of the sides holds of all of them. A variable that occurs in the other
+    // side needn't be compared: its instances are subterms.
     fn of_sides(&self, from: &Term, to: &Term) -> Falling {
+        if is_variable_of(from, to) {
+            return Falling::Never;
+        }
         match self.order.compare(from.as_nodes(), to.as_nodes()) {
             Cmp::Greater => Falling::Always,
             Cmp::Less => Falling::Never,
@@ -102,6 +116,10 @@ impl<'a, O: Order> Comparison for UnderCases<'a, O> {
         self.order.compare_under(self.cases, s, t) == Cmp::Greater
     }
 
+    fn asks_sides(&self) -> bool {
+        false
+    }
+
     // The order of the variables says nothing of those of a fact.
     fn of_sides(&self, _from: &Term, _to: &Term) -> Falling {
         Falling::Unclear
@@ -109,5 +127,40 @@ impl<'a, O: Order> Comparison for UnderCases<'a, O> {
 
     fn least(&self) -> Sym {
         self.order.least()
+    }
+}
+
+/// Tells that a term is a variable that occurs in the other one. It looks at that one only where the term is a variable.
+#[inline]
+fn is_variable_of(term: &Term, other: &Term) -> bool
+    ensures { IsTrue result → IsVariableOf term.now other.now }
+{
+    match term.as_nodes()[0] {
+        Node::Var(x) => has_variable(other.as_nodes(), x),
+        Node::App(_, _) => false,
+    }
+}
+
+/// Tells that a variable occurs in a term.
+fn has_variable(nodes: &[Node], x: u32) -> bool
+    requires { IsWhole nodes.now }
+    ensures { IsTrue result → Occurs x (tree_of nodes.now) }
+{
+    for node in nodes {
+        if is_var(*node, x) {
+            return true;
+        }
+    }
+    false
+}
+
+/// Whether the node is this variable.
+#[inline]
+fn is_var(node: Node, x: u32) -> bool
+    ensures { IsTrue result ↔ (node ≡ Node.Var x) }
+{
+    match node {
+        Node::Var(y) => y == x,
+        Node::App(_, _) => false,
     }
 }

@@ -8,6 +8,9 @@ ghost use Rattle.uc_rewrite.specs.Completed.{completed};
 use std::alloc::{AllocError, Global};
 use uc_term::{MAX_INSTANCE, MAX_NODES, Node, Subst, Sym};
 
+/// How many nodes beside the pattern's own there is room for from the start.
+const ROOM: usize = 24;
+
 /// The nodes of the pattern's instance, whatever its size, in which variables without a pair are the least constant.
 pub fn completed_instance(
     alloc: Global,
@@ -21,6 +24,7 @@ pub fn completed_instance(
     ensures small { IfOk result (λ list. length list.items ≤ MAX_INSTANCE) }
 {
     let mut list = Vec::new(alloc);
+    list.reserve(pattern.len() + ROOM)?;
     for node in pattern {
         match *node {
             Node::Var(x) => match subst.get(x) {

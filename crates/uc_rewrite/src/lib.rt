@@ -13,6 +13,6 @@ mod scan;
 mod walk;
 
 pub use laws::{one_normal_form, one_normal_form_under};
-pub use normal::{Normal, normalise, normalise_under};
+pub use normal::{Normal, is_reducible, normalise, normalise_under};
 pub use replaying::replay;
 pub use scan::Scan;

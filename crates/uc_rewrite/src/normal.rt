@@ -1,6 +1,6 @@
 //! Normalising by the first possible step.
 
-ghost use Rattle.std.specs.Prelude.{◌≡◌, IfOk};
+ghost use Rattle.std.specs.Prelude.{◌≡◌, IfOk, IsTrue, false};
 ghost use Rattle.uc_term.specs.Flat.{tree_of};
 ghost use Rattle.uc_fact.specs.declared.fact.Stop.TheVariants.{Full};
 ghost use Rattle.uc_fact.specs.Live.{equations_of};
@@ -10,7 +10,7 @@ ghost use Rattle.uc_order.specs.VarOrders.{HasOnly, represented};
 ghost use Rattle.uc_rewrite.specs.Comparing.{VariablesAre};
 ghost use Rattle.uc_rewrite.specs.Normalising.{IsNormalOf};
 ghost use Rattle.uc_rewrite.specs.Walking.{Walks};
-ghost use Rattle.uc_rewrite.specs.Ends.{IsNext, IsLast, normal_by};
+ghost use Rattle.uc_rewrite.specs.Ends.{CanStep, IsNext, IsLast, normal_by};
 
 use crate::comparison::{ByOrder, Comparison, UnderCases};
 use crate::falls::Rules;
@@ -70,6 +70,30 @@ pub fn normalise_under<O: Order, I: Index>(
 {
     let start = represent(alloc, cases, term)?;
     normalise_by(alloc, &start, index, &UnderCases { order, cases }, limit)
+}
+
+/// Whether a step from a term is possible by the facts that live in an index. It is asked at each subterm, in postorder, and
+/// nothing of the step is made.
+pub fn is_reducible<O: Order, I: Index>(
+    alloc: Global,
+    term: &Term,
+    index: &I,
+    order: &O,
+) -> Result<bool, AllocError>
+    ensures yes { IfOk result (λ answer. IsTrue answer → CanStep (O.meaning order.now).greater (O.meaning order.now).least (I.live index.now) term.now) }
+    ensures no { IfOk result (λ answer. answer ≡ false → IsIrreducible (O.meaning order.now).greater (O.meaning order.now).least (equations_of (I.live index.now)) term.now) }
+{
+    let comparison = ByOrder { order };
+    let rules = Rules {
+        index,
+        comparison: &comparison,
+    };
+    let mut walk = Walk::new(alloc, term.as_nodes(), &rules)?;
+    match last_stop(alloc, &mut walk, term, &rules)? {
+        Stop::Full => Ok(false),
+        Stop::Steps => Ok(true),
+        Stop::Size => unreachable!(),
+    }
 }
 
 /// Normalises a term by a comparison.

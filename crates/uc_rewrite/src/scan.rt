@@ -9,8 +9,9 @@ ghost use Rattle.uc_fact.specs.Retrieval.{FindsNothing, IsFound, FirstThat};
 ghost use Rattle.uc_rewrite.specs.Scanning.{live_fact, Adds};
 
 use std::alloc::{AllocError, Global};
-use uc_fact::{Equation, Found, Index, Side, Test, heads_differ, matching};
+use uc_fact::{Equation, Found, Index, Side, Test, is_instance, matching};
 use uc_term::{MAX_NODES, Node, Seq, Term};
+use uc_unify::matches;
 
 /// An index of equations, numbered by their places, that looks through the list of them. It takes no
 /// memory for a side that the term is no instance of: that is told by a walk over both.
@@ -144,13 +145,13 @@ fn first_of_side<T: Test>(
     ensures memory { OnErr result (FindsNothing (tree_of term.now) (rule_of side (live_fact number fact.now) ∷ []) → ⊥) }
 {
     let pattern = side_term(fact, side).as_nodes();
-    if heads_differ(pattern, term) {
+    if !is_instance(pattern, term) {
         return Ok(None);
     }
     if test.rules_out(number, side) {
         return Ok(None);
     }
-    match matching(alloc, pattern, term)? {
+    match matches(alloc, pattern, term)? {
         Some(subst) => {
             let found = Found {
                 fact: number,

@@ -1,6 +1,9 @@
 use Rattle.std.proofs.Common.{sym, ◌∙◌}
-use Rattle.uc_rewrite.proofs.Telling.{always, never_up, never_same, two}
+use Rattle.uc_rewrite.proofs.Telling.{always, never_up, never_same, never_variable, two}
 use Rattle.uc_rewrite.proofs.comparison.ByOrderComparison.of_sides.Goals as goal
+
+pub returns-then-is_variable_of : goal.returns-then-is_variable_of
+returns-then-is_variable_of g c = never_variable (g.O.Order.meaning c.args.self.now.order.now) (g.met.O.Order.laws c.args.self.now.order.now) c.args.from.now c.args.to.now (c.is_variable_of.ensures c.if-is_variable_of.true)
 
 pub returns-in-Greater : goal.returns-in-Greater
 returns-in-Greater g c = always (g.O.Order.meaning c.args.self.now.order.now) (g.met.O.Order.laws c.args.self.now.order.now) c.args.from.now c.args.to.now (two (g.O.Order.meaning c.args.self.now.order.now).greater c.as_nodes.result.now c.as_nodes-2.result.now c.args.from.now c.args.to.now c.as_nodes.ensures.tree c.as_nodes-2.ensures.tree (c.compare.ensures.greater.0 c.in-Greater.is))
