@@ -70,6 +70,14 @@ impl Tree {
             deep,
         })
     }
+
+    /// Its equations with their numbers, which rise.
+    pub fn facts(&self) -> &[(u32, Equation)]
+        ensures value { result.now ≡ self.now }
+        ensures rising { AreRising (lives self.now) }
+    {
+        self.facts.as_slice()
+    }
 }
 
 impl Index for Tree {

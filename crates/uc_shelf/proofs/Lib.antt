@@ -6,3 +6,5 @@ pub mod Segmented
 pub mod Alive
 pub mod Listing
 pub mod Matching
+pub mod Deaths
+pub mod Lending

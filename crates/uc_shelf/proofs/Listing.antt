@@ -9,7 +9,7 @@ use Rattle.uc_shelf.specs.declared.entry.Entry.TheVariants.{Born, Dies}
 use Rattle.uc_shelf.specs.Entries.{born, is_dead, living}
 use Rattle.uc_shelf.proofs.Viewed.{drop_at, past_end, living_split}
 
-lives_append : (xs ys : List (ℕ × Equation)) → lives (xs ++ ys) ≡ lives xs ++ lives ys
+pub lives_append : (xs ys : List (ℕ × Equation)) → lives (xs ++ ys) ≡ lives xs ++ lives ys
 lives_append [] ys = refl
 lives_append (x ∷ xs) ys = ap (λ z. live_of x ∷ z) (lives_append xs ys)
 

@@ -5,3 +5,4 @@ pub mod Entries
 pub mod Numbers
 pub mod Viewing
 pub mod Rising
+pub mod Lending

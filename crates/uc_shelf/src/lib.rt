@@ -8,8 +8,8 @@
 //! It has at most 32 segments, runs of its entries whose lengths are powers of two, the longest first (Bentley and Saxe,
 //! Decomposable searching problems). Each has a discrimination tree of its facts; a copy of a front shares them.
 //!
-//! Memory is taken by `Shelf::new`, `Shelf::publish`, `Front::copy`, `Entry::copy` and what a view finds (`generalisations`,
-//! `first_that`), and by no other call. Where `publish` finds none, the entry is dropped and the front stays.
+//! Memory is taken by `Shelf::new`, `Shelf::publish`, `Front::copy`, `Entry::copy` and what a view finds or lists
+//! (`generalisations`, `first_that`, `facts`), and by no other call. Where `publish` finds none, the entry is dropped and the front stays.
 //!
 //! `specs/` says which facts a list of entries has born, and which of them live.
 #![tactic(auto)]
@@ -24,4 +24,4 @@ mod view;
 pub use entry::Entry;
 pub use front::Front;
 pub use shelf::Shelf;
-pub use view::View;
+pub use view::{Lent, View};

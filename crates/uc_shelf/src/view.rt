@@ -1,6 +1,6 @@
 //! An index of the facts that live in a front.
 
-ghost use Rattle.std.specs.Prelude.{◌≡◌, ◌≤◌, ◌∷◌, ◌++◌, [], false, filter, not, length, IfOk, OnErr, OnOk, MatchOption, IsTrue};
+ghost use Rattle.std.specs.Prelude.{◌≡◌, ◌≤◌, ◌∷◌, ◌++◌, [], false, filter, not, length, map, IfOk, OnErr, OnOk, MatchOption, IsTrue};
 ghost use Rattle.uc_term.specs.Flat.{tree_of, IsWhole};
 ghost use Rattle.uc_term.specs.Equations.{side_of};
 ghost use Rattle.uc_unify.specs.Matching.{HasNoMatch};
@@ -10,13 +10,15 @@ ghost use Rattle.uc_fact.specs.Live.{rules_of, equation_of};
 ghost use Rattle.uc_fact.specs.Retrieval.{IsFound, FirstThat, FindsNothing, Generalises};
 ghost use Rattle.uc_shelf.specs.Entries.{born, is_dead, live, living};
 ghost use Rattle.uc_shelf.specs.Fronts.{IsOf};
-ghost use Rattle.uc_shelf.specs.Viewing.{found_living};
+ghost use Rattle.uc_disc.specs.Numbered.{live_of, lives};
+ghost use Rattle.uc_shelf.specs.Lending.{lent_of};
+ghost use Rattle.uc_shelf.specs.Viewing.{found_living, still_living};
 
 use crate::segment::births;
 use crate::{Entry, Front, Shelf};
 use std::alloc::{AllocError, Global};
 use std::marker::Model;
-use uc_fact::{Fact, Found, Index, Side, Test, is_instance};
+use uc_fact::{Equation, Fact, Found, Index, Side, Test, is_instance};
 use uc_term::{MAX_NODES, Node, Seq, Term};
 
 /// An index of the facts that are born and not dead in a front. A contract sees the front's entries.
@@ -55,6 +57,13 @@ impl Shelf {
     }
 }
 
+/// A fact that lives in a front: its number, and its two sides, which are lent.
+#[derive(Clone, Copy)]
+pub struct Lent<'a> {
+    pub number: u32,
+    pub equation: &'a Equation,
+}
+
 /// A test that passes what lives in a front and passes another test.
 #[derive(Drop)]
 struct Living<'a, T> {
@@ -68,7 +77,7 @@ impl<'a, T: Test> Test for Living<'a, T> {
     ghost accepts = { λ s found. (is_dead s.front.now.entries found.fact ≡ false) × T.accepts s.test.now found };
 
     fn rules_out(&self, fact: u32, side: Side) -> bool {
-        self.front.is_dead(fact) || self.test.rules_out(fact, side)
+        self.test.rules_out(fact, side) || self.front.is_dead(fact)
     }
 
     fn passes(&self, alloc: Global, found: &Found) -> Result<bool, AllocError> {
@@ -177,6 +186,47 @@ impl<'a> View<'a> {
                 list.push(one)?;
             }
         }
+        Ok(())
+    }
+
+    /// Lists the facts that live in the front, by their numbers, as the trees have them: their sides are lent, not copied.
+    pub fn facts(&self, alloc: Global) -> Result<Vec<Lent<'a>>, AllocError>
+        ensures { IfOk result (λ list. map lent_of list.items ≡ live self.now) }
+    {
+        let mut list = Vec::new(alloc);
+        let segments = self.front.segments();
+        for k in 0..segments.len() {
+            self.add_lent(&mut list, segments[k].tree().facts())?;
+        }
+        Ok(list)
+    }
+
+    /// Puts those that live at the end of a list.
+    fn add_lent(
+        &self,
+        list: &mut Vec<Lent<'a>>,
+        facts: &'a [(u32, Equation)],
+    ) -> Result<(), AllocError>
+        ensures { OnOk result (map lent_of list.new.items ≡ map lent_of list.old.items ++ still_living self.now (lives facts.now)) }
+    {
+        for fact in facts {
+            self.lend(list, fact)?;
+        }
+        Ok(())
+    }
+
+    /// Puts a fact at the end of a list, unless it is dead.
+    #[inline]
+    fn lend(&self, list: &mut Vec<Lent<'a>>, fact: &'a (u32, Equation)) -> Result<(), AllocError>
+        ensures { OnOk result (map lent_of list.new.items ≡ map lent_of list.old.items ++ still_living self.now (live_of fact.now ∷ [])) }
+    {
+        if self.front.is_dead(fact.0) {
+            return Ok(());
+        }
+        list.push(Lent {
+            number: fact.0,
+            equation: &fact.1,
+        })?;
         Ok(())
     }
 
