@@ -11,8 +11,8 @@ use Rattle.uc_pair.specs.Listing.{AreOverlaps}
 use Rattle.uc_shelf.specs.declared.entry.Entry.{Entry}
 use Rattle.uc_shelf.specs.Entries.{live}
 use Rattle.uc_machine.specs.Results.{Reduces, IsStaleBy, IsFresh, AreKills, no_facts, kills_it, spares_it, is_no_earlier, AreMeetings, with_itself, with_earlier, not_with_later}
-use Rattle.uc_task.specs.declared.live.LiveFact.{LiveFact}
-use Rattle.uc_task.specs.Living.{live_of}
+use Rattle.uc_shelf.specs.declared.view.Lent.{Lent}
+use Rattle.uc_shelf.specs.Lending.{lent_of}
 use Rattle.uc_task.specs.Meeting.{IsReducedByIt, FirstReducer, none_left, it_reduces, later_one, KillsOne, is_killed, is_spared, not_earlier, MeetsOne, is_met, no_earlier, Adds}
 
 -- THE FACT OF A NUMBER
@@ -97,63 +97,63 @@ module _ (m : Meaning) (i : ℕ) (f : Equation) where
   meets_on entries j js _ fs (is_met {inside = inside} {round = round} h a b) k = subst (AreMeetings m entries i f (j ∷ js)) (sym (append_assoc inside round fs)) (with_earlier h a b k)
   meets_on entries j js _ fs (no_earlier h) k = not_with_later h k
 
-  next_live : (facts : List LiveFact) (x : ℕ) (fact : LiveFact) → x < length facts → fact ≡ get_or facts x fact → map live_of (drop x facts) ≡ live_of fact ∷ map live_of (drop (x + 1) facts)
-  next_live facts x fact h e = ap (map live_of) (drop_more facts x fact h ∙ ap (λ y. y ∷ drop (x + 1) facts) (sym e))
+  next_live : (facts : List Lent) (x : ℕ) (fact : Lent) → x < length facts → fact ≡ get_or facts x fact → map lent_of (drop x facts) ≡ lent_of fact ∷ map lent_of (drop (x + 1) facts)
+  next_live facts x fact h e = ap (map lent_of) (drop_more facts x fact h ∙ ap (λ y. y ∷ drop (x + 1) facts) (sym e))
 
-  no_live : (facts : List LiveFact) (x : ℕ) → length facts ≤ x → map live_of (drop x facts) ≡ []
-  no_live facts x h = ap (map live_of) (drop_of_length-le facts h)
+  no_live : (facts : List Lent) (x : ℕ) → length facts ≤ x → map lent_of (drop x facts) ≡ []
+  no_live facts x h = ap (map lent_of) (drop_of_length-le facts h)
 
   -- whatever the facts from x on come to, with what is listed it is what all come to
-  pub record KillsSoFar (facts : List LiveFact) (x : ℕ) (list : List ℕ) : Type 0 where
-    pub goes : (entries : List Entry) (rest : List ℕ) → AreKills m entries i f (map live_of (drop x facts)) rest → AreKills m entries i f (map live_of facts) (list ++ rest)
+  pub record KillsSoFar (facts : List Lent) (x : ℕ) (list : List ℕ) : Type 0 where
+    pub goes : (entries : List Entry) (rest : List ℕ) → AreKills m entries i f (map lent_of (drop x facts)) rest → AreKills m entries i f (map lent_of facts) (list ++ rest)
 
-  pub kills_start : (facts : List LiveFact) (list : List ℕ) → list ≡ [] → KillsSoFar facts 0 list
-  kills_start facts list e = record { goes = λ entries rest k. subst (λ l. AreKills m entries i f (map live_of facts) (l ++ rest)) (sym e) k }
+  pub kills_start : (facts : List Lent) (list : List ℕ) → list ≡ [] → KillsSoFar facts 0 list
+  kills_start facts list e = record { goes = λ entries rest k. subst (λ l. AreKills m entries i f (map lent_of facts) (l ++ rest)) (sym e) k }
 
-  pub kills_next : (facts : List LiveFact) (x : ℕ) (fact : LiveFact) (list new : List ℕ) → x < length facts → fact ≡ get_or facts x fact → Adds (KillsOne m i f (live_of fact)) list new → KillsSoFar facts x list → KillsSoFar facts (x + 1) new
+  pub kills_next : (facts : List Lent) (x : ℕ) (fact : Lent) (list new : List ℕ) → x < length facts → fact ≡ get_or facts x fact → Adds (KillsOne m i f (lent_of fact)) list new → KillsSoFar facts x list → KillsSoFar facts (x + 1) new
   kills_next facts x fact list new h e a so = record {
     goes = λ entries rest k.
-        let here = kills_on entries (live_of fact) (map live_of (drop (x + 1) facts)) a.more rest a.holds k in
+        let here = kills_on entries (lent_of fact) (map lent_of (drop (x + 1) facts)) a.more rest a.holds k in
         let all = so.goes entries (a.more ++ rest) (subst (λ js. AreKills m entries i f js (a.more ++ rest)) (sym (next_live facts x fact h e)) here) in
-        subst (AreKills m entries i f (map live_of facts)) (sym (append_assoc list a.more rest) ∙ ap (λ l. l ++ rest) (sym a.new_is)) all;
+        subst (AreKills m entries i f (map lent_of facts)) (sym (append_assoc list a.more rest) ∙ ap (λ l. l ++ rest) (sym a.new_is)) all;
   }
 
-  pub kills_end : (facts : List LiveFact) (x : ℕ) (list : List ℕ) → length facts ≤ x → KillsSoFar facts x list → (entries : List Entry) → AreKills m entries i f (map live_of facts) list
+  pub kills_end : (facts : List Lent) (x : ℕ) (list : List ℕ) → length facts ≤ x → KillsSoFar facts x list → (entries : List Entry) → AreKills m entries i f (map lent_of facts) list
   kills_end facts x list h so entries =
-      subst (AreKills m entries i f (map live_of facts)) (append-nil list) (so.goes entries [] (subst (λ js. AreKills m entries i f js []) (sym (no_live facts x h)) no_facts))
+      subst (AreKills m entries i f (map lent_of facts)) (append-nil list) (so.goes entries [] (subst (λ js. AreKills m entries i f js []) (sym (no_live facts x h)) no_facts))
 
-  pub record MeetsSoFar (facts : List LiveFact) (x : ℕ) (list : List Formed) : Type 0 where
-    pub goes : (entries : List Entry) (rest : List Formed) → AreMeetings m entries i f (map live_of (drop x facts)) rest → AreMeetings m entries i f (map live_of facts) (list ++ rest)
+  pub record MeetsSoFar (facts : List Lent) (x : ℕ) (list : List Formed) : Type 0 where
+    pub goes : (entries : List Entry) (rest : List Formed) → AreMeetings m entries i f (map lent_of (drop x facts)) rest → AreMeetings m entries i f (map lent_of facts) (list ++ rest)
 
-  pub meets_start : (facts : List LiveFact) (list : List Formed) → list ≡ [] → MeetsSoFar facts 0 list
-  meets_start facts list e = record { goes = λ entries rest k. subst (λ l. AreMeetings m entries i f (map live_of facts) (l ++ rest)) (sym e) k }
+  pub meets_start : (facts : List Lent) (list : List Formed) → list ≡ [] → MeetsSoFar facts 0 list
+  meets_start facts list e = record { goes = λ entries rest k. subst (λ l. AreMeetings m entries i f (map lent_of facts) (l ++ rest)) (sym e) k }
 
-  pub meets_next : (facts : List LiveFact) (x : ℕ) (fact : LiveFact) (list new : List Formed) → x < length facts → fact ≡ get_or facts x fact → Adds (MeetsOne m i f (live_of fact)) list new → MeetsSoFar facts x list → MeetsSoFar facts (x + 1) new
+  pub meets_next : (facts : List Lent) (x : ℕ) (fact : Lent) (list new : List Formed) → x < length facts → fact ≡ get_or facts x fact → Adds (MeetsOne m i f (lent_of fact)) list new → MeetsSoFar facts x list → MeetsSoFar facts (x + 1) new
   meets_next facts x fact list new h e a so = record {
     goes = λ entries rest k.
-        let here = meets_on entries (live_of fact) (map live_of (drop (x + 1) facts)) a.more rest a.holds k in
+        let here = meets_on entries (lent_of fact) (map lent_of (drop (x + 1) facts)) a.more rest a.holds k in
         let all = so.goes entries (a.more ++ rest) (subst (λ js. AreMeetings m entries i f js (a.more ++ rest)) (sym (next_live facts x fact h e)) here) in
-        subst (AreMeetings m entries i f (map live_of facts)) (sym (append_assoc list a.more rest) ∙ ap (λ l. l ++ rest) (sym a.new_is)) all;
+        subst (AreMeetings m entries i f (map lent_of facts)) (sym (append_assoc list a.more rest) ∙ ap (λ l. l ++ rest) (sym a.new_is)) all;
   }
 
-  pub meets_end : (facts : List LiveFact) (x : ℕ) (list own all : List Formed) → length facts ≤ x → AreOverlaps m.greater i f i f own → all ≡ list ++ own → MeetsSoFar facts x list → (entries : List Entry) → AreMeetings m entries i f (map live_of facts) all
+  pub meets_end : (facts : List Lent) (x : ℕ) (list own all : List Formed) → length facts ≤ x → AreOverlaps m.greater i f i f own → all ≡ list ++ own → MeetsSoFar facts x list → (entries : List Entry) → AreMeetings m entries i f (map lent_of facts) all
   meets_end facts x list own all h o e so entries =
-      subst (AreMeetings m entries i f (map live_of facts)) (sym e) (so.goes entries own (subst (λ js. AreMeetings m entries i f js own) (sym (no_live facts x h)) (with_itself o)))
+      subst (AreMeetings m entries i f (map lent_of facts)) (sym e) (so.goes entries own (subst (λ js. AreMeetings m entries i f js own) (sym (no_live facts x h)) (with_itself o)))
 
   -- whatever is first from x on is first of all
-  pub record NoneSoFar (facts : List LiveFact) (x : ℕ) : Type 0 where
-    pub goes : (found : Option ℕ) → FirstReducer m i f (map live_of (drop x facts)) found → FirstReducer m i f (map live_of facts) found
+  pub record NoneSoFar (facts : List Lent) (x : ℕ) : Type 0 where
+    pub goes : (found : Option ℕ) → FirstReducer m i f (map lent_of (drop x facts)) found → FirstReducer m i f (map lent_of facts) found
 
-  pub none_start : (facts : List LiveFact) → NoneSoFar facts 0
+  pub none_start : (facts : List Lent) → NoneSoFar facts 0
   none_start facts = record { goes = λ found r. r }
 
-  pub none_next : (facts : List LiveFact) (x : ℕ) (fact : LiveFact) → x < length facts → fact ≡ get_or facts x fact → (IsReducedByIt m i f (live_of fact) → ⊥) → NoneSoFar facts x → NoneSoFar facts (x + 1)
+  pub none_next : (facts : List Lent) (x : ℕ) (fact : Lent) → x < length facts → fact ≡ get_or facts x fact → (IsReducedByIt m i f (lent_of fact) → ⊥) → NoneSoFar facts x → NoneSoFar facts (x + 1)
   none_next facts x fact h e n so = record {
     goes = λ found r. so.goes found (subst (λ js. FirstReducer m i f js found) (sym (next_live facts x fact h e)) (later_one n r));
   }
 
-  pub first_here : (facts : List LiveFact) (x : ℕ) (fact : LiveFact) → x < length facts → fact ≡ get_or facts x fact → IsReducedByIt m i f (live_of fact) → NoneSoFar facts x → FirstReducer m i f (map live_of facts) (Some fact.number)
+  pub first_here : (facts : List Lent) (x : ℕ) (fact : Lent) → x < length facts → fact ≡ get_or facts x fact → IsReducedByIt m i f (lent_of fact) → NoneSoFar facts x → FirstReducer m i f (map lent_of facts) (Some fact.number)
   first_here facts x fact h e r so = so.goes (Some fact.number) (subst (λ js. FirstReducer m i f js (Some fact.number)) (sym (next_live facts x fact h e)) (it_reduces r))
 
-  pub none_end : (facts : List LiveFact) (x : ℕ) → length facts ≤ x → NoneSoFar facts x → FirstReducer m i f (map live_of facts) None
+  pub none_end : (facts : List Lent) (x : ℕ) → length facts ≤ x → NoneSoFar facts x → FirstReducer m i f (map lent_of facts) None
   none_end facts x h so = so.goes None (subst (λ js. FirstReducer m i f js None) (sym (no_live facts x h)) none_left)

@@ -1,5 +1,5 @@
 -- Whether an equation reduces another one, by its cases.
-use Rattle.std.proofs.Common.{◌≡◌, ℕ, ◌↔◌, Bool, IsTrue, is_some, List, [], ◌∷◌, Option, Some, None, MatchOption, refl, sym, ap, ◌∙◌, subst}
+use Rattle.std.proofs.Common.{◌≡◌, ℕ, ◌↔◌, Bool, IsTrue, is_some, List, [], ◌∷◌, Option, Some, None, MatchOption, sym, ap, ◌∙◌, subst}
 use Rattle.uc_term.specs.declared.node.Node.{Node}
 use Rattle.uc_term.specs.declared.equation.Equation.{Equation}
 use Rattle.uc_term.specs.declared.equation.Side.{Side}
@@ -9,30 +9,21 @@ use Rattle.uc_term.specs.Flat.{tree_of}
 use Rattle.uc_term.specs.Subst.{image}
 use Rattle.uc_unify.specs.Matching.{IsMatchOfBoth, HasNoMatchOfBoth}
 use Rattle.uc_order.specs.Laws.{Meaning}
-use Rattle.uc_fact.specs.declared.fact.Stop.{Stop}
-use Rattle.uc_fact.specs.declared.fact.Stop.TheVariants.{Full}
-use Rattle.uc_fact.specs.Live.{numbered}
-use Rattle.uc_rewrite.specs.declared.normal.Normal.{Normal}
-use Rattle.uc_rewrite.specs.Normalising.{IsNormalOf}
+use Rattle.uc_fact.specs.Live.{numbered, equations_of}
+use Rattle.uc_fact.specs.Ordered.{OStep, IsIrreducible}
+use Rattle.uc_rewrite.specs.Ends.{CanStep}
+use Rattle.uc_rewrite.proofs.Unique.{step_falls}
 use Rattle.uc_rewrite.proofs.Decided.{never, always}
 use Rattle.uc_machine.specs.Results.{Reduces, in_left, in_right, has_instance, StepsIn, IsInstanceFrom}
 use Rattle.uc_task.specs.Reducing.{Gives, HasInstance}
-use Rattle.uc_task.proofs.Limits.{Decided, none_possible, one_possible, decides}
 
-by_stop : (m : Meaning) (e : Equation) (t : Tree) (stop : Stop) → Decided m.greater m.least (numbered (e ∷ [])) t stop → ((stop ≡ Full) → StepsIn m e t → ⊥) × ((stop ≡ Full → ⊥) → StepsIn m e t)
-by_stop m e t _ (none_possible n) = (λ same s. n s.v s.step, λ other. absurd (other refl))
-by_stop m e t _ (one_possible {v = v} s) = (λ same t. cc, λ other. record { v = v; step = s })
+-- whether an equation makes a step in a term
+module _ (m : Meaning) (e : Equation) (es : List Equation) (t : Tree) (one : es ≡ e ∷ []) where
+  pub no_step_in : IsIrreducible m.greater m.least (equations_of (numbered es)) t → StepsIn m e t → ⊥
+  no_step_in n s = subst (λ l. IsIrreducible m.greater m.least (equations_of (numbered l)) t) one n s.v s.step
 
--- whether an equation makes a step in a term is told by the stop of normalising with no step
-module _ (m : Meaning) (e : Equation) (es : List Equation) (t : Tree) (normal : Normal) (one : es ≡ e ∷ []) (n : IsNormalOf m.greater m.least (numbered es) 0 t normal) where
-  decided : Decided m.greater m.least (numbered (e ∷ [])) t normal.stop
-  decided = decides m.greater m.least (numbered (e ∷ [])) t normal (subst (λ l. IsNormalOf m.greater m.least (numbered l) 0 t normal) one n)
-
-  pub no_step_in : normal.stop ≡ Full → StepsIn m e t → ⊥
-  no_step_in = (by_stop m e t normal.stop decided).0
-
-  pub step_in : (normal.stop ≡ Full → ⊥) → StepsIn m e t
-  step_in = (by_stop m e t normal.stop decided).1
+  pub step_in : CanStep m.greater m.least (numbered es) t → StepsIn m e t
+  step_in s = record { v = s.v; step = subst (λ l. OStep m.greater m.least (equations_of (numbered l)) t s.v) one (step_falls m.greater m.least (numbered es) t s.at s.rule s.v s.first) }
 
 -- the pairs of a match of both sides
 pub both_given : (l r : Tree) (e : Equation) (a b c d : List Node) (found : Option (List (ℕ × Tree))) → tree_of a ≡ l → tree_of b ≡ e.left → tree_of c ≡ r → tree_of d ≡ e.right → MatchOption found (HasNoMatchOfBoth (tree_of a) (tree_of b) (tree_of c) (tree_of d)) (IsMatchOfBoth (tree_of a) (tree_of b) (tree_of c) (tree_of d)) → MatchOption found (Gives l r e → ⊥) (λ _. Gives l r e)

@@ -7,17 +7,17 @@ ghost use Rattle.uc_shelf.specs.Entries.{born};
 ghost use Rattle.uc_shelf.specs.Fronts.{IsOf};
 ghost use Rattle.uc_machine.specs.Results.{IsResult, AreKills, AreMeetings};
 ghost use Rattle.uc_machine.specs.declared.task.Job.TheVariants.{Meet};
-ghost use Rattle.uc_task.specs.Living.{live_of};
+ghost use Rattle.uc_shelf.specs.Lending.{lent_of};
 ghost use Rattle.uc_task.specs.Meeting.{Adds, IsReducedByIt, FirstReducer, KillsOne, MeetsOne};
 
-use crate::live::{LiveFact, copy_equation, live_facts};
+use crate::live::copy_equation;
 use crate::reducing::reduces;
 use std::alloc::{AllocError, Global};
 use uc_fact::Equation;
 use uc_machine::Finding;
 use uc_order::Order;
 use uc_pair::{Formed, overlaps};
-use uc_shelf::{Front, Shelf};
+use uc_shelf::{Front, Lent, Shelf};
 use uc_term::Seq;
 
 /// A fact meets the others that live. It is stale where one of them reduces it, by the least such. Else it kills the earlier
@@ -35,7 +35,7 @@ pub fn meet<O: Order>(
 {
     let fact = shelf.fact(front, number);
     let own = copy_equation(alloc, &fact.left, &fact.right)?;
-    let facts = live_facts(alloc, shelf, front)?;
+    let facts = shelf.view(front).facts(alloc)?;
     if let Some(other) = stale_by(alloc, number, &own, facts.as_slice(), order)? {
         return Ok(Finding::Stale(other));
     }
@@ -49,10 +49,10 @@ fn stale_by<O: Order>(
     alloc: Global,
     number: u32,
     own: &Equation,
-    facts: &[LiveFact],
+    facts: &[Lent],
     order: &O,
 ) -> Result<Option<u32>, AllocError>
-    ensures { IfOk result (FirstReducer (O.meaning order.now) number own.now (map live_of facts.now)) }
+    ensures { IfOk result (FirstReducer (O.meaning order.now) number own.now (map lent_of facts.now)) }
 {
     for fact in facts {
         if is_reduced_by(alloc, number, own, fact, order)? {
@@ -67,15 +67,15 @@ fn is_reduced_by<O: Order>(
     alloc: Global,
     number: u32,
     own: &Equation,
-    fact: &LiveFact,
+    fact: &Lent,
     order: &O,
 ) -> Result<bool, AllocError>
-    ensures { IfOk result (λ answer. IsTrue answer ↔ IsReducedByIt (O.meaning order.now) number own.now (live_of fact.now)) }
+    ensures { IfOk result (λ answer. IsTrue answer ↔ IsReducedByIt (O.meaning order.now) number own.now (lent_of fact.now)) }
 {
     if fact.number == number {
         return Ok(false);
     }
-    reduces(alloc, &fact.equation, own, order)
+    reduces(alloc, fact.equation, own, order)
 }
 
 /// The earlier facts of the list that the equation of this number reduces.
@@ -83,10 +83,10 @@ fn kills<O: Order>(
     alloc: Global,
     number: u32,
     own: &Equation,
-    facts: &[LiveFact],
+    facts: &[Lent],
     order: &O,
 ) -> Result<Seq<u32>, AllocError>
-    ensures { IfOk result (λ list. (entries : List Entry) → AreKills (O.meaning order.now) entries number own.now (map live_of facts.now) list) }
+    ensures { IfOk result (λ list. (entries : List Entry) → AreKills (O.meaning order.now) entries number own.now (map lent_of facts.now) list) }
 {
     let mut list = Seq::new(alloc);
     for fact in facts {
@@ -101,15 +101,15 @@ fn add_kill<O: Order>(
     list: &mut Seq<u32>,
     number: u32,
     own: &Equation,
-    fact: &LiveFact,
+    fact: &Lent,
     order: &O,
 ) -> Result<(), AllocError>
-    ensures { OnOk result (Adds (KillsOne (O.meaning order.now) number own.now (live_of fact.now)) list.old list.new) }
+    ensures { OnOk result (Adds (KillsOne (O.meaning order.now) number own.now (lent_of fact.now)) list.old list.new) }
 {
     if fact.number >= number {
         return Ok(());
     }
-    if !reduces(alloc, own, &fact.equation, order)? {
+    if !reduces(alloc, own, fact.equation, order)? {
         return Ok(());
     }
     list.push(fact.number)?;
@@ -122,10 +122,10 @@ fn meetings<O: Order>(
     alloc: Global,
     number: u32,
     own: &Equation,
-    facts: &[LiveFact],
+    facts: &[Lent],
     order: &O,
 ) -> Result<Seq<Formed>, AllocError>
-    ensures { IfOk result (λ list. (entries : List Entry) → AreMeetings (O.meaning order.now) entries number own.now (map live_of facts.now) list) }
+    ensures { IfOk result (λ list. (entries : List Entry) → AreMeetings (O.meaning order.now) entries number own.now (map lent_of facts.now) list) }
 {
     let mut list = Seq::new(alloc);
     for fact in facts {
@@ -141,16 +141,16 @@ fn add_overlaps<O: Order>(
     list: &mut Seq<Formed>,
     number: u32,
     own: &Equation,
-    fact: &LiveFact,
+    fact: &Lent,
     order: &O,
 ) -> Result<(), AllocError>
-    ensures { OnOk result (Adds (MeetsOne (O.meaning order.now) number own.now (live_of fact.now)) list.old list.new) }
+    ensures { OnOk result (Adds (MeetsOne (O.meaning order.now) number own.now (lent_of fact.now)) list.old list.new) }
 {
     let other = fact.number;
     if other >= number {
         return Ok(());
     }
-    list.append(overlaps(alloc, other, &fact.equation, number, own, order)?)?;
-    list.append(overlaps(alloc, number, own, other, &fact.equation, order)?)?;
+    list.append(overlaps(alloc, other, fact.equation, number, own, order)?)?;
+    list.append(overlaps(alloc, number, own, other, fact.equation, order)?)?;
     Ok(())
 }

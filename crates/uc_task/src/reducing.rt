@@ -6,9 +6,9 @@ ghost use Rattle.uc_task.specs.Reducing.{HasInstance, Gives};
 
 use std::alloc::{AllocError, Global};
 use std::slice::from_ref;
-use uc_fact::{Equation, Stop};
+use uc_fact::Equation;
 use uc_order::Order;
-use uc_rewrite::{Scan, normalise};
+use uc_rewrite::{Scan, is_reducible};
 use uc_term::Term;
 use uc_unify::matches_both;
 
@@ -39,11 +39,10 @@ fn steps_in<O: Order>(
 ) -> Result<bool, AllocError>
     ensures { IfOk result (λ answer. IsTrue answer ↔ StepsIn (O.meaning order.now) equation.now term.now) }
 {
-    let normal = normalise(alloc, term, &Scan::new(from_ref(equation)), order, 0)?;
-    match normal.stop {
-        Stop::Full => Ok(false),
-        Stop::Steps => Ok(true),
-        Stop::Size => Ok(true),
+    if is_reducible(alloc, term, &Scan::new(from_ref(equation)), order)? {
+        Ok(true)
+    } else {
+        Ok(false)
     }
 }
 
