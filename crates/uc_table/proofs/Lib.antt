@@ -1,5 +1,3 @@
-pub mod Ordering
-pub mod Visits
 pub mod Cells
 pub mod Refuting
 pub mod Lists
@@ -14,3 +12,12 @@ pub mod InLine
 pub mod Values
 pub mod Rows
 pub mod Canonical
+pub mod SearchOrder
+pub mod SearchVisits
+pub mod SearchRuns
+pub mod SearchChains
+pub mod SearchSettling
+pub mod SearchFollowing
+pub mod SearchLonger
+pub mod SearchLevels
+pub mod SearchGoing

@@ -12,3 +12,7 @@ pub mod Evaluating
 pub mod Against
 pub mod Places
 pub mod Reads
+pub mod SearchSteps
+pub mod SearchWaiting
+pub mod SearchInstances
+pub mod SearchState

@@ -1,16 +1,12 @@
 -- Prefixes of the cells of a table in lexicographic order, and which of them a search visits.
 use Rattle.std.specs.Prelude.{ℕ, ◌<◌, ◌≤◌, ◌≡◌, ◌⊎◌, List, [], ◌∷◌, ◌++◌, length}
+use Rattle.uc_table.specs.Tables.{AreValues}
 
 -- p goes before q in lexicographic order, a proper prefix before what it begins
 abbrev pub Before : List ℕ → List ℕ → Type 0
 Before p [] = ⊥
 Before [] (w ∷ q) = Unit {0}
 Before (v ∷ p) (w ∷ q) = (v < w) ⊎ ((v ≡ w) × Before p q)
-
--- each value is below the size
-abbrev pub AreBelow : ℕ → List ℕ → Type 0
-AreBelow size [] = Unit {0}
-AreBelow size (v ∷ p) = (v < size) × AreBelow size p
 
 -- the longest proper prefix of a nonempty one
 abbrev pub front : List ℕ → List ℕ
@@ -32,14 +28,14 @@ module _ (size cells : ℕ) (Refuted : List ℕ → Type 0) where
   -- a whole table that isn't refuted
   pub record IsOpen (t : List ℕ) : Type 0 where
     pub whole : length t ≡ cells
-    pub below : AreBelow size t
+    pub below : AreValues size t
     pub open_is : Refuted t → ⊥
 
   -- a nonempty prefix whose longest proper prefix isn't refuted, with no whole table before it that isn't refuted
   pub record IsVisited (p : List ℕ) : Type 0 where
     pub nonempty : 0 < length p
     pub fits : length p ≤ cells
-    pub below : AreBelow size p
+    pub below : AreValues size p
     pub open_front : Refuted (front p) → ⊥
     pub is_first : (t : List ℕ) → IsOpen t → Before t p → ⊥
 
@@ -54,3 +50,11 @@ module _ (size cells : ℕ) (Refuted : List ℕ → Type 0) where
     pub ordered : AreOrdered ps
     pub visited : (p : List ℕ) → In p ps → IsVisited p
     pub all : (p : List ℕ) → IsVisited p → In p ps
+
+  -- all visited prefixes before this value at this open prefix are these, and no whole open table goes before it
+  pub record IsSeen (p : List ℕ) (next : ℕ) (ps : List (List ℕ)) : Type 0 where
+    pub ordered : AreOrdered ps
+    pub visited : (q : List ℕ) → In q ps → IsVisited q
+    pub before : (q : List ℕ) → In q ps → Before q (p ++ next ∷ [])
+    pub all : (q : List ℕ) → IsVisited q → Before q (p ++ next ∷ []) → In q ps
+    pub none : (t : List ℕ) → IsOpen t → Before t (p ++ next ∷ []) → ⊥

@@ -14,6 +14,10 @@ mod lines;
 mod places;
 mod printing;
 mod reading;
+mod search_instances;
+mod search_size;
+mod search_steps;
+mod search_waiting;
 mod table;
 
 pub use answers::{Searched, Tabled};

@@ -1,8 +1,9 @@
 -- How the list of visited prefixes grows as a search goes on.
 use Rattle.std.proofs.Common.{◌≡◌, ℕ, zero, suc, ◌+◌, ◌≤◌, ◌<◌, List, [], ◌∷◌, ◌++◌, length, refl, ap, sym, ◌∙◌, arith, inl, inr, subst, append_assoc, length-append}
 use Rattle.std.specs.Prelude.{◌⊎◌}
-use Rattle.uc_table.specs.SearchPrefixes.{Before, AreBelow, front, In, here, there, AreOrdered, IsOpen, IsVisited, AreFirst, AreAll}
-use Rattle.uc_table.proofs.Ordering.{before_trans, before_irrefl, order_of, before_behind, before_more, before_next, next_after, before_first, below_append, below_behind, below_beginning, before_size, front_last, front_behind}
+use Rattle.uc_table.specs.Tables.{AreValues}
+use Rattle.uc_table.specs.SearchPrefixes.{Before, front, In, here, there, AreOrdered, IsOpen, IsVisited, AreFirst, AreAll, IsSeen}
+use Rattle.uc_table.proofs.SearchOrder.{before_trans, before_irrefl, order_of, before_behind, before_more, before_next, next_after, before_first, below_append, below_behind, below_beginning, before_size, front_last, front_behind}
 
 pub in_append : (q : List ℕ) (ps rs : List (List ℕ)) → In q ps → In q (ps ++ rs)
 in_append q (p ∷ ps) rs here = here
@@ -30,17 +31,9 @@ pub behind : (p : List ℕ) (x : ℕ) (r : List ℕ) → p ++ x ∷ r ≡ (p ++ 
 behind p x r = sym (append_assoc p (x ∷ []) r)
 
 module _ (size cells : ℕ) (Refuted : List ℕ → Type 0) (more : (p r : List ℕ) → Refuted p → Refuted (p ++ r)) where
-  -- all visited prefixes before this value at this open prefix are these, and no whole open table goes before it
-  pub record Seen (p : List ℕ) (next : ℕ) (ps : List (List ℕ)) : Type 0 where
-    pub ordered : AreOrdered ps
-    pub visited : (q : List ℕ) → In q ps → IsVisited size cells Refuted q
-    pub before : (q : List ℕ) → In q ps → Before q (p ++ next ∷ [])
-    pub all : (q : List ℕ) → IsVisited size cells Refuted q → Before q (p ++ next ∷ []) → In q ps
-    pub none : (t : List ℕ) → IsOpen size cells Refuted t → Before t (p ++ next ∷ []) → ⊥
-
   -- the prefix in front of a value
   pub record At (p : List ℕ) : Type 0 where
-    pub below : AreBelow size p
+    pub below : AreValues size p
     pub open_is : Refuted p → ⊥
 
   -- at the start nothing is visited
@@ -49,7 +42,7 @@ module _ (size cells : ℕ) (Refuted : List ℕ → Type 0) (more : (p r : List 
   before_zero (x ∷ q) (inl l) = absurd (omega arith)
   before_zero (x ∷ q) (inr b) = absurd b.1
 
-  pub seen_start : 0 < cells → Seen [] 0 []
+  pub seen_start : 0 < cells → IsSeen size cells Refuted [] 0 []
   seen_start l = record {
     ordered = tt;
     visited = λ q i. elim i [ ];
@@ -58,7 +51,7 @@ module _ (size cells : ℕ) (Refuted : List ℕ → Type 0) (more : (p r : List 
     none = λ t o b. (let h : length t ≡ cells = o.whole in let e : length t ≡ 0 = ap length (before_zero t b) in absurd (omega arith));
   }
 
-  pub visits_next : (p : List ℕ) (next : ℕ) (ps : List (List ℕ)) → At p → Seen p next ps → next < size → length p < cells → IsVisited size cells Refuted (p ++ next ∷ [])
+  pub visits_next : (p : List ℕ) (next : ℕ) (ps : List (List ℕ)) → At p → IsSeen size cells Refuted p next ps → next < size → length p < cells → IsVisited size cells Refuted (p ++ next ∷ [])
   visits_next p next ps a s l m = record {
     nonempty = (let e : length (p ++ next ∷ []) ≡ length p + 1 = grind (arith, length-append) in omega arith);
     fits = (let e : length (p ++ next ∷ []) ≡ length p + 1 = grind (arith, length-append) in omega arith);
@@ -68,17 +61,17 @@ module _ (size cells : ℕ) (Refuted : List ℕ → Type 0) (more : (p r : List 
   }
 
   -- a further prefix is due
-  pub first_seen : (p : List ℕ) (next : ℕ) (ps : List (List ℕ)) → Seen p next ps → AreFirst size cells Refuted ps
+  pub first_seen : (p : List ℕ) (next : ℕ) (ps : List (List ℕ)) → IsSeen size cells Refuted p next ps → AreFirst size cells Refuted ps
   first_seen p next ps s = record {
     ordered = s.ordered;
     visited = s.visited;
     earlier = λ q r i v b. s.all r v (before_trans r q (p ++ next ∷ []) b (s.before q i));
   }
 
-  pub further : (p : List ℕ) (next : ℕ) (ps : List (List ℕ)) → Seen p next ps → In (p ++ next ∷ []) ps → ⊥
+  pub further : (p : List ℕ) (next : ℕ) (ps : List (List ℕ)) → IsSeen size cells Refuted p next ps → In (p ++ next ∷ []) ps → ⊥
   further p next ps s i = before_irrefl (p ++ next ∷ []) (s.before (p ++ next ∷ []) i)
 
-  visited_more : (p : List ℕ) (next : ℕ) (ps : List (List ℕ)) → At p → Seen p next ps → next < size → length p < cells → (q : List ℕ) → In q (ps ++ (p ++ next ∷ []) ∷ []) → IsVisited size cells Refuted q
+  visited_more : (p : List ℕ) (next : ℕ) (ps : List (List ℕ)) → At p → IsSeen size cells Refuted p next ps → next < size → length p < cells → (q : List ℕ) → In q (ps ++ (p ++ next ∷ []) ∷ []) → IsVisited size cells Refuted q
   visited_more p next ps a s l m q i = elim (of_append q (p ++ next ∷ []) ps i) [
     | inl j ↦ s.visited q j
     | inr e ↦ subst (IsVisited size cells Refuted) (sym e) (visits_next p next ps a s l m)
@@ -90,7 +83,7 @@ module _ (size cells : ℕ) (Refuted : List ℕ → Type 0) (more : (p r : List 
   ends_there p x q (y ∷ r) h v e = absurd (v.open_front (subst Refuted (sym (ap front e ∙ front_behind p x y r)) (subst Refuted (sym (behind p x (front (y ∷ r)))) (more (p ++ x ∷ []) (front (y ∷ r)) h))))
 
   -- a refuted prefix is visited: the next value is due
-  pub seen_refuted : (p : List ℕ) (next : ℕ) (ps : List (List ℕ)) → At p → Seen p next ps → next < size → length p < cells → Refuted (p ++ next ∷ []) → Seen p (next + 1) (ps ++ (p ++ next ∷ []) ∷ [])
+  pub seen_refuted : (p : List ℕ) (next : ℕ) (ps : List (List ℕ)) → At p → IsSeen size cells Refuted p next ps → next < size → length p < cells → Refuted (p ++ next ∷ []) → IsSeen size cells Refuted p (next + 1) (ps ++ (p ++ next ∷ []) ∷ [])
   seen_refuted p next ps a s l m h = record {
     ordered = ordered_append (p ++ next ∷ []) ps s.ordered s.before;
     visited = visited_more p next ps a s l m;
@@ -109,7 +102,7 @@ module _ (size cells : ℕ) (Refuted : List ℕ → Type 0) (more : (p r : List 
   }
 
   -- a prefix that isn't refuted is visited, and isn't whole: the first value of the next cell is due
-  pub seen_deeper : (p : List ℕ) (next : ℕ) (ps : List (List ℕ)) → At p → Seen p next ps → next < size → length p + 1 < cells → Seen (p ++ next ∷ []) 0 (ps ++ (p ++ next ∷ []) ∷ [])
+  pub seen_deeper : (p : List ℕ) (next : ℕ) (ps : List (List ℕ)) → At p → IsSeen size cells Refuted p next ps → next < size → length p + 1 < cells → IsSeen size cells Refuted (p ++ next ∷ []) 0 (ps ++ (p ++ next ∷ []) ∷ [])
   seen_deeper p next ps a s l m = record {
     ordered = ordered_append (p ++ next ∷ []) ps s.ordered s.before;
     visited = visited_more p next ps a s l (omega arith);
@@ -128,7 +121,7 @@ module _ (size cells : ℕ) (Refuted : List ℕ → Type 0) (more : (p r : List 
   }
 
   -- a whole table that isn't refuted is visited: no prefix is due any more
-  pub seen_found : (p : List ℕ) (next : ℕ) (ps : List (List ℕ)) → At p → Seen p next ps → next < size → length p + 1 ≡ cells → (Refuted (p ++ next ∷ []) → ⊥) → AreAll size cells Refuted (ps ++ (p ++ next ∷ []) ∷ [])
+  pub seen_found : (p : List ℕ) (next : ℕ) (ps : List (List ℕ)) → At p → IsSeen size cells Refuted p next ps → next < size → length p + 1 ≡ cells → (Refuted (p ++ next ∷ []) → ⊥) → AreAll size cells Refuted (ps ++ (p ++ next ∷ []) ∷ [])
   seen_found p next ps a s l m h = record {
     ordered = ordered_append (p ++ next ∷ []) ps s.ordered s.before;
     visited = visited_more p next ps a s l (omega arith);
@@ -149,7 +142,7 @@ module _ (size cells : ℕ) (Refuted : List ℕ → Type 0) (more : (p r : List 
       }
 
   -- no value is left: the value before it is done with
-  pub seen_back : (p : List ℕ) (v next : ℕ) (ps : List (List ℕ)) → Seen (p ++ v ∷ []) next ps → size ≤ next → Seen p (v + 1) ps
+  pub seen_back : (p : List ℕ) (v next : ℕ) (ps : List (List ℕ)) → IsSeen size cells Refuted (p ++ v ∷ []) next ps → size ≤ next → IsSeen size cells Refuted p (v + 1) ps
   seen_back p v next ps s l = record {
     ordered = s.ordered;
     visited = s.visited;
@@ -158,22 +151,22 @@ module _ (size cells : ℕ) (Refuted : List ℕ → Type 0) (more : (p r : List 
     none = λ t o b. s.none t o (within t o.below b);
   }
     where
-      within : (q : List ℕ) → AreBelow size q → Before q (p ++ (v + 1) ∷ []) → Before q ((p ++ v ∷ []) ++ next ∷ [])
+      within : (q : List ℕ) → AreValues size q → Before q (p ++ (v + 1) ∷ []) → Before q ((p ++ v ∷ []) ++ next ∷ [])
       within q a b = elim (before_next p v q b) [
         | inl c ↦ before_trans q (p ++ v ∷ []) ((p ++ v ∷ []) ++ next ∷ []) c (before_more (p ++ v ∷ []) next [])
         | inr c ↦ (let e : q ≡ (p ++ v ∷ []) ++ c.0 = c.1 ∙ behind p v c.0 in
-            subst (λ z. Before z ((p ++ v ∷ []) ++ next ∷ [])) (sym e) (before_behind (p ++ v ∷ []) c.0 (next ∷ []) (before_size size next c.0 l (below_behind size (p ++ v ∷ []) c.0 (subst (AreBelow size) e a)))))
+            subst (λ z. Before z ((p ++ v ∷ []) ++ next ∷ [])) (sym e) (before_behind (p ++ v ∷ []) c.0 (next ∷ []) (before_size size next c.0 l (below_behind size (p ++ v ∷ []) c.0 (subst (AreValues size) e a)))))
       ]
 
   -- no value of the first cell is left
-  pub seen_all : (next : ℕ) (ps : List (List ℕ)) → Seen [] next ps → size ≤ next → AreAll size cells Refuted ps
+  pub seen_all : (next : ℕ) (ps : List (List ℕ)) → IsSeen size cells Refuted [] next ps → size ≤ next → AreAll size cells Refuted ps
   seen_all next ps s l = record {
     ordered = s.ordered;
     visited = s.visited;
     all = λ q v. s.all q v (before_size size next q l v.below);
   }
 
-  pub none_open : (next : ℕ) (ps : List (List ℕ)) → Seen [] next ps → size ≤ next → (t : List ℕ) → IsOpen size cells Refuted t → ⊥
+  pub none_open : (next : ℕ) (ps : List (List ℕ)) → IsSeen size cells Refuted [] next ps → size ≤ next → (t : List ℕ) → IsOpen size cells Refuted t → ⊥
   none_open next ps s l t o = s.none t o (before_size size next t l o.below)
 
   -- the empty prefix is refuted

@@ -2,7 +2,8 @@
 use Rattle.std.proofs.Common.{◌≡◌, ℕ, zero, suc, ◌+◌, ◌≤◌, ◌<◌, List, [], ◌∷◌, ◌++◌, length, refl, ap, sym, ◌∙◌, arith, inl, inr, subst, append_assoc}
 use Rattle.std.specs.Prelude.{◌⊎◌}
 use Rattle.std.proofs.lemmas.Bool.{cases_order}
-use Rattle.uc_table.specs.SearchPrefixes.{Before, AreBelow, front}
+use Rattle.uc_table.specs.SearchPrefixes.{Before, front}
+use Rattle.uc_table.specs.Tables.{AreValues}
 
 pub before_trans : (p q r : List ℕ) → Before p q → Before q r → Before p r
 before_trans p q [] a b = b
@@ -70,20 +71,20 @@ before_first (z ∷ p) (y ∷ q) (inr b) = elim (before_first p q b.1) [
   | inr a ↦ inr (ap (λ u. u ∷ q) b.0 ∙ ap (λ u. z ∷ u) a)
 ]
 
-pub below_append : (size : ℕ) (p q : List ℕ) → AreBelow size p → AreBelow size q → AreBelow size (p ++ q)
+pub below_append : (size : ℕ) (p q : List ℕ) → AreValues size p → AreValues size q → AreValues size (p ++ q)
 below_append size [] q a b = b
 below_append size (x ∷ p) q a b = (a.0, below_append size p q a.1 b)
 
-pub below_behind : (size : ℕ) (p q : List ℕ) → AreBelow size (p ++ q) → AreBelow size q
+pub below_behind : (size : ℕ) (p q : List ℕ) → AreValues size (p ++ q) → AreValues size q
 below_behind size [] q a = a
 below_behind size (x ∷ p) q a = below_behind size p q a.1
 
-pub below_beginning : (size : ℕ) (p q : List ℕ) → AreBelow size (p ++ q) → AreBelow size p
+pub below_beginning : (size : ℕ) (p q : List ℕ) → AreValues size (p ++ q) → AreValues size p
 below_beginning size [] q a = tt
 below_beginning size (x ∷ p) q a = (a.0, below_beginning size p q a.1)
 
 -- prefixes of values below the size that begin with p go before p with the size behind it
-pub before_size : (size w : ℕ) (r : List ℕ) → size ≤ w → AreBelow size r → Before r (w ∷ [])
+pub before_size : (size w : ℕ) (r : List ℕ) → size ≤ w → AreValues size r → Before r (w ∷ [])
 before_size size w [] l b = tt
 before_size size w (x ∷ r) l b = inl (let a : x < size = b.0 in omega arith)
 
