@@ -1,5 +1,5 @@
 -- The chains of entries that wait.
-use Rattle.std.proofs.Common.{◌≡◌, ℕ, zero, suc, ◌+◌, ◌≤◌, ◌<◌, List, [], ◌∷◌, ◌++◌, length, take, refl, ap, sym, ◌∙◌, arith}
+use Rattle.std.proofs.Common.{◌≡◌, ℕ, zero, suc, List, [], refl, ap, sym, ◌∙◌, arith}
 use Rattle.std.specs.Prelude.{slice_get, Some, None}
 use Rattle.std.proofs.Math.ListN.{replicate}
 use Rattle.uc_table.specs.declared.search_waiting.Entry.{Entry}
@@ -17,7 +17,7 @@ pub top_of_none : (es : List Entry) (n c : ℕ) → es ≡ [] → n ≡ 0 → Is
 top_of_none es n c e z = record {
   within = omega arith;
   waits = λ i x f g. absurd (omega arith);
-  last = λ i x f g h. (let k : slice_get es i ≡ None = rw e refl in absurd (none_some (sym k ∙ g)))
+  last = λ i x f g h. (let k : slice_get es i ≡ None = rw e refl in absurd (none_some (sym k ∙ g)));
 }
   where
     none_some : {x : Entry} → None ≡ Some x → ⊥

@@ -1,6 +1,6 @@
 -- The chain of a cell is followed from its last entry to its first.
-use Rattle.std.proofs.Common.{◌≡◌, ℕ, zero, suc, ◌+◌, ◌-◌, ◌≤◌, ◌<◌, List, [], ◌∷◌, ◌++◌, length, take, refl, ap, sym, ◌∙◌, arith, subst, inl, inr, length-append, get_or}
-use Rattle.std.specs.Prelude.{slice_get, Some, None, ◌⊎◌}
+use Rattle.std.proofs.Common.{◌≡◌, ℕ, zero, suc, ◌+◌, ◌-◌, ◌≤◌, ◌<◌, List, [], ◌∷◌, ◌++◌, length, take, ap, sym, ◌∙◌, arith, subst, inl, inr, length-append, get_or}
+use Rattle.std.specs.Prelude.{slice_get, Some, ◌⊎◌}
 use Rattle.std.proofs.lemmas.Option.{slice_get_read, slice_get_within}
 use Rattle.std.proofs.lemmas.Bool.{cases_order}
 use Rattle.std.proofs.lemmas.Grind.{common_steps}
@@ -56,7 +56,7 @@ module _ (size : ℕ) (prefix : List ℕ) (forms : List Form) (cell : ℕ) (old 
     extends = extends_trans old w.entries.items v.entries.items f.extends x;
     within = (let b : e.below < at = next_within w at e f l g in let h : at ≤ length old = f.within in omega arith);
     stop = λ i y a b. (let k : y.cell ≡ e.cell = top.waits i y a (get_take w.entries.items (at - 1) i y (new_get i y b) (let z : e.below < at = next_within w at e f l g in omega arith)) in k ∙ here);
-    settled = λ i y a b c. cases i y a b c (cases_order i (at - 1))
+    settled = λ i y a b c. cases i y a b c (cases_order i (at - 1));
   }
     where
       top : IsTop (take (at - 1) w.entries.items) e.below e.cell
@@ -105,7 +105,7 @@ next_enrolled size prefix forms number old w v assignment e well of x s = record
   well = well;
   of = of;
   extends = extends_trans old w.entries.items v.entries.items e.extends x;
-  settled = λ a l. cases a l (cases_order a assignment)
+  settled = λ a l. cases a l (cases_order a assignment);
 }
   where
     cases : (a : ℕ) → a < assignment + 1 → (a ≡ assignment) ⊎ ((a < assignment) ⊎ (assignment < a)) → IsSettled size prefix forms number a v.entries.items

@@ -1,11 +1,9 @@
 -- The visited prefixes of a search, step by step.
-use Rattle.std.proofs.Common.{◌≡◌, ◌≢◌, ℕ, zero, suc, ◌+◌, ◌-◌, ◌≤◌, ◌<◌, List, [], ◌∷◌, ◌++◌, length, refl, ap, sym, ◌∙◌, arith, subst, length-append}
+use Rattle.std.proofs.Common.{◌≡◌, ◌≢◌, ℕ, ◌+◌, ◌≤◌, ◌<◌, List, [], ◌∷◌, ◌++◌, length, refl, ap, sym, ◌∙◌, arith, subst, length-append}
 use Rattle.uc_table.specs.declared.search_size.Rules.{Rules}
 use Rattle.uc_table.specs.declared.search_size.State.{State}
-use Rattle.uc_table.specs.Tables.{AreValues}
-use Rattle.uc_table.specs.SearchPrefixes.{front, In, IsOpen, IsVisited, AreFirst, AreAll, IsSeen}
-use Rattle.uc_table.specs.SearchInstances.{AreSettled}
-use Rattle.uc_table.specs.SearchState.{AreLevels, IsOpenState, IsRefutedIn, AreSeen, GoesOn, IsWhole, StepsBack, EndsFound, EndsNone, EndsSpent}
+use Rattle.uc_table.specs.SearchPrefixes.{front, AreAll}
+use Rattle.uc_table.specs.SearchState.{IsOpenState, IsRefutedIn, AreSeen, GoesOn, IsWhole, StepsBack, EndsFound, EndsNone, EndsSpent}
 use Rattle.uc_table.proofs.SearchOrder.{front_last}
 use Rattle.uc_table.proofs.SearchVisits.{At, seen_start, visits_next, first_seen, further, seen_refuted, seen_deeper, seen_found, seen_back, seen_all, none_open}
 use Rattle.uc_table.proofs.SearchLonger.{refuted_more, settled_open}
@@ -31,7 +29,7 @@ module _ (rules : Rules) where
   after_refuted old new value a l m h e = record {
     seen = λ ps s. subst (λ z. AreSeen rules z (value + 1) (ps ++ (old ++ value ∷ []) ∷ [])) (sym e) (seen_refuted rules.size rules.cells (IsRefutedIn rules) more old value ps a s l m h);
     room = subst (λ (z : List ℕ). length z < rules.cells) (sym e) m;
-    short = subst (λ (z : List ℕ). length z ≤ length old + 1) (sym e) (omega arith)
+    short = subst (λ (z : List ℕ). length z ≤ length old + 1) (sym e) (omega arith);
   }
 
   pub after_open : (old new : List ℕ) (value : ℕ) → AtOpen old → value < rules.size → new ≡ old ++ value ∷ [] → length new ≤ rules.cells → length new ≢ rules.cells → GoesOn rules old value new 0
@@ -41,7 +39,7 @@ module _ (rules : Rules) where
       record {
         seen = λ ps s. subst (λ z. AreSeen rules z 0 (ps ++ (old ++ value ∷ []) ∷ [])) (sym e) (seen_deeper rules.size rules.cells (IsRefutedIn rules) more old value ps a s l (omega arith));
         room = room;
-        short = omega arith
+        short = omega arith;
       }
     where
       less : (a b : ℕ) → a ≤ b → a ≢ b → a < b
@@ -50,7 +48,7 @@ module _ (rules : Rules) where
   pub after_whole : (old : List ℕ) (t : State) (value : ℕ) → AtOpen old → value < rules.size → t.prefix.items ≡ old ++ value ∷ [] → length t.prefix.items ≡ rules.cells → IsOpenState rules t → IsWhole rules old value t.prefix.items
   after_whole old t value a l e m o = record {
     all = λ ps s. subst (λ z. AreAll rules.size rules.cells (IsRefutedIn rules) (ps ++ z ∷ [])) (sym e) (seen_found rules.size rules.cells (IsRefutedIn rules) more old value ps a s l (let k : length t.prefix.items ≡ length old + 1 = ap length e ∙ length-append old (value ∷ []) in omega arith) (λ h. is_open_prefix t o (subst (IsRefutedIn rules) (sym e) h)));
-    open_is = record { whole = m; below = o.sound.values; open_is = is_open_prefix t o }
+    open_is = record { whole = m; below = o.sound.values; open_is = is_open_prefix t o };
   }
 
   pub stepped_back : (old new : List ℕ) (v : ℕ) → old ≡ new ++ v ∷ [] → length old ≤ rules.cells → StepsBack rules old new (v + 1)
@@ -59,7 +57,7 @@ module _ (rules : Rules) where
       record {
         seen = λ ps value m s. seen_back rules.size rules.cells (IsRefutedIn rules) more new v value ps (subst (λ z. AreSeen rules z value ps) e s) m;
         room = omega arith;
-        shorter = omega arith
+        shorter = omega arith;
       }
 
   -- so many prefixes are visited, and this value is due behind an open prefix that isn't whole
@@ -80,7 +78,7 @@ module _ (rules : Rules) where
     ps = [];
     seen = subst (λ z. AreSeen rules z 0 []) (sym e) (seen_start rules.size rules.cells (IsRefutedIn rules) more l);
     count_is = refl;
-    within = omega arith
+    within = omega arith;
   }
 
   pub going_on : (budget : ℕ) (s t : State) (value next visited : ℕ) → IsGoing budget s value visited → visited < budget → IsOpenState rules t → GoesOn rules s.prefix.items value t.prefix.items next → next ≤ rules.size → IsGoing budget t next (visited + 1)
@@ -91,7 +89,7 @@ module _ (rules : Rules) where
     ps = g.ps ++ (s.prefix.items ++ value ∷ []) ∷ [];
     seen = h.seen g.ps g.seen;
     count_is = (let c : visited ≡ length g.ps = g.count_is in let n : length (g.ps ++ (s.prefix.items ++ value ∷ []) ∷ []) ≡ length g.ps + 1 = length-append g.ps ((s.prefix.items ++ value ∷ []) ∷ []) in omega arith);
-    within = omega arith
+    within = omega arith;
   }
 
   pub going_back : (budget : ℕ) (s t : State) (value next visited : ℕ) → IsGoing budget s value visited → rules.size ≤ value → IsOpenState rules t → StepsBack rules s.prefix.items t.prefix.items next → next ≤ rules.size → IsGoing budget t next visited
@@ -102,7 +100,7 @@ module _ (rules : Rules) where
     ps = g.ps;
     seen = h.seen g.ps value l g.seen;
     count_is = g.count_is;
-    within = g.within
+    within = g.within;
   }
 
   pub ends_found : (budget : ℕ) (s : State) (t : List ℕ) (value visited : ℕ) → IsGoing budget s value visited → visited < budget → IsWhole rules s.prefix.items value t → EndsFound rules budget t (visited + 1)
@@ -111,7 +109,7 @@ module _ (rules : Rules) where
     all = h.all g.ps g.seen;
     open_is = h.open_is;
     count_is = (let c : visited ≡ length g.ps = g.count_is in let n : length (g.ps ++ t ∷ []) ≡ length g.ps + 1 = length-append g.ps (t ∷ []) in omega arith);
-    within = omega arith
+    within = omega arith;
   }
 
   pub ends_none : (budget : ℕ) (s : State) (value visited : ℕ) → IsGoing budget s value visited → rules.size ≤ value → s.prefix.items ≡ [] → EndsNone rules budget visited
@@ -122,7 +120,7 @@ module _ (rules : Rules) where
         all = seen_all rules.size rules.cells (IsRefutedIn rules) more value g.ps seen l;
         none = none_open rules.size rules.cells (IsRefutedIn rules) more value g.ps seen l;
         count_is = g.count_is;
-        within = g.within
+        within = g.within;
       }
 
   pub ends_spent : (budget : ℕ) (s : State) (value visited : ℕ) → IsGoing budget s value visited → value < rules.size → visited ≡ budget → EndsSpent rules budget
@@ -132,5 +130,5 @@ module _ (rules : Rules) where
     count_is = sym g.count_is ∙ e;
     p = s.prefix.items ++ value ∷ [];
     due = visits_next rules.size rules.cells (IsRefutedIn rules) more s.prefix.items value g.ps (at_open s g.open_is) g.seen l g.room;
-    further = further rules.size rules.cells (IsRefutedIn rules) more s.prefix.items value g.ps g.seen
+    further = further rules.size rules.cells (IsRefutedIn rules) more s.prefix.items value g.ps g.seen;
   }

@@ -4,10 +4,9 @@ use Rattle.std.specs.Prelude.{slice_get, Some}
 use Rattle.std.proofs.lemmas.List.{take-append-le, get_or_append_left}
 use Rattle.std.proofs.lemmas.Grind.{common_steps}
 use Rattle.uc_table.specs.declared.search_waiting.Entry.{Entry}
-use Rattle.uc_table.specs.declared.search_waiting.Waiting.{Waiting}
 use Rattle.uc_table.specs.declared.search_size.Rules.{Rules}
 use Rattle.uc_table.specs.declared.search_size.State.{State}
-use Rattle.uc_table.specs.Tables.{AreValues, MOST_CELLS}
+use Rattle.uc_table.specs.Tables.{AreValues}
 use Rattle.uc_table.specs.SearchWaiting.{IsWell}
 use Rattle.uc_table.specs.SearchInstances.{AreOf, AreSettled, AreSettledBelow, Extends}
 use Rattle.uc_table.specs.SearchState.{AreLevels, IsSound, IsOpenState, IsSet}
@@ -53,9 +52,8 @@ longer : (old new : List Entry) → Extends old new → length old ≤ length ne
 longer old new x = let n : length new ≡ length old + length x.more = ap length x.new_is ∙ length-append old x.more in omega arith
 
 module _ (rules : Rules) (s t : State) (v : ℕ) (o : IsOpenState rules s) (room : length s.prefix.items < rules.cells) (small : v < rules.size)
-  (prefix_is : t.prefix.items ≡ s.prefix.items ++ v ∷ []) (marks_is : t.marks.items ≡ s.marks.items ++ length s.waiting.entries.items ∷ [])
-  (well : IsWell t.waiting) (of : AreOf rules.forms.items t.waiting.entries.items) (x : Extends s.waiting.entries.items t.waiting.entries.items) where
-
+    (prefix_is : t.prefix.items ≡ s.prefix.items ++ v ∷ []) (marks_is : t.marks.items ≡ s.marks.items ++ length s.waiting.entries.items ∷ [])
+    (well : IsWell t.waiting) (of : AreOf rules.forms.items t.waiting.entries.items) (x : Extends s.waiting.entries.items t.waiting.entries.items) where
   one_more : length t.prefix.items ≡ suc (length s.prefix.items)
   one_more = ap length prefix_is ∙ length-append s.prefix.items (v ∷ []) ∙ add-one (length s.prefix.items)
 
@@ -73,7 +71,7 @@ module _ (rules : Rules) (s t : State) (v : ℕ) (o : IsOpenState rules s) (room
     of = of;
     values = subst (AreValues rules.size) (sym prefix_is) (below_append rules.size s.prefix.items (v ∷ []) o.sound.values (small, tt));
     as_many = (let n : length s.marks.items ≡ length s.prefix.items = o.sound.as_many in let m : length t.marks.items ≡ length s.marks.items + 1 = ap length marks_is ∙ length-append s.marks.items (length s.waiting.entries.items ∷ []) in let k : length t.prefix.items ≡ suc (length s.prefix.items) = one_more in omega arith);
-    short = (let k : length t.prefix.items ≡ suc (length s.prefix.items) = one_more in omega arith)
+    short = (let k : length t.prefix.items ≡ suc (length s.prefix.items) = one_more in omega arith);
   }
 
   before : AreLevels rules t.prefix.items t.marks.items (length s.prefix.items) s.waiting.entries.items
@@ -95,13 +93,13 @@ module _ (rules : Rules) (s t : State) (v : ℕ) (o : IsOpenState rules s) (room
     some = (let k : length t.prefix.items ≡ suc (length s.prefix.items) = one_more in omega arith);
     within = subst (λ i. get_or t.marks.items i 0 ≤ length t.waiting.entries.items) (sym last_is) (subst (λ z. z ≤ length t.waiting.entries.items) (sym mark_is) (longer s.waiting.entries.items t.waiting.entries.items x));
     levels = subst (λ i. AreLevels rules t.prefix.items t.marks.items i (take (get_or t.marks.items i 0) t.waiting.entries.items)) (sym last_is)
-      (subst (λ z. AreLevels rules t.prefix.items t.marks.items (length s.prefix.items) z) (sym taken) before)
+        (subst (λ z. AreLevels rules t.prefix.items t.marks.items (length s.prefix.items) z) (sym taken) before);
   }
 
   pub is_open : AreSettledBelow rules.size t.prefix.items rules.forms.items (length s.prefix.items) 0 s.waiting.entries.items t.waiting.entries.items → IsOpenState rules t
   is_open b = record {
     sound = set_sound;
-    levels = subst (λ n. AreLevels rules t.prefix.items t.marks.items n t.waiting.entries.items) (sym one_more) (now, low, subst (λ z. AreLevels rules t.prefix.items t.marks.items (length s.prefix.items) z) (sym taken) before)
+    levels = subst (λ n. AreLevels rules t.prefix.items t.marks.items n t.waiting.entries.items) (sym one_more) (now, low, subst (λ z. AreLevels rules t.prefix.items t.marks.items (length s.prefix.items) z) (sym taken) before);
   }
     where
       whole : take (suc (length s.prefix.items)) t.prefix.items ≡ s.prefix.items ++ v ∷ []
@@ -109,8 +107,8 @@ module _ (rules : Rules) (s t : State) (v : ℕ) (o : IsOpenState rules s) (room
 
       settled : AreSettled rules.size (s.prefix.items ++ v ∷ []) rules.forms.items t.waiting.entries.items
       settled = settled_next rules.size s.prefix.items v rules.forms.items s.waiting.entries.items t.waiting.entries.items x
-        (subst (λ z. AreSettledBelow rules.size z rules.forms.items (length s.prefix.items) 0 s.waiting.entries.items t.waiting.entries.items) prefix_is b)
-        (top_settled rules s.prefix.items s.marks.items (length s.prefix.items) s.waiting.entries.items refl o.levels)
+          (subst (λ z. AreSettledBelow rules.size z rules.forms.items (length s.prefix.items) 0 s.waiting.entries.items t.waiting.entries.items) prefix_is b)
+          (top_settled rules s.prefix.items s.marks.items (length s.prefix.items) s.waiting.entries.items refl o.levels)
 
       now : AreSettled rules.size (take (suc (length s.prefix.items)) t.prefix.items) rules.forms.items t.waiting.entries.items
       now = subst (λ z. AreSettled rules.size z rules.forms.items t.waiting.entries.items) (sym whole) settled
@@ -142,12 +140,12 @@ back_open rules s t last mark h l m p q w well = record {
     of = λ i e g. h.sound.of i e (get_of_take s.waiting.entries.items mark i e (subst (λ z. slice_get z i ≡ Some e) w g));
     values = subst (AreValues rules.size) (sym p) (values_take rules.size last s.prefix.items h.sound.values);
     as_many = (let n : length s.marks.items ≡ length s.prefix.items = h.sound.as_many in ap length q ∙ taken_length s.marks.items last (omega arith) ∙ sym (taken_length s.prefix.items last (omega arith)) ∙ sym (ap length p));
-    short = (let n : length t.prefix.items ≡ last = ap length p ∙ taken_length s.prefix.items last (omega arith) in let k : length s.prefix.items ≤ rules.cells = h.sound.short in omega arith)
+    short = (let n : length t.prefix.items ≡ last = ap length p ∙ taken_length s.prefix.items last (omega arith) in let k : length s.prefix.items ≤ rules.cells = h.sound.short in omega arith);
   };
   levels = subst (λ n. AreLevels rules t.prefix.items t.marks.items n t.waiting.entries.items) (sym (ap length p ∙ taken_length s.prefix.items last (omega arith)))
-    (subst (λ z. AreLevels rules z t.marks.items last t.waiting.entries.items) (sym p)
-    (subst (λ z. AreLevels rules (take last s.prefix.items) z last t.waiting.entries.items) (sym q)
-    (subst (λ z. AreLevels rules (take last s.prefix.items) (take last s.marks.items) last z) (sym w) cut)))
+      (subst (λ z. AreLevels rules z t.marks.items last t.waiting.entries.items) (sym p)
+      (subst (λ z. AreLevels rules (take last s.prefix.items) z last t.waiting.entries.items) (sym q)
+      (subst (λ z. AreLevels rules (take last s.prefix.items) (take last s.marks.items) last z) (sym w) cut)));
 }
   where
     taken_length : (xs : List ℕ) (n : ℕ) → n ≤ length xs → length (take n xs) ≡ n
@@ -155,7 +153,7 @@ back_open rules s t last mark h l m p q w well = record {
 
     levels : AreLevels rules s.prefix.items s.marks.items last (take mark s.waiting.entries.items)
     levels = subst (λ z. AreLevels rules s.prefix.items s.marks.items last (take z s.waiting.entries.items)) (sym m)
-      (subst (λ i. AreLevels rules s.prefix.items s.marks.items i (take (get_or s.marks.items i 0) s.waiting.entries.items)) (sym l) h.levels)
+        (subst (λ i. AreLevels rules s.prefix.items s.marks.items i (take (get_or s.marks.items i 0) s.waiting.entries.items)) (sym l) h.levels)
 
     cut : AreLevels rules (take last s.prefix.items) (take last s.marks.items) last (take mark s.waiting.entries.items)
     cut =

@@ -1,6 +1,6 @@
 -- What steps come to under a longer prefix, and what is settled under it.
-use Rattle.std.proofs.Common.{◌≡◌, ℕ, zero, suc, ◌+◌, ◌-◌, ◌≤◌, ◌<◌, List, [], ◌∷◌, ◌++◌, length, take, drop, refl, ap, sym, ◌∙◌, arith, subst, inl, inr, length-append, get_or, Bool, true, false}
-use Rattle.std.specs.Prelude.{slice_get, nat_lt, Option, Some, None, ◌⊎◌}
+use Rattle.std.proofs.Common.{◌≡◌, ℕ, ◌+◌, ◌≤◌, ◌<◌, List, [], ◌∷◌, ◌++◌, length, take, drop, refl, sym, ◌∙◌, arith, subst, inl, inr, length-append, get_or}
+use Rattle.std.specs.Prelude.{slice_get, nat_lt, Option, Some, None}
 use Rattle.std.proofs.lemmas.Bool.{cases_order, cases_Bool}
 use Rattle.std.proofs.lemmas.Option.{slice_get_within, slice_get-get_or}
 use Rattle.uc_table.specs.declared.search_steps.Step.{Step}
@@ -9,8 +9,8 @@ use Rattle.uc_table.specs.declared.search_waiting.Entry.{Entry}
 use Rattle.uc_table.specs.declared.search_instances.Form.{Form}
 use Rattle.uc_table.specs.Algebras.{place_of}
 use Rattle.uc_table.specs.SearchSteps.{Ran, stops, waits, breaks, go_on, read, take_step, run}
-use Rattle.uc_table.specs.SearchInstances.{ran, IsAgainst, Has, Extends, IsSettledBy, IsSettled, AreSettledBelow, AreSettled, IsRefutedBy}
-use Rattle.uc_table.proofs.SearchSettling.{get_more, extends_get, has_extends}
+use Rattle.uc_table.specs.SearchInstances.{ran, Has, Extends, IsSettledBy, IsSettled, AreSettledBelow, AreSettled, IsRefutedBy}
+use Rattle.uc_table.proofs.SearchSettling.{get_more, has_extends}
 
 -- what a prefix of m cells and a longer one of n make of it: values stay, and so does a cell that the longer one doesn't reach
 pub data Stays (m n : ℕ) : Ran → Ran → Type 0 where
@@ -76,8 +76,8 @@ module _ (p q : List ℕ) where
       left = h.against.left;
       right = h.against.right;
       ran_is = stops_stays (ran size p h.form h.assignment) (ran size (p ++ q) h.form h.assignment) (h.against.left ∷ h.against.right ∷ []) (stays_run size h.assignment h.form.steps.items []) h.against.ran_is;
-      against = h.against.against
-    }
+      against = h.against.against;
+    };
   }
 
 -- what is settled is not refuted
@@ -89,11 +89,11 @@ module _ (size : ℕ) (p : List ℕ) (v : ℕ) (forms : List Form) (old new : Li
   settled_one : (k a : ℕ) (f : Form) → slice_get forms k ≡ Some f → IsSettledBy size p f k a old → (r t : Ran) → ran size p f a ≡ r → ran size (p ++ v ∷ []) f a ≡ t → Stays (length p) (length (p ++ v ∷ [])) r t → IsSettledBy size (p ++ v ∷ []) f k a new
   settled_one k a f g s (stops st) _ e d stopped = record {
     not_against = λ h. (let i : ran size (p ++ v ∷ []) f a ≡ stops (h.left ∷ h.right ∷ []) = h.ran_is in s.not_against (record { left = h.left; right = h.right; ran_is = e ∙ sym d ∙ i; against = h.against }));
-    waiting = λ c h. cc
+    waiting = λ c h. cc;
   }
   settled_one k a f g s (waits c) _ e d (waited l) = record {
     not_against = λ h. (let i : ran size (p ++ v ∷ []) f a ≡ stops (h.left ∷ h.right ∷ []) = h.ran_is in cc);
-    waiting = λ b h. (let same : c ≡ b = one_cell c b d h in subst (λ z. Has new k a z) same (has_extends old new k a c x (s.waiting c e)))
+    waiting = λ b h. (let same : c ≡ b = one_cell c b d h in subst (λ z. Has new k a z) same (has_extends old new k a c x (s.waiting c e)));
   }
     where
       one_cell : (c b : ℕ) → ran size (p ++ v ∷ []) f a ≡ waits c → ran size (p ++ v ∷ []) f a ≡ waits b → c ≡ b
@@ -112,7 +112,7 @@ module _ (size : ℕ) (p : List ℕ) (v : ℕ) (forms : List Form) (old new : Li
           two f g
   settled_one k a f g s breaks _ e d broken = record {
     not_against = λ h. (let i : ran size (p ++ v ∷ []) f a ≡ stops (h.left ∷ h.right ∷ []) = h.ran_is in cc);
-    waiting = λ c h. cc
+    waiting = λ c h. cc;
   }
 
   pub settled_next : AreSettled size p forms old → AreSettled size (p ++ v ∷ []) forms new

@@ -1,5 +1,5 @@
 -- Places, and how steps run.
-use Rattle.std.proofs.Common.{◌≡◌, ℕ, zero, suc, ◌+◌, ◌*◌, ◌^◌, ◌≤◌, ◌<◌, List, [], ◌∷◌, ◌++◌, length, take, drop, get_or, refl, ap, sym, ◌∙◌, arith, subst, append_assoc, length-append, add-one, lit<}
+use Rattle.std.proofs.Common.{◌≡◌, ℕ, zero, suc, ◌+◌, ◌*◌, ◌^◌, ◌≤◌, ◌<◌, List, [], ◌∷◌, ◌++◌, length, take, drop, get_or, refl, ap, sym, ◌∙◌, arith, subst, length-append, add-one, lit<}
 use Rattle.std.proofs.Math.Nat.{mul_assoc, mul-one, pow-zero, pow-suc, pow-le-pow_right}
 use Rattle.std.proofs.Math.Seq.{take-suc}
 use Rattle.std.proofs.lemmas.Nat.{mul-add-lt}
@@ -7,12 +7,12 @@ use Rattle.std.proofs.lemmas.Grind.{common_steps}
 use Rattle.uc_table.specs.Algebras.{place_of}
 use Rattle.uc_table.specs.Tables.{AreValues}
 use Rattle.std.specs.Prelude.{◌-◌, nat_lt, slice_get, Some, None}
-use Rattle.std.proofs.Common.{Bool, true, false, inl, inr}
+use Rattle.std.proofs.Common.{false, inl, inr}
 use Rattle.std.proofs.Math.ListN.{set, length-set, drop_of_length-le}
 use Rattle.std.proofs.lemmas.List.{drop-set}
 use Rattle.std.proofs.lemmas.Bool.{cases_Bool, ltb-true}
-use Rattle.uc_table.specs.declared.search_steps.Step.TheVariants.{Variable, Apply, Foreign}
-use Rattle.uc_table.specs.SearchSteps.{Ran, stops, waits, breaks, take_step, run, IsTaken}
+use Rattle.uc_table.specs.declared.search_steps.Step.TheVariants.{Apply}
+use Rattle.uc_table.specs.SearchSteps.{Ran, stops, waits, take_step, run, IsTaken}
 use Rattle.uc_table.specs.declared.search_steps.Step.{Step}
 use Rattle.uc_table.specs.declared.search_steps.Taken.TheVariants as taken
 use Rattle.std.proofs.lemmas.Option.{slice_get-get_or, slice_get_past}
@@ -103,7 +103,7 @@ module _ (size a : ℕ) (prefix stack : List ℕ) (top first n place : ℕ) (roo
         is = applies size a prefix (drop top stack) first n place v enough e (slice_get-get_or prefix (first + place) 0 l ∙ ap Some (sym g)) ∙ ap stops (sym f);
         room = omega arith;
         within = (let z : length (set stack (top + n - 1) v) ≡ length stack = length-set stack (top + n - 1) v in omega arith);
-        live = subst (AreValues size) (sym f) (w, values_drop size n (drop top stack) s)
+        live = subst (AreValues size) (sym f) (w, values_drop size n (drop top stack) s);
       }
 
   -- the cell has no value yet

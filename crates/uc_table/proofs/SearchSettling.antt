@@ -1,12 +1,12 @@
 -- Instances that are decided or wait, as more entries come.
-use Rattle.std.proofs.Common.{◌≡◌, ℕ, zero, suc, ◌+◌, ◌≤◌, ◌<◌, List, [], ◌∷◌, ◌++◌, length, take, refl, ap, sym, ◌∙◌, arith, subst, append_assoc, append-nil}
-use Rattle.std.specs.Prelude.{slice_get, Some, None, ◌⊎◌}
+use Rattle.std.proofs.Common.{◌≡◌, ℕ, zero, suc, ◌<◌, List, [], ◌∷◌, ◌++◌, length, refl, ap, sym, ◌∙◌, subst, append_assoc, append-nil}
+use Rattle.std.specs.Prelude.{slice_get, Some, ◌⊎◌}
 use Rattle.std.proofs.Common.{inl, inr}
-use Rattle.uc_table.specs.SearchSteps.{Ran, stops, waits}
+use Rattle.uc_table.specs.SearchSteps.{stops, waits}
 use Rattle.uc_table.specs.SearchWaiting.{HasPushed}
 use Rattle.uc_table.specs.declared.search_waiting.Entry.{Entry}
 use Rattle.uc_table.specs.declared.search_instances.Form.{Form}
-use Rattle.uc_table.specs.SearchInstances.{ran, IsAgainst, IsFor, Waits, Has, Extends, IsSettledBy, IsSettled, AreSettledBelow, IsOf, AreOf}
+use Rattle.uc_table.specs.SearchInstances.{ran, IsFor, Waits, Has, Extends, IsSettledBy, IsSettled, IsOf, AreOf}
 
 pub get_more : {A : Type 0} (xs ys : List A) (i : ℕ) (x : A) → slice_get xs i ≡ Some x → slice_get (xs ++ ys) i ≡ Some x
 get_more [] ys i x e = cc
@@ -54,8 +54,8 @@ module _ (size : ℕ) (prefix : List ℕ) (forms : List Form) (number a : ℕ) (
       entry_is = subst (λ l. slice_get l (length old) ≡ Some (record { form = number; assignment = a; cell = cell; below = p.below })) (sym p.new_is) (get_seam old [] (record { form = number; assignment = a; cell = cell; below = p.below }));
       number_is = refl;
       assignment_is = refl;
-      cell_is = same_cell cell c h.ran_is w
-    }
+      cell_is = same_cell cell c h.ran_is w;
+    };
   })
     where
       same_cell : (b c : ℕ) → ran size prefix form a ≡ waits b → ran size prefix form a ≡ waits c → b ≡ c

@@ -1,9 +1,9 @@
 -- How the list of visited prefixes grows as a search goes on.
-use Rattle.std.proofs.Common.{◌≡◌, ℕ, zero, suc, ◌+◌, ◌≤◌, ◌<◌, List, [], ◌∷◌, ◌++◌, length, refl, ap, sym, ◌∙◌, arith, inl, inr, subst, append_assoc, length-append}
+use Rattle.std.proofs.Common.{◌≡◌, ℕ, ◌+◌, ◌≤◌, ◌<◌, List, [], ◌∷◌, ◌++◌, length, refl, ap, sym, ◌∙◌, arith, inl, inr, subst, append_assoc, length-append}
 use Rattle.std.specs.Prelude.{◌⊎◌}
 use Rattle.uc_table.specs.Tables.{AreValues}
 use Rattle.uc_table.specs.SearchPrefixes.{Before, front, In, here, there, AreOrdered, IsOpen, IsVisited, AreFirst, AreAll, IsSeen}
-use Rattle.uc_table.proofs.SearchOrder.{before_trans, before_irrefl, order_of, before_behind, before_more, before_next, next_after, before_first, below_append, below_behind, below_beginning, before_size, front_last, front_behind}
+use Rattle.uc_table.proofs.SearchOrder.{before_trans, before_irrefl, order_of, before_behind, before_more, before_next, next_after, before_first, below_append, below_behind, before_size, front_last, front_behind}
 
 pub in_append : (q : List ℕ) (ps rs : List (List ℕ)) → In q ps → In q (ps ++ rs)
 in_append q (p ∷ ps) rs here = here

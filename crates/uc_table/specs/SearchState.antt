@@ -1,7 +1,6 @@
 -- The state of a search at one size, and what the search of that size ends with.
 use Rattle.std.specs.Prelude.{ℕ, zero, suc, ◌≡◌, ◌+◌, ◌-◌, ◌<◌, ◌≤◌, List, [], ◌∷◌, ◌++◌, length, take, get_or}
 use Rattle.uc_table.specs.declared.search_waiting.Entry.{Entry}
-use Rattle.uc_table.specs.declared.search_instances.Form.{Form}
 use Rattle.uc_table.specs.declared.search_size.Rules.{Rules}
 use Rattle.uc_table.specs.declared.search_size.State.{State}
 use Rattle.uc_table.specs.declared.search_size.End.{End}

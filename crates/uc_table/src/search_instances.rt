@@ -104,7 +104,15 @@ pub(crate) fn follow(
     let mut at = waiting.heads[cell];
     while at > 0 {
         let entry = waiting.entries[at - 1];
-        if settle(waiting, forms, size, prefix, stack, entry.form, entry.assignment)? {
+        if settle(
+            waiting,
+            forms,
+            size,
+            prefix,
+            stack,
+            entry.form,
+            entry.assignment,
+        )? {
             return Ok(true);
         }
         at = entry.below;

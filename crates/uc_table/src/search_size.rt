@@ -32,12 +32,7 @@ pub(crate) enum End {
 }
 
 /// Gives the next cell a value. True comes exactly where that refutes the prefix.
-fn set(
-    state: &mut State,
-    rules: &Rules,
-    stack: &mut [u32],
-    value: u32,
-) -> Result<bool, AllocError>
+fn set(state: &mut State, rules: &Rules, stack: &mut [u32], value: u32) -> Result<bool, AllocError>
     requires ready { IsReady (length stack.old) rules.now }
     requires open { IsOpenState rules.now state.old }
     requires room { length state.old.prefix.items < rules.now.cells }

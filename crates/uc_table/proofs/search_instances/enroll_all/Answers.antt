@@ -6,7 +6,7 @@ pub loop-number-preserved : goal.loop-number-preserved
 loop-number-preserved c = record {
   well = c.in_ok-enroll.ensures.well;
   of = c.in_ok-enroll.ensures.of;
-  settled = more_settled c.args.size [] c.args.forms.now c.loop-number.number c.loop-number.waiting.entries.items c.enroll.new.waiting.entries.items c.loop-number.invariant.settled c.in_ok-enroll.ensures.extends (c.in_ok-enroll.ensures.settled c.if-branch.false)
+  settled = more_settled c.args.size [] c.args.forms.now c.loop-number.number c.loop-number.waiting.entries.items c.enroll.new.waiting.entries.items c.loop-number.invariant.settled c.in_ok-enroll.ensures.extends (c.in_ok-enroll.ensures.settled c.if-branch.false);
 }
 
 pub returns-clause-settled : goal.returns-clause-settled

@@ -7,5 +7,5 @@ abbrev pub invariant-loop-number : goal.invariant-loop-number
 invariant-loop-number l = record {
   well : IsWell l.waiting;
   of : AreOf l.forms l.waiting.entries.items;
-  settled : AreFormsSettled l.size [] l.forms 0 l.number l.waiting.entries.items
+  settled : AreFormsSettled l.size [] l.forms 0 l.number l.waiting.entries.items;
 }

@@ -1,13 +1,7 @@
-use Rattle.std.proofs.Common.{◌≡◌, ◌∙◌, sym, ap, ℕ, ◌+◌, ◌-◌, ◌<◌, ◌≤◌, length, refl, arith}
+use Rattle.std.proofs.Common.{◌≡◌, ◌-◌, length, refl}
 use Rattle.std.specs.Prelude.{slice_get, Some}
 use Rattle.std.proofs.lemmas.Option.{slice_get_read, slice_get_within}
-use Rattle.uc_table.specs.declared.search_waiting.Entry.{Entry}
-use Rattle.uc_table.specs.declared.search_waiting.Waiting.{Waiting}
-use Rattle.uc_table.specs.declared.search_instances.Form.{Form}
-use Rattle.uc_table.specs.SearchWaiting.{IsTop, IsWell}
-use Rattle.uc_table.specs.SearchInstances.{IsOf, IsAgainstNow, IsRefutedBy, AreSettledBelow}
-use Rattle.uc_table.proofs.SearchSettling.{extends_refl}
-use Rattle.uc_table.proofs.SearchFollowing.{IsFollowed, place_within, next_within, next_followed, followed_at_start, small_of, refuted_of, done_followed}
+use Rattle.uc_table.proofs.SearchFollowing.{place_within, next_within, next_followed, followed_at_start, small_of, refuted_of, done_followed}
 use Rattle.uc_table.proofs.search_instances.follow.Goals as goal
 
 pub loop-at-init : goal.loop-at-init

@@ -1,4 +1,4 @@
-use Rattle.std.proofs.Common.{◌≡◌, ◌<◌, ◌++◌, ◌∷◌, [], List, ℕ, length, subst, arith}
+use Rattle.std.proofs.Common.{◌<◌, ◌++◌, ◌∷◌, [], subst, arith}
 use Rattle.uc_table.specs.Tables.{AreValues}
 use Rattle.uc_table.proofs.SearchOrder.{below_behind}
 use Rattle.uc_table.proofs.SearchGoing.{stepped_back}

@@ -1,4 +1,4 @@
-use Rattle.std.proofs.Common.{◌≡◌, ◌∙◌, sym, ℕ, List, ◌++◌, ◌∷◌, [], length, subst, rules as std_rules}
+use Rattle.std.proofs.Common.{◌≡◌, ◌∙◌, sym, ◌++◌, ◌∷◌, [], length, subst, rules as std_rules}
 use Rattle.uc_table.specs.SearchState.{IsRefutedIn}
 use Rattle.uc_table.proofs.SearchGoing.{at_open, same_front, after_refuted, after_open, after_whole}
 use Rattle.uc_table.proofs.search_size.visit.Goals as goal

@@ -1,7 +1,6 @@
-use Rattle.std.proofs.Common.{◌≡◌, ℕ, ◌+◌, ◌*◌, ◌^◌, ◌<◌, ◌≤◌, length, take, get_or, Fits, w64, arith}
-use Rattle.std.proofs.lemmas.Grind.{common_steps}
+use Rattle.std.proofs.Common.{◌≡◌, take, arith}
 use Rattle.uc_table.specs.Algebras.{place_of}
-use Rattle.uc_table.proofs.SearchRuns.{Turn, turn, place_fits}
+use Rattle.uc_table.proofs.SearchRuns.{turn, place_fits}
 use Rattle.uc_table.proofs.search_steps.place.Goals as goal
 
 pub overflow_mul-place : goal.overflow_mul-place

@@ -8,5 +8,5 @@ invariant-loop-step l = record {
   ran : run l.size l.assignment l.prefix l.steps [] ≡ run l.size l.assignment l.prefix (drop l.step-index l.steps) (drop l.top l.stack);
   room : length l.steps ≤ l.top + l.step-index;
   within : l.top ≤ length l.stack;
-  live : AreValues l.size (drop l.top l.stack)
+  live : AreValues l.size (drop l.top l.stack);
 }

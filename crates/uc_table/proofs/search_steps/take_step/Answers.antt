@@ -1,4 +1,4 @@
-use Rattle.std.proofs.Common.{◌≡◌, ◌∙◌, ap, ℕ, ◌+◌, ◌-◌, ◌≤◌, length, take, drop, refl, arith}
+use Rattle.std.proofs.Common.{◌≡◌, ◌∙◌, ap, ◌+◌, ◌-◌, ◌≤◌, length, take, drop, refl, arith}
 use Rattle.uc_table.specs.Algebras.{place_of}
 use Rattle.uc_table.proofs.SearchRuns.{takes_value}
 use Rattle.uc_table.proofs.search_steps.take_step.Goals as goal

@@ -6,7 +6,7 @@ abbrev pub invariant-loop-self : goal.invariant-loop-self
 invariant-loop-self l = record {
   well : IsWell l.self;
   within : l.mark ≤ length l.self.entries.items;
-  taken : l.self.entries.items ≡ take (length l.self.entries.items) l.initial.self.entries.items
+  taken : l.self.entries.items ≡ take (length l.self.entries.items) l.initial.self.entries.items;
 }
 
 abbrev pub decreases-loop-self : goal.decreases-loop-self
