@@ -5,13 +5,13 @@ pub mod Checks
 pub mod Lines
 pub mod Printing
 pub mod Reading
-pub mod SearchPrefixes
-pub mod SearchCells
-pub mod Searching
 pub mod Evaluating
 pub mod Against
 pub mod Places
 pub mod Reads
+pub mod SearchPrefixes
+pub mod SearchCells
+pub mod Searching
 pub mod SearchSteps
 pub mod SearchWaiting
 pub mod SearchInstances
