@@ -21,3 +21,4 @@ pub mod SearchFollowing
 pub mod SearchLonger
 pub mod SearchLevels
 pub mod SearchGoing
+pub mod ReadBack

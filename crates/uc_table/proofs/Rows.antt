@@ -44,7 +44,7 @@ refused_likewise rule other bytes at here (TooManyCells p) f h = f h
 refused_likewise rule other bytes at here (TooManyBytes p) f h = f h
 refused_likewise rule other bytes at here NoMemory f h = tt
 
-not_above : (a b : ℕ) → b ≤ a → nat_lt a b ≡ false
+pub not_above : (a b : ℕ) → b ≤ a → nat_lt a b ≡ false
 not_above a b h = grind (arith, nat_tests)
 
 -- the end of a text

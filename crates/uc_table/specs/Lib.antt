@@ -16,3 +16,4 @@ pub mod SearchSteps
 pub mod SearchWaiting
 pub mod SearchInstances
 pub mod SearchState
+pub mod Printable
