@@ -1,6 +1,6 @@
 -- What is printed of a table is read as that table.
-use Rattle.std.proofs.Common.{◌≡◌, ℕ, zero, suc, ◌+◌, ◌-◌, ◌<◌, ◌≤◌, ◌==◌, ◌&&◌, nat_lt, nat_le, Bool, true, false, List, [], ◌∷◌, ◌++◌, length, drop, codes, bytes_eq, decimal, Option, Some, None, if◌then◌else◌, refl, sym, ap, ap₂, ◌∙◌, subst, arith, append_assoc, append-nil}
-use Rattle.std.specs.Prelude.{Result, Ok, Err}
+use Rattle.std.proofs.Common.{◌≡◌, ℕ, ◌+◌, ◌-◌, ◌<◌, ◌≤◌, ◌==◌, ◌&&◌, nat_lt, nat_le, true, List, [], ◌∷◌, ◌++◌, length, codes, bytes_eq, decimal, Option, Some, refl, sym, ap, ◌∙◌, arith, append_assoc, append-nil}
+use Rattle.std.specs.Prelude.{Ok}
 use Rattle.std.specs.Cmp.Lexicographic.{bytes_decides}
 use Rattle.std.specs.List.{AllByRecursion}
 use Rattle.std.proofs.lemmas.Bool.{eq-eqb}
@@ -13,14 +13,13 @@ use Rattle.uc_clause.specs.Bytes.{is_digit, in_line}
 use Rattle.uc_clause.specs.Names.{spelling}
 use Rattle.uc_clause.specs.Printable.{IsPrintableSymbol}
 use Rattle.uc_table.specs.declared.table.Table.{Table}
-use Rattle.uc_table.specs.declared.fault.TableFault.TheVariants.{TooManyCells}
-use Rattle.uc_table.specs.Tables.{AreValues, IsRow, cell_count, cells_for, AreRows, IsTableOf, MOST_CELLS}
-use Rattle.uc_table.specs.Printing.{ended, table_line, size_words, size_line, end_line, symbol_line, spaced, values_line, rows_text, table_text}
+use Rattle.uc_table.specs.Tables.{AreValues, IsRow, cell_count, cells_for, AreRows, MOST_CELLS}
+use Rattle.uc_table.specs.Printing.{ended, table_line, size_line, end_line, symbol_line, spaced, values_line, rows_text, table_text}
 use Rattle.uc_table.specs.Printable.{IsPrintableTable}
-use Rattle.uc_table.specs.Lines.{Cut, first_line, place_in, Outcome, gets, fails, go_on, picked, pick, just, exactly, ◌>>=◌, gives}
-use Rattle.uc_table.specs.Reading.{version_line, checked_size, size_of, header_lines, is_value, with_value, values_of, checked_count, row_of, cells_in, limited, symbol_at, row_at, rows_after, table_by, table_lines, ends, table_of}
+use Rattle.uc_table.specs.Lines.{first_line, Outcome, gets, go_on, pick, just, exactly, ◌>>=◌, gives}
+use Rattle.uc_table.specs.Reading.{version_line, size_of, header_lines, is_value, values_of, checked_count, row_of, cells_in, limited, symbol_at, row_at, rows_after, table_by, table_lines, ends, table_of}
 use Rattle.uc_table.proofs.FirstLines.{cut_line}
-use Rattle.uc_table.proofs.InLine.{InLine, all_append, decimal_in_line, spelling_in_line, and_both}
+use Rattle.uc_table.proofs.InLine.{InLine, all_append, decimal_in_line, spelling_in_line}
 use Rattle.uc_table.proofs.Rows.{cells_push, not_above}
 
 -- a line that is printed is the first of the text
@@ -94,15 +93,15 @@ module _ (symbols : SymbolTable) (size : ℕ) (some : 1 ≤ size) (most : size �
   symbol_in_line : (f : Sym) → IsPrintableSymbol symbols f → InLine (symbol_line symbols f)
   symbol_in_line f h =
       all_append in_line (codes "% symbol " ++ spelling (name_of symbols f) ++ codes " ") (decimal (arity_of symbols f))
-        (all_append in_line (codes "% symbol " ++ spelling (name_of symbols f)) (codes " ") (all_append in_line (codes "% symbol ") (spelling (name_of symbols f)) refl (spelling_in_line (name_of symbols f) h.1)) refl)
-        (decimal_in_line (arity_of symbols f) (omega (arith, h.2)))
+      (all_append in_line (codes "% symbol " ++ spelling (name_of symbols f)) (codes " ") (all_append in_line (codes "% symbol ") (spelling (name_of symbols f)) refl (spelling_in_line (name_of symbols f) h.1)) refl)
+      (decimal_in_line (arity_of symbols f) (omega (arith, h.2)))
 
   row_ended : (cells : ℕ) (f : Sym) (row rest : List ℕ) (n : ℕ) → IsPrintableSymbol symbols f → IsRow size (cell_count symbols size f) row → cells + cell_count symbols size f ≤ MOST_CELLS → row_at symbols size cells f n (ended (symbol_line symbols f) ++ (ended (values_line row) ++ rest)) ≡ gets row (n + 1 + 1) rest
   row_ended cells f row rest n h is few =
       let first : symbol_at symbols size (cells + cell_count symbols size f) f n (ended (symbol_line symbols f) ++ (ended (values_line row) ++ rest)) ≡ gets (tt {0}) (n + 1) (ended (values_line row) ++ rest) =
-        ap (limited (cells + cell_count symbols size f) n) (exactly_ended (symbol_line symbols f) (ended (values_line row) ++ rest) n (symbol_in_line f h)) ∙ few_enough (cells + cell_count symbols size f) n (n + 1) (ended (values_line row) ++ rest) few in
+      ap (limited (cells + cell_count symbols size f) n) (exactly_ended (symbol_line symbols f) (ended (values_line row) ++ rest) n (symbol_in_line f h)) ∙ few_enough (cells + cell_count symbols size f) n (n + 1) (ended (values_line row) ++ rest) few in
       let second : pick (row_of size (cell_count symbols size f)) (n + 1) (ended (values_line row) ++ rest) ≡ gets row (n + 1 + 1) rest =
-        picks_ended (row_of size (cell_count symbols size f)) row (values_line row) rest (n + 1) (values_in_line size most row is.values) (row_again size most (cell_count symbols size f) row (one-le-pow (arity_of symbols f) size some) is) in
+      picks_ended (row_of size (cell_count symbols size f)) row (values_line row) rest (n + 1) (values_in_line size most row is.values) (row_again size most (cell_count symbols size f) row (one-le-pow (arity_of symbols f) size some) is) in
       ap (λ (o : Outcome (Unit {0})). go_on o (λ _. pick (row_of size (cell_count symbols size f)))) first ∙ second
 
   rows_again : (fs : List Sym) (rows more : List (List ℕ)) (n : ℕ) (rest : List ℕ) → AllByRecursion (IsPrintableSymbol symbols) fs → AreRows symbols size fs more → cells_in rows + cells_for symbols size fs ≤ MOST_CELLS → AreAgain symbols size fs rows (rows ++ more) n (rows_text symbols fs more ++ rest) rest
@@ -117,8 +116,8 @@ module _ (symbols : SymbolTable) (size : ℕ) (some : 1 ≤ size) (most : size �
       record {
         next = later.next;
         are = ap (λ t. go_on (row_at symbols size (cells_in rows) f n t) (λ r. rows_after symbols size (rows ++ r ∷ []) fs)) parts
-          ∙ ap (λ (o : Outcome (List ℕ)). go_on o (λ r. rows_after symbols size (rows ++ r ∷ []) fs)) here
-          ∙ later.are ∙ ap (λ rs. gets rs later.next rest) (append_assoc rows (row ∷ []) more);
+            ∙ ap (λ (o : Outcome (List ℕ)). go_on o (λ r. rows_after symbols size (rows ++ r ∷ []) fs)) here
+            ∙ later.are ∙ ap (λ rs. gets rs later.next rest) (append_assoc rows (row ∷ []) more);
       }
     where
       three_parts : (a b c d : List ℕ) → a ++ (b ++ (c ++ d)) ≡ a ++ b ++ c ++ d
@@ -129,18 +128,19 @@ module _ (symbols : SymbolTable) (table : Table) (h : IsPrintableTable symbols t
   header_again : (rest : List ℕ) → header_lines 1 (ended table_line ++ (ended (size_line table.size) ++ rest)) ≡ gets table.size (1 + 1 + 1) rest
   header_again rest =
       ap (λ (o : Outcome (Unit {0})). go_on o (λ _. pick size_of)) (version_ended (ended (size_line table.size) ++ rest) 1)
-        ∙ picks_ended size_of table.size (size_line table.size) rest (1 + 1) (size_in_line table.size h.is.most) (size_again table.size h.is.some h.is.most)
+      ∙ picks_ended size_of table.size (size_line table.size) rest (1 + 1) (size_in_line table.size h.is.most) (size_again table.size h.is.some h.is.most)
 
   end_again : (n : ℕ) → exactly end_line n (ended end_line) ≡ gets (tt {0}) (n + 1) []
   end_again n = refl
 
   lines_again : (m : ℕ) × (table_lines symbols table.symbols 1 (ended table_line ++ (ended (size_line table.size) ++ (rows_text symbols table.symbols table.cells ++ ended end_line))) ≡ gets table m [])
   lines_again =
-      let body : AreAgain symbols table.size table.symbols [] table.cells (1 + 1 + 1) (rows_text symbols table.symbols table.cells ++ ended end_line) (ended end_line) = rows_again symbols table.size h.is.some h.is.most table.symbols [] table.cells (1 + 1 + 1) (ended end_line) h.names h.is.rows (omega (arith, h.few)) in
-      (body.next + 1,
-       ap (λ (o : Outcome ℕ). go_on o (λ size. rows_after symbols size [] table.symbols >>= λ rows. exactly end_line >>= λ _. gives (table_by symbols table.symbols size rows))) (header_again (rows_text symbols table.symbols table.cells ++ ended end_line))
-        ∙ ap (λ (o : Outcome (List (List ℕ))). go_on o (λ rows. exactly end_line >>= λ _. gives (table_by symbols table.symbols table.size rows))) body.are
-        ∙ ap (λ (o : Outcome (Unit {0})). go_on o (λ _. gives (table_by symbols table.symbols table.size table.cells))) (end_again body.next))
+      let body : AreAgain symbols table.size table.symbols [] table.cells (1 + 1 + 1) (rows_text symbols table.symbols table.cells ++ ended end_line) (ended end_line) = rows_again symbols table.size h.is.some h.is.most table.symbols [] table.cells (1 + 1 + 1) (ended end_line) h.names h.is.rows (omega (arith, h.few)) in (
+        body.next + 1,
+        ap (λ (o : Outcome ℕ). go_on o (λ size. rows_after symbols size [] table.symbols >>= λ rows. exactly end_line >>= λ _. gives (table_by symbols table.symbols size rows))) (header_again (rows_text symbols table.symbols table.cells ++ ended end_line))
+            ∙ ap (λ (o : Outcome (List (List ℕ))). go_on o (λ rows. exactly end_line >>= λ _. gives (table_by symbols table.symbols table.size rows))) body.are
+            ∙ ap (λ (o : Outcome (Unit {0})). go_on o (λ _. gives (table_by symbols table.symbols table.size table.cells))) (end_again body.next),
+      )
 
   pub table_again : (text : List ℕ) → text ≡ table_text symbols table → length text ≤ 16777216 → table_of symbols table.symbols text ≡ Ok table
   table_again text e small =
