@@ -18,10 +18,10 @@ use Rattle.uc_machine.specs.declared.event.Verdict.{Verdict}
 use Rattle.uc_machine.specs.declared.event.Verdict.TheVariants.{BudgetOut, PairsOut, LargeOverlap, LargeGoal}
 use Rattle.uc_machine.specs.State.{Opening, State}
 use Rattle.uc_shelf.specs.Entries.{born}
+use Rattle.uc_runs.specs.Causes.{Causes, overlap_is_large}
 use Rattle.uc_runs.specs.Large.{IsLargeOverlap}
 use Rattle.uc_runs.proofs.LargeOverlaps.{large_of_live}
 use Rattle.uc_search.specs.Searching.{IsSearched}
-use Rattle.uc_search.specs.Causes.{HasCause, overlap_is_large}
 use Rattle.uc_search.proofs.Caused.{searched_told}
 use Rattle.uc_words.specs.declared.command.Command.{Command}
 use Rattle.uc_answer.specs.LimitLines.{budget_line, pairs_line, overlap_line, goal_line, IsLimitLine, budget_is_spent, limit_is_passed, pair_is_large, step_is_large}
@@ -38,8 +38,8 @@ from_side n Right e = refl
 
 -- A search by worker 0, by whatever order and from whatever opening.
 module _ (m : Meaning) (o : Opening) (s : State) where
-  large_in : (x : Overlap) → HasCause m o s (LargeOverlap x) → IsLargeOverlap s.entries x
-  large_in x (overlap_is_large {drained = d} drained final is) = rw is (large_of_live m o.axioms d x final)
+  large_in : (x : Overlap) → Causes m o s (LargeOverlap x) → IsLargeOverlap s.entries x
+  large_in x (overlap_is_large {drained = d} reaches drained final is) = rw is (large_of_live m o.axioms d x final)
 
   -- the overlap that it names as too large is one of its facts, and is too large
   pub searched_large : (v : Verdict) → IsSearched m o 0 v s → (x : Overlap) → v ≡ LargeOverlap x → IsLargeOverlap s.entries x

@@ -9,7 +9,7 @@ use Rattle.uc_problem.specs.declared.problem.Encoded.{Encoded}
 use Rattle.uc_machine.specs.declared.event.Verdict.{Verdict}
 use Rattle.uc_machine.specs.declared.event.Verdict.TheVariants.{Proved, Saturated, BudgetOut, PairsOut, LargeOverlap, LargeGoal}
 use Rattle.uc_machine.specs.State.{Opening, State}
-use Rattle.uc_search.specs.Causes.{HasCause, HasCauseIfStopped}
+use Rattle.uc_runs.specs.Causes.{Causes, CausesIfLimit}
 use Rattle.uc_search.proofs.Caused.{searched_told}
 use Rattle.uc_words.specs.declared.command.Command.{Command}
 use Rattle.uc_ordering.specs.Meaning.{meaning_of}
@@ -88,7 +88,7 @@ module _ (table : Table) (command : Command) (name : List ℕ) (problem : Proble
       stopped = λ z. absurd (omega (arith, z));
     }
 
-    cause_for : (m : Meaning) (o : Opening) (v : Verdict) → verdict_status v ≡ 2 → HasCauseIfStopped m o s v → HasCause m o s v
+    cause_for : (m : Meaning) (o : Opening) (v : Verdict) → verdict_status v ≡ 2 → CausesIfLimit m o s v → Causes m o s v
     cause_for m o (Proved goal) e h = absurd (omega (arith, e))
     cause_for m o Saturated e h = absurd (omega (arith, e))
     cause_for m o (BudgetOut counted) e h = h

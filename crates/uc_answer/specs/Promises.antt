@@ -18,8 +18,8 @@ use Rattle.uc_order.specs.declared.spec.OrderSpec.{OrderSpec}
 use Rattle.uc_fact.specs.declared.fact.System.{System}
 use Rattle.uc_machine.specs.declared.event.Verdict.{Verdict}
 use Rattle.uc_machine.specs.State.{State}
+use Rattle.uc_runs.specs.Causes.{Causes}
 use Rattle.uc_search.specs.Searching.{IsSearched}
-use Rattle.uc_search.specs.Causes.{HasCause}
 use Rattle.uc_decide.specs.NormalForms.{HasNormalForm, HasOneNormalForm}
 use Rattle.uc_decide.specs.Deciding.{Decides}
 use Rattle.uc_system.specs.Reading.{ReadsSystem}
@@ -88,7 +88,7 @@ pub record IsStopped (table : Table) (command : Command) (name : List ℕ) (prob
   pub verdict : Verdict
   pub state : State
   pub searched : IsSearched (meaning_of table spec) (opening_for command encoded) 0 verdict state
-  pub cause : HasCause (meaning_of table spec) (opening_for command encoded) state verdict
+  pub cause : Causes (meaning_of table spec) (opening_for command encoded) state verdict
   pub line : List ℕ
   pub line_is : IsLimitLine command state verdict line
   pub history : List ℕ

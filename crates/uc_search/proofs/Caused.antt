@@ -1,5 +1,5 @@
 -- A search that ends at a limit has its cause.
-use Rattle.std.proofs.Common.{◌≡◌, ℕ, ◌+◌, ◌<◌, ◌≤◌, List, [], ◌∷◌, ◌++◌, length, count_by, Some, None, refl, sym, ap, ◌∙◌, arith, subst, append_assoc}
+use Rattle.std.proofs.Common.{◌≡◌, ℕ, ◌+◌, ◌<◌, ◌≤◌, List, [], length, count_by, Some, None, refl, ap, ◌∙◌, arith, subst}
 use Rattle.uc_order.specs.Laws.{Meaning}
 use Rattle.uc_fact.specs.declared.chain.Chain.{Chain}
 use Rattle.uc_fact.specs.declared.fact.Stop.{Stop}
@@ -25,8 +25,7 @@ use Rattle.uc_machine.proofs.Promises.{counts_units, ends_pairs_once}
 use Rattle.uc_search.specs.Working.{CommitsResult, TakesTurn, Works, no_turn, one_more_turn}
 use Rattle.uc_search.proofs.InOrder.{AuditsAll, one_is_kept, book_is_closed, audits_all}
 use Rattle.uc_search.specs.Searching.{EndsRound, is_closed_by, audits_missing, Rounds, gets_verdict, gets_drained, Searches, last_round, next_round, IsSearched}
-use Rattle.uc_runs.specs.Causes.{waits_in_book, waits_for_audit, at_start, at_meeting}
-use Rattle.uc_search.specs.Causes.{budget_is_spent as is_spent_all, pairs_are_too_many, overlap_is_large, goal_is_stuck, HasCauseIfStopped}
+use Rattle.uc_runs.specs.Causes.{waits_in_book, waits_for_audit, at_start, at_meeting, budget_is_spent as is_spent_all, pairs_are_too_many, overlap_is_large, goal_is_stuck, CausesIfLimit}
 use Rattle.uc_search.proofs.Turns.{leaves, Stays, at_one, kills_stay, visits_stay}
 use Rattle.uc_search.proofs.Rests.{Rests, WereMissing, may_audit, missing_on, missing_first, audit_leaves, start_rests, works_rest, draws_one, drained_rests, closed_rests, round_rests, round_verdict}
 
@@ -48,13 +47,13 @@ waits_closed s w v (pair_waits p e) = pair_waits p e
 module _ (m : Meaning) (o : Opening) where
   -- the verdict that stands, if one does, has its cause
   abbrev Told : State → Type 0
-  Told s = (v : Verdict) → s.verdict ≡ Some v → HasCauseIfStopped m o s v
+  Told s = (v : Verdict) → s.verdict ≡ Some v → CausesIfLimit m o s v
 
   untold : (s : State) → s.verdict ≡ None → Told s
   untold s e v f = two_verdicts s v e f
 
-  told_by : (s : State) (v : Verdict) → s.verdict ≡ Some v → HasCauseIfStopped m o s v → Told s
-  told_by s v e h u f = let q : v ≡ u = cc in subst (HasCauseIfStopped m o s) q h
+  told_by : (s : State) (v : Verdict) → s.verdict ≡ Some v → CausesIfLimit m o s v → Told s
+  told_by s v e h u f = let q : v ≡ u = cc in subst (CausesIfLimit m o s) q h
 
   -- the start
   start_told : (s : State) → Starts o s → Told s
@@ -90,7 +89,7 @@ module _ (m : Meaning) (o : Opening) where
   commit_told t _ s u e c (fact_meets {ks = ks} {fs = fs} i q is d x) = meets_told t i (newly_waiting fs (each (λ k. kills i k) ks s)) (λ y. visits i ks fs y) s u e is (visits_stay i ks fs) c x
 
   -- a draw that finds the book closed, or closes it
-  spent_cause : (w : ℕ) (s : State) → Rests m o (closes w (BudgetOut s.counted) s) → Waits s → o.budget ≤ s.counted + s.reserved → HasCauseIfStopped m o (closes w (BudgetOut s.counted) s) (BudgetOut s.counted)
+  spent_cause : (w : ℕ) (s : State) → Rests m o (closes w (BudgetOut s.counted) s) → Waits s → o.budget ≤ s.counted + s.reserved → CausesIfLimit m o (closes w (BudgetOut s.counted) s) (BudgetOut s.counted)
   spent_cause w s r a l =
       let u : State = closes w (BudgetOut s.counted) s in
       let kept = kept_reaches m o u r.reaches in
@@ -98,7 +97,7 @@ module _ (m : Meaning) (o : Opening) where
       is_spent_all (all_counted o u k r.none_out l) k.counted (ends_pairs_once o u kept) r.none_out (waits_in_book (waits_closed s w (BudgetOut s.counted) a))
 
   abbrev IfClosed : Reply → State → Type 0
-  IfClosed (Closed v) u = HasCauseIfStopped m o u v
+  IfClosed (Closed v) u = CausesIfLimit m o u v
   IfClosed r u = Unit {0}
 
   closed_told : (w : ℕ) (s : State) (r : Reply) (u : State) → Told s → Rests m o u → Draws o w s r u → IfClosed r u
@@ -114,24 +113,24 @@ module _ (m : Meaning) (o : Opening) where
   closed_told w s _ _ t k (all_is_done l a b) = tt
 
   -- the audits of a drained book
-  audit_cause : (x : Missing) (s u : State) (v : Verdict) → s.verdict ≡ None → MayAudit m o s x → Rests m o u → Audits o x.fact s (ClosedBy v) u → HasCauseIfStopped m o u v
+  audit_cause : (x : Missing) (s u : State) (v : Verdict) → s.verdict ≡ None → MayAudit m o s x → Rests m o u → Audits o x.fact s (ClosedBy v) u → CausesIfLimit m o u v
   audit_cause x s _ v e a r (is_closed _ f) = two_verdicts s v e f
   audit_cause x s _ _ e a r (is_spent f c) =
       let u : State = closes 0 (BudgetOut s.counted) s in
       let kept = kept_reaches m o u r.reaches in
       is_spent_all c (counts_units o u kept).counted (ends_pairs_once o u kept) r.none_out (waits_for_audit {before = s} x a e refl)
 
-  audits_told : (drained : State) (all xs : List Missing) (s : State) (v : Verdict) (u : State) → s.verdict ≡ None → WereMissing m o drained all xs s → Rests m o u → AuditsAll o xs s (Some v) u → HasCauseIfStopped m o u v
+  audits_told : (drained : State) (all xs : List Missing) (s : State) (v : Verdict) (u : State) → s.verdict ≡ None → WereMissing m o drained all xs s → Rests m o u → AuditsAll o xs s (Some v) u → CausesIfLimit m o u v
   audits_told drained all _ s v t e a r (one_is_kept {x = x} {xs = xs} {u = u} {n = n} b rest) = audits_told drained all xs u v t (audit_leaves o x s u (KeptAs n) b) (missing_on m o drained all xs x s u (KeptAs n) a b) r rest
   audits_told drained all _ s v _ e a r (book_is_closed {x = x} {xs = xs} {u = u} b) = audit_cause x s u v e (may_audit m o drained all xs x s a) r b
 
-  close_told : (drained : State) (outcome : Outcome) (v : Verdict) (u : State) → IsDrained drained → IsFinal m o.axioms drained outcome → Closes drained outcome v u → HasCauseIfStopped m o u v
-  close_told d _ _ _ i f converges = tt
-  close_told d _ _ _ i f has_large = overlap_is_large i f refl
-  close_told d _ _ _ i f has_stuck = goal_is_stuck i f refl
+  close_told : (drained : State) (outcome : Outcome) (v : Verdict) (u : State) → Reaches m o drained → IsDrained drained → IsFinal m o.axioms drained outcome → Closes drained outcome v u → CausesIfLimit m o u v
+  close_told d _ _ _ r i f converges = tt
+  close_told d _ _ _ r i f has_large = overlap_is_large r i f refl
+  close_told d _ _ _ r i f has_stuck = goal_is_stuck r i f refl
 
-  end_told : (drained : State) (v : Verdict) (u : State) → Rests m o drained → IsDrained drained → Rests m o u → EndsRound m o drained (Some v) u → HasCauseIfStopped m o u v
-  end_told d v u k i r (is_closed_by {outcome = outcome} f c) = close_told d outcome v u i f c
+  end_told : (drained : State) (v : Verdict) (u : State) → Rests m o drained → IsDrained drained → Rests m o u → EndsRound m o drained (Some v) u → CausesIfLimit m o u v
+  end_told d v u k i r (is_closed_by {outcome = outcome} f c) = close_told d outcome v u k.reaches i f c
   end_told d v u k i r (audits_missing {missing = xs} f a) =
       audits_told d xs xs d v u i.none_unmet.none_due.open_ (missing_first m o d xs k.reaches i f) r (audits_all o xs d (Some v) u a)
 
@@ -145,13 +144,13 @@ module _ (m : Meaning) (o : Opening) where
     works_told s _ r t no_turn = t
     works_told s v r t (one_more_turn {u = u} a b) = turn_told u v (works_rest m o w few s u r a) b
 
-    round_told : (s : State) (v : Verdict) (u : State) → Rests m o s → Told s → Rounds m o w s (Some v) u → HasCauseIfStopped m o u v
+    round_told : (s : State) (v : Verdict) (u : State) → Rests m o s → Told s → Rounds m o w s (Some v) u → CausesIfLimit m o u v
     round_told s v u r t (gets_verdict a) = closed_told w a.last (Closed v) u (works_told s a.last r t a.works) (closed_rests m o w few s u v r a) a.draws
     round_told s v u r t (gets_drained {drained = d} a b) = end_told d v u (drained_rests m o w few s d r a) (leaves o w a.last Drained d a.draws) (round_rests m o w few s (Some v) u r (gets_drained a b)) b
 
-    search_told : (s : State) (v : Verdict) (u : State) → Rests m o s → Told s → Searches m o w s v u → HasCauseIfStopped m o u v
+    search_told : (s : State) (v : Verdict) (u : State) → Rests m o s → Told s → Searches m o w s v u → CausesIfLimit m o u v
     search_told s v u r t (last_round a) = round_told s v u r t a
     search_told s v y r t (next_round {u = u} a rest) = search_told u v y (round_rests m o w few s None u r a) (untold u (round_verdict m o w s None u a)) rest
 
-    pub searched_told : (v : Verdict) (s : State) → IsSearched m o w v s → HasCauseIfStopped m o s v
+    pub searched_told : (v : Verdict) (s : State) → IsSearched m o w v s → CausesIfLimit m o s v
     searched_told v s a = search_told a.start v s (start_rests m o a.start a.starts) (start_told a.start a.starts) a.searches

@@ -1,4 +1,3 @@
 pub mod Working
 pub mod Searching
-pub mod Causes
 pub mod Bounds

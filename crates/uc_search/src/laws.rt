@@ -4,8 +4,8 @@ ghost use Rattle.std.specs.Prelude.{◌≡◌, ◌<◌, ◌≤◌, ◌+◌, ℕ,
 ghost use Rattle.uc_machine.specs.declared.event.Verdict.{Verdict as AnyVerdict};
 ghost use Rattle.uc_machine.specs.State.{Opening, State};
 ghost use Rattle.uc_machine.specs.Runs.{Reaches};
+ghost use Rattle.uc_runs.specs.Causes.{CausesIfLimit};
 ghost use Rattle.uc_search.specs.Searching.{IsSearched};
-ghost use Rattle.uc_search.specs.Causes.{HasCauseIfStopped};
 ghost use Rattle.uc_search.specs.Bounds.{rounds_in, passes_in, IsBounded};
 
 use uc_order::Order;
@@ -24,7 +24,7 @@ pub fn one_search<O: Order>(order: &O)
 
 /// A search that ends at a limit has its cause.
 pub fn limits_have_causes<O: Order>(order: &O)
-    ensures { (o : Opening) (w : ℕ) (v : AnyVerdict) (s : State) → w < 65 → IsSearched (O.meaning order.now) o w v s → HasCauseIfStopped (O.meaning order.now) o s v }
+    ensures { (o : Opening) (w : ℕ) (v : AnyVerdict) (s : State) → w < 65 → IsSearched (O.meaning order.now) o w v s → CausesIfLimit (O.meaning order.now) o s v }
 {}
 
 /// A search draws few tasks and keeps few audits for its budget, and makes at most one round more than it keeps audits: so at

@@ -21,7 +21,7 @@ use Rattle.uc_machine.specs.declared.event.Verdict.TheVariants.{Saturated}
 use Rattle.uc_machine.specs.State.{Opening, State}
 use Rattle.uc_machine.specs.Runs.{Starts}
 use Rattle.uc_search.specs.Searching.{Searches, IsSearched}
-use Rattle.uc_search.specs.Causes.{HasCause, HasCauseIfStopped}
+use Rattle.uc_runs.specs.Causes.{Causes, CausesIfLimit}
 use Rattle.uc_search.proofs.Caused.{searched_told}
 use Rattle.uc_decide.specs.declared.reply.Reply.{Reply}
 use Rattle.uc_decide.specs.declared.reply.Reply.TheVariants.{Equal, Different, Spent, Grown}
@@ -152,7 +152,7 @@ module _ (table : Table) (command : Command) (name : List ℕ) (words : List (Li
     answer_of s _ _ _ searched (tells_replies d replies right) = is_answered chosen are searched replies
     answer_of s v _ _ searched (tells_limit is) = is_out chosen are searched is
 
-    cause_of : (s : State) (v : Verdict) (line : List ℕ) → IsLimitLine command s v line → HasCauseIfStopped m o s v → HasCause m o s v
+    cause_of : (s : State) (v : Verdict) (line : List ℕ) → IsLimitLine command s v line → CausesIfLimit m o s v → Causes m o s v
     cause_of s _ _ budget_is_spent h = h
     cause_of s _ _ limit_is_passed h = h
     cause_of s _ _ (pair_is_large outer path at place) h = h

@@ -15,8 +15,8 @@ use Rattle.uc_shelf.specs.Entries.{live}
 use Rattle.uc_machine.specs.declared.event.Verdict.{Verdict}
 use Rattle.uc_machine.specs.declared.event.Verdict.TheVariants.{Saturated}
 use Rattle.uc_machine.specs.State.{State}
+use Rattle.uc_runs.specs.Causes.{Causes}
 use Rattle.uc_search.specs.Searching.{IsSearched}
-use Rattle.uc_search.specs.Causes.{HasCause}
 use Rattle.uc_decide.specs.declared.reply.Reply.{Reply}
 use Rattle.uc_decide.specs.Deciding.{Decides}
 use Rattle.uc_decide.specs.Asking.{IsVerdict}
@@ -56,7 +56,7 @@ pub record IsOut (table : Table) (command : Command) (name : List ℕ) (problem 
   pub verdict : Verdict
   pub state : State
   pub searched : IsSearched (meaning_of table spec) (opening_of_axioms command problem) 0 verdict state
-  pub cause : HasCause (meaning_of table spec) (opening_of_axioms command problem) state verdict
+  pub cause : Causes (meaning_of table spec) (opening_of_axioms command problem) state verdict
   pub line : List ℕ
   pub line_is : IsLimitLine command state verdict line
   pub status_is : status ≡ 2
