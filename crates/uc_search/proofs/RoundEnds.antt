@@ -1,10 +1,12 @@
 -- The end of a round.
 use Rattle.std.proofs.Common.{◌≡◌, ℕ, ◌<◌, ◌^◌, List, Option, Result, Ok, Err, IfOk, Some, sym, ◌∙◌, subst}
-use Rattle.std.specs.Prelude.{OnOk}
+use Rattle.std.specs.Prelude.{OnOk, OnErr}
 use Rattle.uc_order.specs.Laws.{Meaning}
 use Rattle.uc_term.specs.declared.equation.Equation.{Equation}
 use Rattle.uc_machine.specs.declared.event.Verdict.{Verdict}
+use Rattle.uc_machine.specs.declared.task.Missing.{Missing}
 use Rattle.uc_machine.specs.declared.task.Outcome.{Outcome}
+use Rattle.uc_machine.specs.declared.task.Outcome.TheVariants.{Missing as Lacks}
 use Rattle.uc_machine.specs.State.{Opening, State}
 use Rattle.uc_machine.specs.Events.{commits_by}
 use Rattle.uc_machine.specs.Draws.{Drained as IsDrainedReply, Closed as IsClosedReply}
@@ -13,7 +15,7 @@ use Rattle.uc_machine.specs.Runs.{Closes, IsDrained}
 use Rattle.uc_search.specs.declared.working.Ended.{Ended}
 use Rattle.uc_search.specs.declared.working.Ended.TheVariants.{Drained, Closed}
 use Rattle.uc_search.specs.Working.{WorksUntil, EndsAlone, drains, finds_closed}
-use Rattle.uc_search.specs.Searching.{EndsRound, is_closed_by, gets_verdict, gets_drained}
+use Rattle.uc_search.specs.Searching.{AuditsSome, EndsRound, is_closed_by, CutsRound, while_auditing, gets_verdict, gets_drained}
 use Rattle.uc_search.specs.Bounds.{CountedRound, counted_on}
 use Rattle.uc_search.proofs.Passes.{none_counted}
 use Rattle.uc_search.proofs.Turns.{leaves}
@@ -71,3 +73,13 @@ module _ (m : Meaning) (o : Opening) (w : ℕ) where
 pub both_of : {T E : Type 0} (P : T → Type 0) (Q : Type 0) (r : Result T E) → IfOk r P → OnOk r Q → IfOk r (λ x. P x × Q)
 both_of P Q (Ok x) p q = (p, q)
 both_of P Q (Err e) p q = p
+
+-- what was audited before memory was refused
+pub cut_short : {T E : Type 0} (m : Meaning) (o : Opening) (xs : List Missing) (s u : State) (r : Result T E) → IsFinal m o.axioms s (Lacks xs) → OnErr r (AuditsSome o xs s u) → OnErr r (CutsRound m o s u)
+cut_short m o xs s u (Ok x) f a = tt
+cut_short m o xs s u (Err e) f a = while_auditing f a
+
+-- what holds anyway, holds of a refusal
+pub on_err : {T E X : Type 0} (r : Result T E) → X → OnErr r X
+on_err (Ok x) h = tt
+on_err (Err e) h = h

@@ -19,6 +19,11 @@ pub record AuditsMissing (o : Opening) (all : List Missing) (drained : State) (v
   pub verdict : new.verdict ≡ v
   pub whole : v ≡ None → left ≡ []
 
+-- The first of these equations were audited in order since the book was drained, if any were.
+pub record AuditsSome (o : Opening) (all : List Missing) (drained new : State) : Type 0 where
+  pub left : List Missing
+  pub audited : AreAudited o all drained left new
+
 -- By this order, in a book with this opening.
 module _ (m : Meaning) (o : Opening) where
   -- The end of a round over a drained book, where the final pass is made. What is missing is audited; where anything else is the
@@ -26,6 +31,12 @@ module _ (m : Meaning) (o : Opening) where
   pub data EndsRound (drained : State) : Option Verdict → State → Type 0 where
     is_closed_by : {outcome : Outcome} {v : Verdict} {new : State} → IsFinal m o.axioms drained outcome → Closes drained outcome v new → EndsRound drained (Some v) new
     audits_missing : {missing : List Missing} {v : Option Verdict} {new : State} → IsFinal m o.axioms drained (Lacks missing) → AuditsMissing o missing drained v new → EndsRound drained v new
+
+  -- What the end of a round leaves where memory is refused: before the final pass has answered, nothing changed; after that, the
+  -- first equations of those that are missing were audited.
+  pub data CutsRound (drained : State) : State → Type 0 where
+    before_answer : CutsRound drained drained
+    while_auditing : {missing : List Missing} {new : State} → IsFinal m o.axioms drained (Lacks missing) → AuditsSome o missing drained new → CutsRound drained new
 
 -- By this order, in a book with this opening, the worker of this number.
 module _ (m : Meaning) (o : Opening) (w : ℕ) where

@@ -11,5 +11,5 @@ mod working;
 pub use computing::compute;
 pub use facts::{all_facts, live_system};
 pub use laws::{limits_have_causes, one_search, search_is_a_run, searches_are_bounded};
-pub use rounds::{search_alone, search_counting};
+pub use rounds::{end_round, search_alone, search_counting};
 pub use working::{Ended, work_alone};

@@ -1,6 +1,6 @@
 //! The rounds of a search.
 
-ghost use Rattle.std.specs.Prelude.{◌≡◌, ◌<◌, ◌^◌, ℕ, [], Some, IfOk, IfErr, OnOk};
+ghost use Rattle.std.specs.Prelude.{◌≡◌, ◌<◌, ◌^◌, ℕ, [], Some, IfOk, IfErr, OnOk, OnErr};
 ghost use Rattle.uc_book.specs.Openings.{opening_of};
 ghost use Rattle.uc_book.specs.Answers.{IsSameBook, IsAnEnd};
 ghost use Rattle.uc_machine.specs.Events.{commits_by};
@@ -8,7 +8,7 @@ ghost use Rattle.uc_machine.specs.Finals.{IsFinal};
 ghost use Rattle.uc_machine.specs.Runs.{IsDrained, Reaches};
 ghost use Rattle.uc_machine.specs.declared.task.Outcome.TheVariants.{Missing as Lacks};
 ghost use Rattle.uc_search.specs.Working.{Counts, IsSamePass};
-ghost use Rattle.uc_search.specs.Searching.{AuditsMissing, EndsRound, Searches};
+ghost use Rattle.uc_search.specs.Searching.{AuditsMissing, AuditsSome, EndsRound, CutsRound, Searches};
 ghost use Rattle.uc_search.specs.Bounds.{CountedRound, CountedSearch, counted_on};
 
 use crate::working::{Ended, has_few_commits, work_alone};
@@ -115,8 +115,9 @@ fn round<R: Wait, O: Order>(
     }
 }
 
-/// Makes the final pass over a drained book: audits what is missing, or closes the book.
-fn end_round<R: Wait, O: Order>(
+/// Makes the final pass over a drained book: audits what is missing, or closes the book. None where no verdict stands then. It
+/// counts the final pass. Where memory is refused, the first of the equations that are missing may have been audited.
+pub fn end_round<R: Wait, O: Order>(
     rt: &R,
     alloc: Global,
     book: &mut Book<O>,
@@ -133,6 +134,7 @@ fn end_round<R: Wait, O: Order>(
     ensures out { book.new.state.out ≡ book.old.state.out }
     ensures commits { (w : ℕ) → commits_by w book.new.state.history ≡ commits_by w book.old.state.history }
     ensures book { IsSameBook book.old book.new }
+    ensures err { OnErr result (CutsRound (O.meaning book.old.order) (opening_of book.old.opening) book.old.state book.new.state) }
 {
     let stages = book.stages(alloc)?;
     let front = book.front();
@@ -179,6 +181,7 @@ fn audit_all<R: Wait, O: Order>(
     ensures out { book.new.state.out ≡ book.old.state.out }
     ensures commits { (w : ℕ) → commits_by w book.new.state.history ≡ commits_by w book.old.state.history }
     ensures book { IsSameBook book.old book.new }
+    ensures err { OnErr result (AuditsSome (opening_of book.old.opening) all book.old.state book.new.state) }
 {
     is_reached(book);
     for missing in all.into_vec() {

@@ -4,7 +4,9 @@ use Rattle.uc_machine.specs.State.{State}
 use Rattle.uc_machine.specs.Events.{commits_by}
 use Rattle.uc_book.specs.declared.answer.Audited.TheVariants.{Kept, Closed}
 use Rattle.uc_book.specs.Openings.{opening_of}
+use Rattle.uc_search.specs.Searching.{AuditsSome}
 use Rattle.uc_search.proofs.AllAudits.{Auditing, auditing_starts, next_may, auditing_on, auditing_closes, auditing_ends}
+use Rattle.uc_search.proofs.RoundEnds.{on_err}
 use Rattle.uc_search.proofs.Moved.{book_state, same_book_on, moved_may, audits_as}
 use Rattle.uc_search.proofs.rounds.audit_all.Goals as goal
 
@@ -77,3 +79,8 @@ returns-clause-audited g c =
     let rest = c.loop-missing.missing-iterator.rest.items in
     let none = empty rest (sym c.loop-missing.missing-iterator.rest.ok.0 ∙ c.in-None.ensures.steps.0) in
     (auditing_ends (g.O.Order.meaning a.order) (opening_of a.opening) a.state c.args.all rest b.state none c.loop-missing.invariant.2).audits
+
+pub returns-in_err-verdict-clause-err : goal.returns-in_err-verdict-clause-err
+returns-in_err-verdict-clause-err g c =
+    let a = c.args.book.now in
+    on_err c.from_residual.result (subst (AuditsSome (opening_of a.opening) c.args.all a.state) (sym (book_state c.loop-missing.book c.audit.new.self c.in_err-verdict.ensures.err)) (record { left = c.loop-missing.missing-iterator.rest.items; audited = c.loop-missing.invariant.2.missing.audited }))
