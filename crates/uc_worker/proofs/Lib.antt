@@ -1,0 +1,6 @@
+pub mod Totals
+pub mod Others
+pub mod Kept
+pub mod Enrolling
+pub mod Starting
+pub mod Ending

@@ -1,0 +1,95 @@
+//! What each worker does.
+
+ghost use Rattle.std.specs.Prelude.{◌≡◌, ◌≤◌, Some};
+ghost use Rattle.uc_search.specs.Working.{IsToCompute};
+
+use crate::held::{Hand, Held};
+use crate::naming::NamesOrder;
+use std::alloc::{AllocError, Global};
+use std::sync::{Condvar, Mutex, Wait};
+use uc_book::{CommitFault, Drawn, Task};
+use uc_edge::Gate;
+use uc_order::Order;
+use uc_problem::Encoded;
+use uc_search::{Ended, compute};
+use uc_shelf::Shelf;
+
+/// Draws task after task under the lock, computes each with no lock and commits its result under the lock. Where a task is out
+/// and none may be drawn, it waits. For want of memory its task waits again, and it wakes the others and ends.
+pub fn work<'a, O: Order, K: NamesOrder<O>, G: Gate, R: Wait>(
+    rt: &R,
+    alloc: Global,
+    held: &Mutex<Held<'a, O, K>>,
+    ready: &Condvar,
+    shelf: &Shelf,
+    problem: &Encoded,
+    order: &O,
+    hand: &mut Hand<K>,
+    gate: &G,
+) -> Ended
+    requires problem { problem.now ≡ K.opening.problem }
+    requires shelf { shelf.now ≡ K.opening.shelf }
+    requires order { Some order.now ≡ K.order }
+    ensures worker { hand.new.worker ≡ hand.old.worker }
+    ensures commits { hand.old.commits ≤ hand.new.commits }
+{
+    for _ in rt.forever() {
+        let mut guard = held.lock(rt);
+        match guard.draw(alloc, hand) {
+            Ok(Drawn::Task(task)) => {
+                drop(guard);
+                gate.pass(hand.worker(), task.ticket);
+                let ended = finish(rt, alloc, held, shelf, problem, order, hand, &task);
+                if ended.is_err() {
+                    let _ = held.lock(rt).reclaim(hand, task.ticket);
+                    ready.notify_all();
+                    return Ended::NoMemory;
+                }
+                ready.notify_all();
+            }
+            Ok(Drawn::Idle(_)) => drop(ready.wait(rt, guard)),
+            Ok(Drawn::Drained) => {
+                drop(guard);
+                ready.notify_all();
+                return Ended::Drained;
+            }
+            Ok(Drawn::Closed(_)) => {
+                drop(guard);
+                ready.notify_all();
+                return Ended::Closed;
+            }
+            Err(_) => {
+                drop(guard);
+                ready.notify_all();
+                return Ended::NoMemory;
+            }
+        }
+    }
+    unreachable!()
+}
+
+/// Computes a task with no lock, and commits its result under the lock. Where the task is no longer out, the result is dropped.
+fn finish<'a, O: Order, K: NamesOrder<O>, R: Wait>(
+    rt: &R,
+    alloc: Global,
+    held: &Mutex<Held<'a, O, K>>,
+    shelf: &Shelf,
+    problem: &Encoded,
+    order: &O,
+    hand: &mut Hand<K>,
+    task: &Task,
+) -> Result<(), AllocError>
+    requires problem { problem.now ≡ K.opening.problem }
+    requires shelf { shelf.now ≡ K.opening.shelf }
+    requires order { Some order.now ≡ K.order }
+    requires task { IsToCompute (O.meaning order.now) K.opening task.now }
+    ensures worker { hand.new.worker ≡ hand.old.worker }
+    ensures commits { hand.old.commits ≤ hand.new.commits }
+{
+    let done = compute(alloc, task, shelf, problem, order)?;
+    match held.lock(rt).commit(rt, alloc, hand, done) {
+        Ok(_) => Ok(()),
+        Err((_, CommitFault::NotOut(_))) => Ok(()),
+        Err((_, CommitFault::NoMemory)) => Err(AllocError),
+    }
+}
