@@ -22,3 +22,4 @@ pub mod SearchLonger
 pub mod SearchLevels
 pub mod SearchGoing
 pub mod ReadBack
+pub mod VerdictOnce

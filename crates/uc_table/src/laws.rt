@@ -1,11 +1,14 @@
 //! Laws over the definitions, each the contract of a function that does nothing.
 
-ghost use Rattle.std.specs.Prelude.{List};
+ghost use Rattle.std.specs.Prelude.{◌≡◌, ◌≤◌, List};
 ghost use Rattle.uc_term.specs.declared.node.Sym.{Sym};
 ghost use Rattle.uc_term.specs.declared.equation.Equation.{Equation};
 ghost use Rattle.uc_term.specs.Table.{Table as SymbolTable};
 ghost use Rattle.uc_term.specs.Conversion.{Follows};
+ghost use Rattle.uc_clause.specs.declared.clause.Sourced.{Sourced};
 ghost use Rattle.uc_table.specs.declared.table.Table.{Table as AnyTable};
+ghost use Rattle.uc_table.specs.declared.answers.Tabled.{Tabled as AnyTabled};
+ghost use Rattle.uc_table.specs.Checks.{Checks};
 ghost use Rattle.uc_table.specs.Tables.{IsTableOf};
 ghost use Rattle.uc_table.specs.Models.{SatisfiesAll, KeepsApart};
 
@@ -14,4 +17,10 @@ ghost use Rattle.uc_table.specs.Models.{SatisfiesAll, KeepsApart};
 /// arguments: where the table has no cell, the value is 0.
 pub fn model_refutes()
     ensures { (symbols : SymbolTable) (signature : List Sym) (table : AnyTable) (axioms : List Equation) (goal : Equation) → IsTableOf symbols signature table → SatisfiesAll table axioms → KeepsApart table goal → Follows axioms goal → ⊥ }
+{}
+
+/// A table with a value is one thing to the clauses of a problem. So each contract that names this says exactly where each answer
+/// comes.
+pub fn one_verdict()
+    ensures { (table : AnyTable) (clauses : List Sourced) (a b : AnyTabled) → 1 ≤ table.size → Checks table clauses a → Checks table clauses b → a ≡ b }
 {}

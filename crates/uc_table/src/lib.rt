@@ -23,7 +23,7 @@ mod table;
 pub use answers::{Searched, Tabled};
 pub use checking::check_table;
 pub use fault::TableFault;
-pub use laws::model_refutes;
+pub use laws::{model_refutes, one_verdict};
 pub use printing::print_table;
 pub use reading::read_table;
 pub use table::{MAX_ASSIGNMENTS, MAX_CELLS, MAX_SIZE, Table};
