@@ -23,3 +23,5 @@ pub mod SearchLevels
 pub mod SearchGoing
 pub mod ReadBack
 pub mod VerdictOnce
+pub mod SearchLayouts
+pub mod SearchMeaning

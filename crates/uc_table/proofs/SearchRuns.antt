@@ -70,7 +70,7 @@ values_get size n [] d a l = absurd (omega arith)
 values_get size zero (v ∷ vs) d a l = a.0
 values_get size (suc n) (v ∷ vs) d a l = values_get size n vs d a.1 (omega arith)
 
-not_lt : (m n : ℕ) → n ≤ m → nat_lt m n ≡ false
+pub not_lt : (m n : ℕ) → n ≤ m → nat_lt m n ≡ false
 not_lt m n h = elim (cases_Bool (nat_lt m n)) [
   | inl b ↦ (let l : m < n = ltb-true m n b in absurd (omega arith))
   | inr b ↦ b

@@ -17,3 +17,4 @@ pub mod SearchWaiting
 pub mod SearchInstances
 pub mod SearchState
 pub mod Printable
+pub mod SearchForms

@@ -66,7 +66,7 @@ fn see_few(clauses: &[Sourced], axioms: &[u32], goals: &[u32])
 }
 
 // The number of the first clause with more than 16,777,216 assignments.
-fn first_with_too_many(clauses: &[Sourced], size: u32) -> Option<u32>
+pub(crate) fn first_with_too_many(clauses: &[Sourced], size: u32) -> Option<u32>
     requires some { 1 ≤ size }
     requires few { length clauses.now ≤ 2 ^ 32 }
     ensures { MatchOption result (AreFewEnough size clauses.now) (λ k. (s : AnySourced) × IsFirstAt (HasFewEnough size) (HasTooMany size) clauses.now k s) }
@@ -87,7 +87,7 @@ fn has_too_many(sourced: &Sourced, size: u32) -> bool
 }
 
 // How many variables a clause has.
-fn variable_count(clause: &Clause) -> usize
+pub(crate) fn variable_count(clause: &Clause) -> usize
     ensures { result ≡ variable_count (equation_of clause.now) }
 {
     let left = variables_in(&clause.left);

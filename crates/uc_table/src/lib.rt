@@ -15,6 +15,7 @@ mod places;
 mod printing;
 mod reading;
 mod search_instances;
+mod search_layout;
 mod search_size;
 mod search_steps;
 mod search_waiting;
