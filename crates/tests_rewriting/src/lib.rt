@@ -1,5 +1,5 @@
-//! Tests of the public calls of matching and unification, the orders, facts, rewriting, overlaps, ground joinability and
-//! questions. The crate stands above those, so that each of them is proved once.
+//! Tests of the public calls of matching and unification, the orders, facts, rewriting, what is found for a term,
+//! overlaps, ground joinability and questions. The crate stands above those, so that each of them is proved once.
 #![tactic(auto)]
 
 #[cfg(test)]
@@ -10,6 +10,8 @@ mod comparing;
 mod deciding;
 #[cfg(test)]
 mod facts;
+#[cfg(test)]
+mod finding;
 #[cfg(test)]
 mod joining;
 #[cfg(test)]
