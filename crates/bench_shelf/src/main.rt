@@ -1,5 +1,6 @@
-//! Asks a front of facts by chance which of them a term is an instance of, to be timed. Of the two words the first one says how
-//! many facts there are, and the second how many terms are asked for.
+//! Asks a front of facts by chance which of them a term is an instance of, to be timed. Of the three words the first one says how
+//! many facts there are, the second for how many terms all that are found are made and then the first one, and the third for how
+//! many terms the first one alone is made.
 #![tactic(auto)]
 
 mod facts;
@@ -11,12 +12,13 @@ use std::rt::Env;
 use std::sync::Wait;
 use std::{env, io};
 use uc_fact::{Found, Index, Side, Test};
-use uc_shelf::{Front, Shelf};
+use uc_shelf::{Front, Shelf, View};
+use uc_term::Term;
 
 // The number that each word says, 0 where it says none.
-fn numbers(rt: &(impl Env + AllocGlobal)) -> io::Result<[u64; 2]> {
+fn numbers(rt: &(impl Env + AllocGlobal)) -> io::Result<[u64; 3]> {
     let mut words = env::args(rt)?.skip(1);
-    let mut numbers = [0; 2];
+    let mut numbers = [0; 3];
     for number in &mut numbers {
         *number = match words.next() {
             Some(word) => word.parse::<u64>().unwrap_or(0),
@@ -62,8 +64,41 @@ impl Test for Anything {
     }
 }
 
+// Makes all that is found for a term. Whether there was memory.
+fn make_all(view: &View, alloc: Global, term: &Term) -> bool {
+    match view.first_that(alloc, term.as_nodes(), &Nothing) {
+        Ok(None) => true,
+        _ => false,
+    }
+}
+
+// Whether a term is an instance of a side, of which the first is made.
+fn is_found(view: &View, alloc: Global, term: &Term) -> Option<bool> {
+    Some(
+        view.first_that(alloc, term.as_nodes(), &Anything)
+            .ok()?
+            .is_some(),
+    )
+}
+
 // How many of the terms are an instance of a side.
-fn work<R: Wait>(rt: &R, alloc: Global, numbers: [u64; 2]) -> Option<u64> {
+fn ask(view: &View, alloc: Global, random: &mut Random, all: u64, first: u64) -> Option<u64> {
+    let mut found: u64 = 0;
+    for round in 0..all {
+        let term = term_by_chance(alloc, random, true).ok()?;
+        if !make_all(view, alloc, &term) {
+            return None;
+        }
+        found = found.saturating_add(is_found(view, alloc, &term)? as u64);
+    }
+    for round in 0..first {
+        let term = term_by_chance(alloc, random, true).ok()?;
+        found = found.saturating_add(is_found(view, alloc, &term)? as u64);
+    }
+    Some(found)
+}
+
+fn work<R: Wait>(rt: &R, alloc: Global, numbers: [u64; 3]) -> Option<u64> {
     let mut random = Random { state: 7 };
     let shelf = Shelf::new(alloc).ok()?;
     let mut front = Front::empty(alloc);
@@ -71,25 +106,7 @@ fn work<R: Wait>(rt: &R, alloc: Global, numbers: [u64; 2]) -> Option<u64> {
         return None;
     }
     let view = shelf.view(&front);
-    let mut found: u64 = 0;
-    for round in 0..numbers[1] {
-        let term = term_by_chance(alloc, &mut random, true).ok()?;
-        if view
-            .first_that(alloc, term.as_nodes(), &Nothing)
-            .ok()?
-            .is_some()
-        {
-            return None;
-        }
-        if view
-            .first_that(alloc, term.as_nodes(), &Anything)
-            .ok()?
-            .is_some()
-        {
-            found = found.saturating_add(1);
-        }
-    }
-    Some(found)
+    ask(&view, alloc, &mut random, numbers[1], numbers[2])
 }
 
 fn main(rt: HostRuntime) -> io::Result<()> {
