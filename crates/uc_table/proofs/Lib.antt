@@ -25,3 +25,9 @@ pub mod ReadBack
 pub mod VerdictOnce
 pub mod SearchLayouts
 pub mod SearchMeaning
+pub mod SearchDigits
+pub mod SearchRefuting
+pub mod SearchMoved
+pub mod SearchRows
+pub mod SearchEnds
+pub mod SearchWhole

@@ -2,10 +2,15 @@
 use Rattle.std.proofs.Common.{◌≡◌, ◌≢◌, ℕ, ◌+◌, ◌≤◌, ◌<◌, List, [], ◌∷◌, ◌++◌, length, refl, ap, sym, ◌∙◌, arith, subst, length-append}
 use Rattle.uc_table.specs.declared.search_size.Rules.{Rules}
 use Rattle.uc_table.specs.declared.search_size.State.{State}
+use Rattle.std.specs.Prelude.{slice_get, Some}
+use Rattle.uc_table.specs.declared.search_instances.Form.{Form}
+use Rattle.uc_table.specs.Tables.{AreValues, MOST_CELLS}
 use Rattle.uc_table.specs.SearchPrefixes.{front, AreAll}
-use Rattle.uc_table.specs.SearchState.{IsOpenState, IsRefutedIn, AreSeen, GoesOn, IsWhole, StepsBack, EndsFound, EndsNone, EndsSpent}
+use Rattle.uc_table.specs.SearchWaiting.{IsWell}
+use Rattle.uc_table.specs.SearchInstances.{AreOf, AreSettled}
+use Rattle.uc_table.specs.SearchState.{AreLevels, IsOpenState, IsRefutedIn, AreSeen, GoesOn, IsWhole, StepsBack, EndsFound, EndsNone, EndsSpent, AreStepsOf, IsReady}
 use Rattle.uc_table.proofs.SearchOrder.{front_last}
-use Rattle.uc_table.proofs.SearchVisits.{At, seen_start, visits_next, first_seen, further, seen_refuted, seen_deeper, seen_found, seen_back, seen_all, none_open}
+use Rattle.uc_table.proofs.SearchVisits.{At, seen_start, visits_next, first_seen, further, seen_refuted, seen_deeper, seen_found, seen_back, seen_all, none_open, refuted_all, refuted_none}
 use Rattle.uc_table.proofs.SearchLonger.{refuted_more, settled_open}
 use Rattle.uc_table.proofs.SearchLevels.{top_settled}
 
@@ -132,3 +137,28 @@ module _ (rules : Rules) where
     due = visits_next rules.size rules.cells (IsRefutedIn rules) more s.prefix.items value g.ps (at_open s g.open_is) g.seen l g.room;
     further = further rules.size rules.cells (IsRefutedIn rules) more s.prefix.items value g.ps g.seen;
   }
+
+  -- the empty prefix is refuted
+  pub ends_refuted : (budget : ℕ) → IsRefutedIn rules [] → EndsNone rules budget 0
+  ends_refuted budget h = record {
+    ps = [];
+    all = refuted_all rules.size rules.cells (IsRefutedIn rules) more h;
+    none = refuted_none rules.size rules.cells (IsRefutedIn rules) more h;
+    count_is = refl;
+    within = omega arith;
+  }
+
+  pub open_start : (s : State) → s.prefix.items ≡ [] → s.marks.items ≡ [] → IsWell s.waiting → AreOf rules.forms.items s.waiting.entries.items → AreSettled rules.size [] rules.forms.items s.waiting.entries.items → IsOpenState rules s
+  open_start s p m w o h = record {
+    sound = record {
+      well = w;
+      of = o;
+      values = subst (AreValues rules.size) (sym p) tt;
+      as_many = ap length m ∙ sym (ap length p);
+      short = (let e : length s.prefix.items ≡ 0 = ap length p in omega arith);
+    };
+    levels = subst (λ z. AreLevels rules z s.marks.items (length z) s.waiting.entries.items) (sym p) h;
+  }
+
+pub ready : (rules : Rules) (room n : ℕ) → 0 < rules.size → rules.cells ≤ MOST_CELLS → AreStepsOf rules → ((k : ℕ) (f : Form) → slice_get rules.forms.items k ≡ Some f → length f.steps.items ≤ n) → n ≡ room → IsReady room rules
+ready rules room n s l h r e = record { some = s; few = l; forms = λ k f g. record { steps = h k f g; short = subst (λ z. length f.steps.items ≤ z) e (r k f g) } }

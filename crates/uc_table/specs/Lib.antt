@@ -18,3 +18,4 @@ pub mod SearchInstances
 pub mod SearchState
 pub mod Printable
 pub mod SearchForms
+pub mod SearchSizes

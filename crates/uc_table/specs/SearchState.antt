@@ -1,6 +1,8 @@
 -- The state of a search at one size, and what the search of that size ends with.
-use Rattle.std.specs.Prelude.{ℕ, zero, suc, ◌≡◌, ◌+◌, ◌-◌, ◌<◌, ◌≤◌, List, [], ◌∷◌, ◌++◌, length, take, get_or}
+use Rattle.std.specs.Prelude.{ℕ, zero, suc, ◌≡◌, ◌+◌, ◌-◌, ◌<◌, ◌≤◌, List, [], ◌∷◌, ◌++◌, length, take, get_or, slice_get, Some}
+use Rattle.uc_table.specs.SearchSteps.{AreSteps}
 use Rattle.uc_table.specs.declared.search_waiting.Entry.{Entry}
+use Rattle.uc_table.specs.declared.search_instances.Form.{Form}
 use Rattle.uc_table.specs.declared.search_size.Rules.{Rules}
 use Rattle.uc_table.specs.declared.search_size.State.{State}
 use Rattle.uc_table.specs.declared.search_size.End.{End}
@@ -97,3 +99,7 @@ module _ (rules : Rules) (budget : ℕ) where
   Ends table (ends.Found count) = EndsFound table count
   Ends table (ends.None count) = EndsNone count
   Ends table ends.Spent = EndsSpent
+
+-- the steps of each clause can be run
+abbrev pub AreStepsOf : Rules → Type 0
+AreStepsOf rules = (k : ℕ) (f : Form) → slice_get rules.forms.items k ≡ Some f → AreSteps rules.size f.steps.items

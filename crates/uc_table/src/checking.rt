@@ -55,7 +55,7 @@ pub fn check_table(
 }
 
 // Tells of clauses whose numbers have 32 bits how few they are.
-fn see_few(clauses: &[Sourced], axioms: &[u32], goals: &[u32])
+pub(crate) fn see_few(clauses: &[Sourced], axioms: &[u32], goals: &[u32])
     requires axioms { axioms.now ≡ numbers_of true 0 clauses.now }
     requires goals { goals.now ≡ numbers_of false 0 clauses.now }
     ensures { length clauses.now ≤ 2 ^ 32 }

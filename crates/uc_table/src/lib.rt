@@ -19,6 +19,7 @@ mod search_layout;
 mod search_size;
 mod search_steps;
 mod search_waiting;
+mod searching;
 mod table;
 
 pub use answers::{Searched, Tabled};
@@ -27,4 +28,5 @@ pub use fault::TableFault;
 pub use laws::{model_refutes, one_verdict};
 pub use printing::print_table;
 pub use reading::read_table;
+pub use searching::search;
 pub use table::{MAX_ASSIGNMENTS, MAX_CELLS, MAX_SIZE, Table};
