@@ -5,7 +5,7 @@ ghost use Rattle.uc_term.specs.Table.{Has};
 ghost use Rattle.uc_order.specs.Members.{Each};
 ghost use Rattle.uc_kbo.specs.Faults.{HasConstant};
 
-use std::alloc::Global;
+use std::alloc::{AllocError, Global};
 use uc_kbo::Kbo;
 use uc_term::{Sym, Symbols};
 
@@ -13,6 +13,9 @@ use uc_term::{Sym, Symbols};
 pub const F: Sym = Sym(1);
 
 const PRECEDENCE: [Sym; 2] = [Sym(0), F];
+
+// Their names, in the order of their numbers, with the numbers of their arguments.
+const NAMES: &[(&[u8], u32)] = &[(b"a", 0), (b"f", 2)];
 
 // Whether the table has all symbols of the list.
 fn are_known(symbols: &Symbols, list: &[Sym]) -> bool
@@ -39,11 +42,17 @@ fn has_constant(symbols: &Symbols, list: &[Sym]) -> bool
     false
 }
 
+fn symbols(alloc: Global) -> Result<Symbols, AllocError> {
+    let mut symbols = Symbols::new(alloc);
+    for (name, arity) in NAMES {
+        symbols.intern(alloc, name, *arity)?;
+    }
+    Ok(symbols)
+}
+
 /// The order, if there is memory.
 pub fn default_order(alloc: Global) -> Option<Kbo> {
-    let mut symbols = Symbols::new(alloc);
-    symbols.intern(alloc, b"a", 0).ok()?;
-    symbols.intern(alloc, b"f", 2).ok()?;
+    let symbols = symbols(alloc).ok()?;
     let signature = PRECEDENCE;
     if !are_known(&symbols, &signature) || !has_constant(&symbols, &signature) {
         return None;

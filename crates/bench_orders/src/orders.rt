@@ -22,12 +22,15 @@ pub const I: Sym = Sym(2);
 
 const PRECEDENCE: [Sym; 3] = [E, M, I];
 
+// Their names, in the order of their numbers, with the numbers of their arguments.
+const NAMES: &[(&[u8], u32)] = &[(b"e", 0), (b"m", 2), (b"i", 1)];
+
 /// The table of the three symbols.
 pub fn symbols(alloc: Global) -> Result<Symbols, AllocError> {
     let mut symbols = Symbols::new(alloc);
-    symbols.intern(alloc, b"e", 0)?;
-    symbols.intern(alloc, b"m", 2)?;
-    symbols.intern(alloc, b"i", 1)?;
+    for (name, arity) in NAMES {
+        symbols.intern(alloc, name, *arity)?;
+    }
     Ok(symbols)
 }
 

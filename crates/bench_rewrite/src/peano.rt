@@ -21,12 +21,14 @@ const TIMES: Sym = Sym(3);
 
 const PRECEDENCE: [Sym; 4] = [ZERO, S, PLUS, TIMES];
 
+// Their names, in the order of their numbers, with the numbers of their arguments.
+const NAMES: &[(&[u8], u32)] = &[(b"zero", 0), (b"s", 1), (b"plus", 2), (b"times", 2)];
+
 fn symbols(alloc: Global) -> Result<Symbols, AllocError> {
     let mut symbols = Symbols::new(alloc);
-    symbols.intern(alloc, b"zero", 0)?;
-    symbols.intern(alloc, b"s", 1)?;
-    symbols.intern(alloc, b"plus", 2)?;
-    symbols.intern(alloc, b"times", 2)?;
+    for (name, arity) in NAMES {
+        symbols.intern(alloc, name, *arity)?;
+    }
     Ok(symbols)
 }
 

@@ -141,14 +141,20 @@ fn chain_line(g: Global, row: Row) -> Result<Line, Fail> {
 
 // f(a) = b by the axiom, which the goal denies
 fn proof_of(g: Global, row: Row) -> Result<Proof, Fail> {
-    let axiom = if row.axiom { A } else { B };
-    let first = file_line(g, "ax", true, f(g, constant(g, axiom)?)?, B)?;
-    let second = file_line(g, "g", false, f(g, constant(g, A)?)?, B)?;
-    let mut lines = Seq::from_vec(vec![in g; first, second, chain_line(g, row)?]?);
+    let mut lines = Seq::from_vec(first_lines(g, row.axiom)?);
+    lines.push(chain_line(g, row)?)?;
     if row.refuted {
         lines.push(refute(g, &[1, 2])?)?;
     }
     Ok(Proof { lines })
+}
+
+// The line of the axiom, which may be of the wrong constant, and that of the goal.
+fn first_lines(g: Global, axiom: bool) -> Result<Vec<Line>, Fail> {
+    let argument = if axiom { A } else { B };
+    let first = file_line(g, "ax", true, f(g, constant(g, argument)?)?, B)?;
+    let second = file_line(g, "g", false, f(g, constant(g, A)?)?, B)?;
+    Ok(vec![in g; first, second]?)
 }
 
 #[test]
@@ -222,25 +228,26 @@ fn first_line_that_fails(rt: HostRuntime) -> Result<(), Fail> {
 
 // true = eq(f(b),f(b)) = eq(f(b),a) = false
 fn encoded_chain(g: Global) -> Result<Line, Fail> {
-    let twice = eq(g, f(g, constant(g, B)?)?, f(g, constant(g, B)?)?)?;
-    let once = eq(g, f(g, constant(g, B)?)?, constant(g, A)?)?;
-    let steps = vec![in g;
-        step(g, 2, false, &[], twice)?,
-        step(g, 0, true, &[2], once)?,
-        step(g, 3, true, &[], constant(g, MARKS.no)?)?,
-    ]?;
     let source = LineSource::Chain {
         start: constant(g, MARKS.yes)?,
-        steps: Seq::from_vec(steps),
+        steps: Seq::from_vec(encoded_steps(g)?),
         parents: numbers(g, &[2, 0, 3])?,
     };
-    Ok(line(
-        g,
-        source,
-        true,
-        constant(g, MARKS.yes)?,
-        constant(g, MARKS.no)?,
-    ))
+    let left = constant(g, MARKS.yes)?;
+    Ok(line(g, source, true, left, constant(g, MARKS.no)?))
+}
+
+fn encoded_steps(g: Global) -> Result<Vec<LineStep>, Fail> {
+    let twice = eq(g, f_of_b(g)?, f_of_b(g)?)?;
+    let mut steps = vec![in g; step(g, 2, false, &[], twice)?]?;
+    let once = eq(g, f_of_b(g)?, constant(g, A)?)?;
+    steps.push(step(g, 0, true, &[2], once)?)?;
+    steps.push(step(g, 3, true, &[], constant(g, MARKS.no)?)?)?;
+    Ok(steps)
+}
+
+fn f_of_b(g: Global) -> Result<Term, Fail> {
+    f(g, constant(g, B)?)
 }
 
 fn reflexive_line(g: Global) -> Result<Line, Fail> {
@@ -261,10 +268,9 @@ fn goal_line(g: Global) -> Result<Line, Fail> {
 
 // f(b) = a refutes f(X) != a
 fn encoded_proof(g: Global, refuted_by: u32) -> Result<Proof, Fail> {
-    let axiom = file_line(g, "ax", true, f(g, constant(g, B)?)?, A)?;
+    let axiom = file_line(g, "ax", true, f_of_b(g)?, A)?;
     let goal = file_line(g, "g", false, f(g, Term::var(g, 3)?)?, A)?;
-    let mut lines = Seq::from_vec(vec![in g; axiom, goal]?);
-    lines.push(reflexive_line(g)?)?;
+    let mut lines = Seq::from_vec(vec![in g; axiom, goal, reflexive_line(g)?]?);
     lines.push(goal_line(g)?)?;
     lines.push(encoded_chain(g)?)?;
     lines.push(refute(g, &[refuted_by])?)?;

@@ -1,12 +1,13 @@
 ghost use Rattle.std.specs.Prelude.{◌≡◌, ◌≤◌, IfOk};
+ghost use Rattle.uc_problem.specs.Holds.{Agrees};
 ghost use Rattle.uc_ordering.specs.Premises.{IsSignature, AreMarks};
 
+use crate::problems::problem_in;
 use std::alloc::{AllocError, Global};
 use std::test::Fail;
-use uc_edge::MemoryLibrary;
 use uc_order::OrderSpec;
 use uc_ordering::{ChoiceFault, choose};
-use uc_problem::{load, marks};
+use uc_problem::{Problem, marks};
 use uc_term::{Fresh, Seq, Signature, Sym, Symbols, Text};
 use uc_words::OrderWords;
 
@@ -100,14 +101,23 @@ fn told_choice(
 
 // The order that the options name for the problem of this text, encoded.
 fn told(alloc: Global, problem: &str, options: Options) -> Result<Text, AllocError> {
-    let files = vec![in alloc; (text(alloc, "p")?, text(alloc, problem)?)]?;
-    let mut library = MemoryLibrary::new(alloc, files, Vec::new(alloc))?;
     let mut symbols = Symbols::new(alloc);
-    let Ok(problem) = load(alloc, &mut library, None, b"p", &mut symbols) else {
-        return text(alloc, "no problem");
-    };
-    match marks(alloc, &problem, &mut symbols) {
-        Ok(fresh) => told_choice(alloc, options, &symbols, &problem.signature, fresh),
+    match problem_in(alloc, text(alloc, problem)?, &mut symbols)? {
+        Some(problem) => told_by(alloc, &problem, options, &mut symbols),
+        None => text(alloc, "no problem"),
+    }
+}
+
+fn told_by(
+    alloc: Global,
+    problem: &Problem,
+    options: Options,
+    symbols: &mut Symbols,
+) -> Result<Text, AllocError>
+    requires { Agrees symbols.old problem.now }
+{
+    match marks(alloc, problem, symbols) {
+        Ok(fresh) => told_choice(alloc, options, symbols, &problem.signature, fresh),
         Err(_) => text(alloc, "no encoding"),
     }
 }

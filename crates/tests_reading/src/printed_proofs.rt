@@ -328,10 +328,19 @@ fn printed(g: Global, symbols: &Symbols, proof: &Proof) -> Result<Text, Fail>
 #[test]
 fn a_line_of_each_source(rt: HostRuntime) -> Result<(), Fail> {
     let g = rt.alloc();
-    let symbols = symbols(g)?;
-    let first = printed(g, &symbols, &refuted(g, &symbols)?)?;
-    assert!(rt; first.as_bytes() == REFUTED.as_bytes());
-    let second = printed(g, &symbols, &encoded(g, &symbols)?)?;
-    assert!(rt; second.as_bytes() == ENCODED.as_bytes());
+    assert!(rt; printed_refutation(g)?.as_bytes() == REFUTED.as_bytes());
+    assert!(rt; printed_encoding(g)?.as_bytes() == ENCODED.as_bytes());
     Ok(())
+}
+
+fn printed_refutation(g: Global) -> Result<Text, Fail> {
+    let symbols = symbols(g)?;
+    let proof = refuted(g, &symbols)?;
+    printed(g, &symbols, &proof)
+}
+
+fn printed_encoding(g: Global) -> Result<Text, Fail> {
+    let symbols = symbols(g)?;
+    let proof = encoded(g, &symbols)?;
+    printed(g, &symbols, &proof)
 }

@@ -1,3 +1,6 @@
+ghost use Rattle.std.specs.Prelude.{IfOk, IfSome};
+ghost use Rattle.uc_problem.specs.Holds.{Agrees};
+
 use std::alloc::{AllocError, Global};
 use std::test::Fail;
 use uc_clause::{ClauseFault, Place};
@@ -139,13 +142,17 @@ fn files_that_fail(rt: HostRuntime) -> Result<(), Fail> {
         (4, "r/more.ax"),
     ] {
         let mut library = library(alloc, &[call, call + 1])?;
-        let mut symbols = Symbols::new(alloc);
-        let loaded = load(alloc, &mut library, Some(b"r"), b"p/good.p", &mut symbols);
-        assert!(rt; failed_at(&loaded) == wanted.as_bytes(), "{wanted}");
+        assert!(rt; fails_at(alloc, &mut library, wanted), "{wanted}");
         let next = library.fetch(alloc, "r/more.ax", 1)?;
         assert!(rt; matches!(next, Fetched::Failed), "the call behind {wanted}");
     }
     Ok(())
+}
+
+fn fails_at(alloc: Global, library: &mut MemoryLibrary, name: &str) -> bool {
+    let mut symbols = Symbols::new(alloc);
+    let loaded = load(alloc, library, Some(b"r"), b"p/good.p", &mut symbols);
+    failed_at(&loaded) == name.as_bytes()
 }
 
 // a problem with one goal: so many `f` round a term, and the other side
@@ -164,17 +171,40 @@ fn goal(alloc: Global, nested: usize, inner: &str, other: &str) -> Result<Text, 
     Ok(bytes)
 }
 
-// what `marks` came to: no symbols, those of these names or others, or a goal that is too large
-fn marked(alloc: Global, bytes: Text, eq: &str, no: &str) -> Result<char, AllocError> {
+/// The problem of a library with this file alone, if it can be read.
+pub fn problem_in(
+    alloc: Global,
+    bytes: Text,
+    symbols: &mut Symbols,
+) -> Result<Option<Problem>, AllocError>
+    ensures { IfOk result (λ found. IfSome found (λ problem. Agrees symbols.new problem)) }
+{
     let files = vec![in alloc; (text(alloc, "g.p")?, bytes)]?;
     let mut library = MemoryLibrary::new(alloc, files, Vec::new(alloc))?;
+    Ok(load(alloc, &mut library, None, b"g.p", symbols).ok())
+}
+
+fn marked(alloc: Global, bytes: Text, eq: &str, no: &str) -> Result<char, AllocError> {
     let mut symbols = Symbols::new(alloc);
-    let Ok(problem) = load(alloc, &mut library, None, b"g.p", &mut symbols) else {
-        return Ok('!');
-    };
-    match marks(alloc, &problem, &mut symbols) {
+    match problem_in(alloc, bytes, &mut symbols)? {
+        Some(problem) => marked_in(alloc, &problem, &mut symbols, eq, no),
+        None => Ok('!'),
+    }
+}
+
+// what `marks` came to: no symbols, those of these names or others, or a goal that is too large
+fn marked_in(
+    alloc: Global,
+    problem: &Problem,
+    symbols: &mut Symbols,
+    eq: &str,
+    no: &str,
+) -> Result<char, AllocError>
+    requires { Agrees symbols.old problem.now }
+{
+    match marks(alloc, problem, symbols) {
         Ok(None) => Ok('-'),
-        Ok(Some(marks)) => Ok(if are_named(marks, &symbols, eq, no) {
+        Ok(Some(marks)) => Ok(if are_named(marks, symbols, eq, no) {
             'y'
         } else {
             'n'
@@ -268,25 +298,30 @@ fn encoded(
     bytes: &str,
     symbols: &mut Symbols,
 ) -> Result<Option<Encoded>, AllocError> {
-    let files = vec![in alloc; (text(alloc, "e.p")?, text(alloc, bytes)?)]?;
-    let mut library = MemoryLibrary::new(alloc, files, Vec::new(alloc))?;
-    match load(alloc, &mut library, None, b"e.p", symbols) {
-        Ok(problem) => Ok(encode(alloc, &problem, symbols).ok()),
-        Err(_) => Ok(None),
+    match problem_in(alloc, text(alloc, bytes)?, symbols)? {
+        Some(problem) => Ok(encode(alloc, &problem, symbols).ok()),
+        None => Ok(None),
     }
 }
 
 // the axioms, goals and symbols of the encoding of the problem of this text
 fn told_encoding(alloc: Global, bytes: &str) -> Result<(Text, Text, Text), AllocError> {
     let mut symbols = Symbols::new(alloc);
-    let Some(encoded) = encoded(alloc, bytes, &mut symbols)? else {
-        return Ok((Text::new(alloc), Text::new(alloc), Text::new(alloc)));
-    };
-    Ok((
-        told_equations(alloc, encoded.axioms.as_slice(), &symbols)?,
-        told_equations(alloc, encoded.goals.as_slice(), &symbols)?,
-        told_names(alloc, encoded.signature.symbols.as_slice(), &symbols)?,
-    ))
+    match encoded(alloc, bytes, &mut symbols)? {
+        Some(encoded) => told_parts(alloc, &encoded, &symbols),
+        None => Ok((Text::new(alloc), Text::new(alloc), Text::new(alloc))),
+    }
+}
+
+fn told_parts(
+    alloc: Global,
+    encoded: &Encoded,
+    symbols: &Symbols,
+) -> Result<(Text, Text, Text), AllocError> {
+    let axioms = told_equations(alloc, encoded.axioms.as_slice(), symbols)?;
+    let goals = told_equations(alloc, encoded.goals.as_slice(), symbols)?;
+    let names = told_names(alloc, encoded.signature.symbols.as_slice(), symbols)?;
+    Ok((axioms, goals, names))
 }
 
 // one row a problem: its text, and the axioms, goals and symbols of its encoding

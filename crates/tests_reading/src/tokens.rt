@@ -5,7 +5,7 @@ use std::test::Fail;
 use uc_clause::{
     Clause, Kind, Name, Place, Role, Token, TokenFault, print_clause, print_word, tokens,
 };
-use uc_term::{Seq, Symbols, Term, Text};
+use uc_term::{Seq, Symbols, Term, TermFault, Text};
 
 // The last token of a text, by the letter of its kind, where it begins and its length; `!` for a text that isn't tokens.
 fn last_of(alloc: Global, text: &str) -> Result<(char, u32, u32, u32), AllocError> {
@@ -109,16 +109,18 @@ fn printed(alloc: Global, symbols: &Symbols, left: Term, right: Term) -> Result<
     print_clause(alloc, &clause, symbols)
 }
 
+// `f(X10,X1)` on the left, and its first variable on the right.
+fn printed_f(alloc: Global) -> Result<Text, TermFault> {
+    let mut symbols = Symbols::new(alloc);
+    let f = symbols.intern(alloc, b"f", 2)?;
+    let args = [Term::var(alloc, 9)?, Term::var(alloc, 0)?];
+    let left = Term::app(alloc, f, &args)?;
+    Ok(printed(alloc, &symbols, left, Term::var(alloc, 9)?)?)
+}
+
 #[test]
 fn a_printed_clause(rt: HostRuntime) -> Result<(), Fail> {
-    let mut symbols = Symbols::new(rt.alloc());
-    let f = symbols.intern(rt.alloc(), b"f", 2)?;
-    let left = Term::app(
-        rt.alloc(),
-        f,
-        &[Term::var(rt.alloc(), 9)?, Term::var(rt.alloc(), 0)?],
-    )?;
-    let text = printed(rt.alloc(), &symbols, left, Term::var(rt.alloc(), 9)?)?;
+    let text = printed_f(rt.alloc())?;
     assert!(rt; text.as_bytes() == "cnf(+12, negated_conjecture, f(X10,X1) != X10).".as_bytes());
     Ok(())
 }

@@ -71,7 +71,8 @@ model|--order|lpo|r4.p
 prove|--size|2|r5.p";
 
 // lines that have one, each with its command behind an arrow
-const ONE_READING: &str = "show|--|--root => Show 100000 1000000 1 100000 4096 4 1 false false;--root
+const ONE_READING: &str =
+    "show|--|--root => Show 100000 1000000 1 100000 4096 4 1 false false;--root
 prove|--budget=0|r5.p|--trace|--workers|64 => Prove 0 1000000 64 100000 4096 4 1 true false;r5.p
 prove|--budget|10000000|--pairs|8000000|r5.p => Prove 10000000 8000000 1 100000 4096 4 1 false false;r5.p
 prove|--pairs=1|--workers=1|r5.p => Prove 100000 1 1 100000 4096 4 1 false false;r5.p

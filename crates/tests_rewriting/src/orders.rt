@@ -19,18 +19,25 @@ use uc_order::{
 use uc_term::{Sym, Symbols};
 
 // Four constants, three unary symbols, two binary ones, and one each with four arguments and with 24.
+const NAMES: &[(&[u8], u32)] = &[
+    (b"a", 0),
+    (b"b", 0),
+    (b"c", 0),
+    (b"e", 0),
+    (b"f", 1),
+    (b"g", 1),
+    (b"i", 1),
+    (b"m", 2),
+    (b"p", 2),
+    (b"h", 4),
+    (b"wide", 24),
+];
+
 fn symbols(alloc: Global) -> Result<Symbols, AllocError> {
     let mut symbols = Symbols::new(alloc);
-    for name in [b"a", b"b", b"c", b"e"] {
-        symbols.intern(alloc, name, 0)?;
+    for (name, arity) in NAMES {
+        symbols.intern(alloc, name, *arity)?;
     }
-    for name in [b"f", b"g", b"i"] {
-        symbols.intern(alloc, name, 1)?;
-    }
-    symbols.intern(alloc, b"m", 2)?;
-    symbols.intern(alloc, b"p", 2)?;
-    symbols.intern(alloc, b"h", 4)?;
-    symbols.intern(alloc, b"wide", 24)?;
     Ok(symbols)
 }
 
