@@ -16,3 +16,5 @@ pub mod PrintableProblems
 pub mod Promises
 pub mod ReplyLines
 pub mod RightReplies
+pub mod TableLines
+pub mod ModelLines

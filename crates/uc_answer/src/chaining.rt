@@ -36,16 +36,21 @@ pub(crate) fn write_path(out: &mut Text, path: &[u32]) -> Result<(), AllocError>
     out.extend(b"[")?;
     if let [first, rest @ ..] = path {
         write_number(out, *first)?;
-        write_more_numbers(out, rest)?;
+        write_numbers(out, b",", rest)?;
     }
     out.extend(b"]")
 }
 
-fn write_more_numbers(out: &mut Text, numbers: &[u32]) -> Result<(), AllocError>
-    ensures { OnOk result (out.new ≡ out.old ++ further (codes ",") decimal numbers.now) }
+/// Writes numbers, each behind this mark.
+pub(crate) fn write_numbers(
+    out: &mut Text,
+    mark: &[u8],
+    numbers: &[u32],
+) -> Result<(), AllocError>
+    ensures { OnOk result (out.new ≡ out.old ++ further mark.now decimal numbers.now) }
 {
     for number in numbers {
-        out.extend(b",")?;
+        out.extend(mark)?;
         write_number(out, *number)?;
     }
     Ok(())
