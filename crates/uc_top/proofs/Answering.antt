@@ -1,8 +1,6 @@
 -- From what the calls beneath promise to the answers.
 use Rattle.std.proofs.Common.{◌⊎◌, inl, inr, ℕ, ◌≡◌, ◌+◌, ◌-◌, ◌<◌, ◌≤◌, Bool, true, false, List, [], ◌∷◌, length, take, drop, get_or, Option, Some, None, Result, Ok, Err, refl, sym, ap, ap₂, ◌∙◌, subst, arith}
 use Rattle.std.proofs.lemmas.List.{take_all, length-take-le}
-use Rattle.std.specs.Str.{IsUtf8}
-use Rattle.std.proofs.lemmas.Str.{is_utf8-from_IsUtf8}
 use Rattle.std.specs.Prelude.{nat_le, position}
 use Rattle.std.specs.Result.{IfOk}
 use Rattle.std.specs.declared.alloc.AllocError.{AllocError}
@@ -22,10 +20,8 @@ use Rattle.uc_words.specs.Reads.{Reads}
 use Rattle.uc_words.proofs.Only.{only}
 use Rattle.uc_term.specs.declared.fresh.Fresh.{Fresh}
 use Rattle.uc_term.specs.Table.{Table, Grows, IsDistinct}
-use Rattle.uc_edge.specs.Files.{Files, IsFetched}
+use Rattle.uc_edge.specs.Files.{Files}
 use Rattle.uc_edge.specs.Faults.{Rose}
-use Rattle.uc_edge.specs.declared.library.Fetched.{Fetched}
-use Rattle.uc_edge.specs.declared.library.Fetched.TheVariants.{Found, Absent, Failed}
 use Rattle.uc_clause.specs.declared.clause.Sourced.{Sourced}
 use Rattle.uc_clause.specs.declared.fault.ClauseFault.TheVariants as clause
 use Rattle.uc_clause.specs.declared.fault.What.TheVariants as what
@@ -39,7 +35,6 @@ use Rattle.uc_problem.specs.Marks.{IsMarked, is_too_large}
 use Rattle.uc_problem.specs.declared.fault.EncodeFault.TheVariants.{GoalTooLarge}
 use Rattle.uc_problem.specs.Loading.{held}
 use Rattle.uc_problem.specs.Filling.{WhereTold, IsFilled, AddsMarks}
-use Rattle.uc_problem.proofs.Fetches.{no_text}
 use Rattle.uc_problem.proofs.AddedOnce.{distinct_earlier}
 use Rattle.uc_problem.proofs.Later.{Grows-refl}
 use Rattle.uc_problem.proofs.Shapes.{problem_shapes}
@@ -54,15 +49,10 @@ use Rattle.uc_answer.specs.declared.answer.Answer.{Answer}
 use Rattle.uc_answer.specs.Lines.{joined, load_line, proof_line}
 use Rattle.uc_answer.specs.Refusals.{large_line, load_status}
 use Rattle.uc_top.specs.Runs.{HasProof, IsCertified}
-use Rattle.uc_top.specs.Answers.{IsBuilt, IsProofFetched, TextAnswers, is_not_read, is_checked, ProofAnswers, is_absent, isnt_fetched, is_found, ProblemAnswers, has_large_goal, is_marked, LoadAnswers, CheckAnswers, fetch_fails, is_refused, is_loaded}
+use Rattle.uc_top.specs.FileAnswers.{is_absent, isnt_fetched, is_found}
+use Rattle.uc_top.specs.Answers.{IsBuilt, TextAnswers, is_not_read, is_checked, ProofAnswers, ProblemAnswers, has_large_goal, is_marked, LoadAnswers, CheckAnswers, fetch_fails, is_refused, is_loaded}
 use Rattle.uc_top.specs.Loaded.{IsLoaded}
-
--- A count that rose in a part of a call rose in the call.
-pub rose_before : (first before now : ℕ) → first ≤ before → Rose before now → Rose first now
-rose_before first before now h r = omega arith
-
-pub rose_after : (before now last : ℕ) → now ≤ last → Rose before now → Rose before last
-rose_after before now last h r = omega arith
+use Rattle.uc_top.proofs.FileAnswering.{earlier_file}
 
 within : {X : Type 0} (p : X → Bool) (xs : List X) (n : ℕ) → position p xs ≡ Some n → n < length xs
 within p [] n e = absurd (cc e)
@@ -96,34 +86,13 @@ answers_cut : (table : Table) (clauses : List Sourced) (marks : Option Fresh) (n
 answers_cut table clauses marks name text h (is_not_read read {why = why} r n) = is_not_read read (read_cut text h read (Err why) r) n
 answers_cut table clauses marks name text h (is_checked i r c) = isnt_short text h r.0
 
-answers_whole : (table : Table) (clauses : List Sourced) (marks : Option Fresh) (name text : List ℕ) (status : ℕ) (answer : List ℕ) → TextAnswers table clauses marks name (take (max_proof + 1) text) status answer → TextAnswers table clauses marks name text status answer
+-- so are the answers for it
+pub answers_whole : (table : Table) (clauses : List Sourced) (marks : Option Fresh) (name text : List ℕ) (status : ℕ) (answer : List ℕ) → TextAnswers table clauses marks name (take (max_proof + 1) text) status answer → TextAnswers table clauses marks name text status answer
 answers_whole table clauses marks name text status answer a = go (leb_tells (max_proof + 1) (length text))
   where
     go : ((nat_le (max_proof + 1) (length text) ≡ true) × (max_proof + 1 ≤ length text)) ⊎ ((nat_le (max_proof + 1) (length text) ≡ false) × (length text < max_proof + 1)) → TextAnswers table clauses marks name text status answer
     go (inl p) = answers_cut table clauses marks name text p.1 a
     go (inr p) = subst (λ (t : List ℕ). TextAnswers table clauses marks name t status answer) (take_all (max_proof + 1) text (omega (arith, p.1))) a
-
--- what a fetch of the proof file answers
-pub not_utf8 : (holds : Option Files) (before now : ℕ) (name : List ℕ) → (IsUtf8 name → ⊥) → IsProofFetched holds before now name Absent
-not_utf8 None before now name isnt = tt
-not_utf8 (Some files) before now name isnt = no_text (Some files) before now name isnt
-
-pub found : (holds : Option Files) (before now : ℕ) (name bytes : List ℕ) → IsUtf8 name → IsFetched holds name (max_proof + 1) (Found bytes) → IsProofFetched holds before now name (Found bytes)
-found None before now name bytes utf h = tt
-found (Some files) before now name bytes utf h = (h.0, (rw (is_utf8-from_IsUtf8 name utf) h.1), h.2)
-
-pub absent : (holds : Option Files) (before now : ℕ) (name : List ℕ) → IsUtf8 name → IsFetched holds name (max_proof + 1) Absent → IsProofFetched holds before now name Absent
-absent None before now name utf h = tt
-absent (Some files) before now name utf h = rw (is_utf8-from_IsUtf8 name utf) h
-
-fetched : (holds : Option Files) (before now : ℕ) (name : List ℕ) (answer : Fetched) → IsUtf8 name → IsFetched holds name (max_proof + 1) answer → (answer ≡ Failed → Rose before now) → IsProofFetched holds before now name answer
-fetched holds before now name (Found bytes) utf h rose = found holds before now name bytes utf h
-fetched holds before now name Absent utf h rose = absent holds before now name utf h
-fetched holds before now name Failed utf h rose = rose refl
-
-pub is_fetched : (holds : Option Files) (before now : ℕ) (name asked : List ℕ) (r : Result Fetched AllocError) → asked ≡ name → IsUtf8 name → IfOk r (IsFetched holds asked (max_proof + 1)) → IfOk r (λ answer. answer ≡ Failed → Rose before now) → IfOk r (IsProofFetched holds before now name)
-is_fetched holds before now name asked (Ok answer) e utf h rose = fetched holds before now name answer utf (rw e at h) rose
-is_fetched holds before now name asked (Err fault) e utf h rose = tt
 
 -- an answer of one line
 pub one_line : (r : Result Answer AllocError) (P : ℕ → List ℕ → Type 0) (status : ℕ) (line : List ℕ) → IfOk r (λ answer. (answer.status ≡ status) × (joined answer.lines ≡ line)) → P status line → IfOk r (λ answer. P answer.status (joined answer.lines))
@@ -135,24 +104,9 @@ pub unread : (table read : Table) (clauses : List Sourced) (marks : Option Fresh
 unread table read clauses marks name text why (Ok answer) h line n = one_line (Ok answer) (TextAnswers table clauses marks name text) 3 (proof_line name why) line (is_not_read read h n)
 unread table read clauses marks name text why (Err fault) h line n = tt
 
--- the answer to what was fetched
-pub found_answers : (table : Table) (holds : Option Files) (before now first last : ℕ) (clauses : List Sourced) (marks : Option Fresh) (name bytes : List ℕ) (status : ℕ) (answer : List ℕ) → IsProofFetched holds before now name (Found bytes) → TextAnswers table clauses marks name bytes status answer → ProofAnswers table holds first last clauses marks name status answer
-found_answers table None before now first last clauses marks name bytes status answer h a = is_found tt a
-found_answers table (Some files) before now first last clauses marks name bytes status answer h a = is_found h.1 (answers_whole table clauses marks name h.0 status answer (subst (λ t. TextAnswers table clauses marks name t status answer) h.2 a))
-
-pub is_found_text : (table : Table) (holds : Option Files) (before now : ℕ) (clauses : List Sourced) (marks : Option Fresh) (name text : List ℕ) (r : Result Answer AllocError) → IsProofFetched holds before now name (Found text) → IfOk r (λ answer. TextAnswers table clauses marks name text answer.status (joined answer.lines)) → IfOk r (λ answer. ProofAnswers table holds before now clauses marks name answer.status (joined answer.lines))
-is_found_text table holds before now clauses marks name text (Ok answer) h a = found_answers table holds before now before now clauses marks name text answer.status (joined answer.lines) h a
-is_found_text table holds before now clauses marks name text (Err fault) h a = tt
-
--- an answer that rests on a part of a call rests on the call
-pub earlier_proof : (table : Table) (holds : Option Files) (first before now : ℕ) (clauses : List Sourced) (marks : Option Fresh) (name : List ℕ) (status : ℕ) (answer : List ℕ) → first ≤ before → ProofAnswers table holds before now clauses marks name status answer → ProofAnswers table holds first now clauses marks name status answer
-earlier_proof table holds first before now clauses marks name status answer le (is_absent h) = is_absent h
-earlier_proof table holds first before now clauses marks name status answer le (isnt_fetched r) = isnt_fetched (rose_before first before now le r)
-earlier_proof table holds first before now clauses marks name status answer le (is_found h a) = is_found h a
-
 pub earlier_problem : (table : Table) (holds : Option Files) (first before now : ℕ) (problem : Problem) (proof : List ℕ) (status : ℕ) (answer : List ℕ) → first ≤ before → ProblemAnswers holds before now proof table problem status answer → ProblemAnswers holds first now proof table problem status answer
 earlier_problem table holds first before now problem proof status answer le (has_large_goal m g) = has_large_goal m g
-earlier_problem table holds first before now problem proof status answer le (is_marked {table = marked} d i m a) = is_marked d i m (earlier_proof marked holds first before now _ _ _ _ _ le a)
+earlier_problem table holds first before now problem proof status answer le (is_marked {table = marked} d i m a) = is_marked d i m (earlier_file holds before now _ _ first le a)
 
 -- the goal that is too large
 pub large_within : (table : Table) (problem : Problem) (number : ℕ) → IsMarked table problem (Err (GoalTooLarge number)) → number < length problem.clauses
@@ -325,17 +279,17 @@ pub name_and_more : (names : List (List ℕ)) (a : List ℕ) → 1 ≤ length na
 name_and_more [] a low p = absurd (omega arith)
 name_and_more (x ∷ xs) a low p = ap₂ (λ y ys. y ∷ ys) (sym p) (sym (take_all (length (x ∷ xs) - 1) xs (omega arith)))
 
-pub not_built : (v : Verb) → (v ≡ verb.Check → ⊥) → (v ≡ verb.Show → ⊥) → (v ≡ verb.Order → ⊥) → (v ≡ verb.Rewrite → ⊥) → (v ≡ verb.Pairs → ⊥) → (v ≡ verb.Prove → ⊥) → (v ≡ verb.Decide → ⊥) → IsBuilt v → ⊥
-not_built verb.Check n m o r p q d b = n refl
-not_built verb.Show n m o r p q d b = m refl
-not_built verb.Order n m o r p q d b = o refl
-not_built verb.Prove n m o r p q d b = q refl
-not_built verb.Decide n m o r p q d b = d refl
-not_built verb.Rewrite n m o r p q d b = r refl
-not_built verb.Pairs n m o r p q d b = p refl
-not_built verb.Gen n m o r p q d b = b
-not_built verb.Table n m o r p q d b = b
-not_built verb.Model n m o r p q d b = b
+pub not_built : (v : Verb) → (v ≡ verb.Check → ⊥) → (v ≡ verb.Show → ⊥) → (v ≡ verb.Order → ⊥) → (v ≡ verb.Rewrite → ⊥) → (v ≡ verb.Pairs → ⊥) → (v ≡ verb.Prove → ⊥) → (v ≡ verb.Decide → ⊥) → (v ≡ verb.Table → ⊥) → IsBuilt v → ⊥
+not_built verb.Check n m o r p q d t b = n refl
+not_built verb.Show n m o r p q d t b = m refl
+not_built verb.Order n m o r p q d t b = o refl
+not_built verb.Prove n m o r p q d t b = q refl
+not_built verb.Decide n m o r p q d t b = d refl
+not_built verb.Rewrite n m o r p q d t b = r refl
+not_built verb.Pairs n m o r p q d t b = p refl
+not_built verb.Gen n m o r p q d t b = b
+not_built verb.Table n m o r p q d t b = t refl
+not_built verb.Model n m o r p q d t b = b
 
 pub usage_not_done : (Q : Answer → Type 0) (r : Result Answer AllocError) (line : List ℕ) → IfOk r (λ answer. (answer.status ≡ 4) × (joined answer.lines ≡ line)) → IfOk r (λ answer. answer.status ≡ 0 → Q answer)
 usage_not_done Q (Ok answer) line h = λ e. absurd (omega (arith, h.0, e))

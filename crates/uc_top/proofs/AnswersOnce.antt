@@ -13,9 +13,13 @@ use Rattle.uc_top.specs.RewriteAnswers.{IsRewritten}
 use Rattle.uc_top.specs.PairsAnswers.{IsPaired}
 use Rattle.uc_top.specs.ProveAnswers.{ProveAnswers}
 use Rattle.uc_top.specs.DecideAnswers.{IsDecided}
-use Rattle.uc_top.specs.Answers.{IsShown, ProblemAnswers, CheckAnswers, ShowAnswers, OrderAnswers, RewriteAnswers, PairsAnswers, DecideAnswers, Answers}
+use Rattle.uc_top.specs.Answers.{IsShown, ProblemAnswers, CheckAnswers, ShowAnswers, OrderAnswers, RewriteAnswers, PairsAnswers, DecideAnswers, TableAnswers, Answers}
 use Rattle.uc_top.proofs.Positionals.{first_name, second_name, head_name, tail_names, only_name}
+use Rattle.uc_top.specs.FileAnswers.{FileAnswers}
+use Rattle.uc_top.specs.TableAnswers.{TableTextAnswers}
 use Rattle.uc_top.proofs.LoadedOnce.{load_once}
+use Rattle.uc_top.proofs.FileAnswering.{file_once}
+use Rattle.uc_top.proofs.TabledOnce.{table_text_once}
 use Rattle.uc_top.proofs.OrderOnce.{ordered_once}
 use Rattle.uc_top.proofs.RewriteOnce.{rewritten_once}
 use Rattle.uc_top.proofs.PairsOnce.{paired_once}
@@ -44,6 +48,9 @@ module _ (files : Files) (before now again later : ℕ) where
 
   check_once : (root : Option (List ℕ)) (name proof : List ℕ) {s t : ℕ} {a b : List ℕ} → (s ≡ 5 → Rose before now → ⊥) → (t ≡ 5 → Rose again later → ⊥) → CheckAnswers (Some files) before now root name proof s a → CheckAnswers (Some files) again later root name proof t b → (s ≡ t) × (a ≡ b)
   check_once root name proof v w x y = load_once files root name before now again later (ProblemAnswers (Some files) before now proof) (ProblemAnswers (Some files) again later proof) (λ table problem s t a b d l v w p q. check_answers_once files root name table problem l before now again later proof v w p q) v w x y
+
+  table_once : (root : Option (List ℕ)) (name file : List ℕ) {s t : ℕ} {a b : List ℕ} → (s ≡ 5 → Rose before now → ⊥) → (t ≡ 5 → Rose again later → ⊥) → TableAnswers (Some files) before now root name file s a → TableAnswers (Some files) again later root name file t b → (s ≡ t) × (a ≡ b)
+  table_once root name file v w x y = load_once files root name before now again later (λ symbols problem. FileAnswers (Some files) before now (TableTextAnswers symbols problem file) file) (λ symbols problem. FileAnswers (Some files) again later (TableTextAnswers symbols problem file) file) (λ symbols problem s t a b d l v w p q. file_once files before now again later (TableTextAnswers symbols problem file) file (λ text i j c d m n. table_text_once symbols problem file text m n) v w p q) v w x y
 
   -- There is one search; and a variable's weight is within its limits.
   module _ (one_search : OneSearch) where
@@ -83,7 +90,9 @@ module _ (files : Files) (before now again later : ℕ) where
         rewrite_once k.order k.limit word k.root name v w x (subst (λ n. RewriteAnswers (Some files) again later k.order k.limit word k.root n t b) (first_name names) (subst (λ u. RewriteAnswers (Some files) again later k.order k.limit u k.root named t b) (second_name names) y))
     verb_once verb.Pairs k within {t = t} {b = b} v w (name, p, x) (named, q, y) = pairs_once k.order k.root name v w x (subst (λ n. PairsAnswers (Some files) again later k.order k.root n t b) (only_name (sym q ∙ p)) y)
     verb_once verb.Gen k within v w x y = usage_once x y
-    verb_once verb.Table k within v w x y = usage_once x y
+    verb_once verb.Table k within {t = t} {b = b} v w (name, file, p, x) (named, other, q, y) =
+        let names : named ∷ other ∷ [] ≡ name ∷ file ∷ [] = sym q ∙ p in
+        table_once k.root name file v w x (subst (λ n. TableAnswers (Some files) again later k.root n file t b) (first_name names) (subst (λ n. TableAnswers (Some files) again later k.root named n t b) (second_name names) y))
     verb_once verb.Model k within v w x y = usage_once x y
 
     module _ (words : List (List ℕ)) where

@@ -31,12 +31,14 @@ use Rattle.uc_words.specs.declared.command.Verb.TheVariants as verb
 use Rattle.uc_words.specs.Reads.{Reads}
 use Rattle.uc_answer.specs.Lines.{about_file, memory_line, checked_line, proof_line}
 use Rattle.uc_answer.specs.Refusals.{large_line}
-use Rattle.uc_top.specs.Answers.{checked_status, TextAnswers, is_not_read, is_checked, is_absent, isnt_fetched, is_found, ProofAnswers, ProblemAnswers, has_large_goal, is_marked, CheckAnswers, Answers}
+use Rattle.uc_top.specs.Answers.{checked_status, TextAnswers, is_not_read, is_checked, ProofAnswers, ProblemAnswers, has_large_goal, is_marked, CheckAnswers, Answers}
+use Rattle.uc_top.specs.FileAnswers.{is_absent, isnt_fetched, is_found}
 use Rattle.uc_top.specs.Loaded.{IsLoaded}
 use Rattle.uc_top.specs.Runs.{MayAnswer, is_answer, wants_memory, IsRun, EndsWith, tells_all, tells_want, CheckEnds, tells_checked, checks_in_want, CheckCompletes, CompletesCheck}
 use Rattle.uc_top.proofs.Positionals.{first_name, second_name}
 use Rattle.uc_top.proofs.ReadTexts.{one_proof, one_fault, fault_or_proof}
 use Rattle.uc_top.proofs.LoadedOnce.{answers_for}
+use Rattle.uc_top.proofs.FileAnswering.{file_once}
 use Rattle.uc_top.proofs.ByVerb.{of_verb}
 use Rattle.uc_top.proofs.Completing.{told_whole}
 
@@ -77,15 +79,8 @@ module _ (table : Table) (distinct : IsDistinct table) (clauses : List Sourced) 
         let same : checked ≡ q.0 = checked_once clauses marks proof.lines c q.1 in
         (ap checked_status same ∙ sym q.2, ap (checked_line proof.lines) same ∙ sym q.3)
 
-  module _ (files : Files) (before now again later : ℕ) where
-    proof_once : {s t : ℕ} {a b : List ℕ} → (s ≡ 5 → Rose before now → ⊥) → (t ≡ 5 → Rose again later → ⊥) → ProofAnswers table (Some files) before now clauses marks name s a → ProofAnswers table (Some files) again later clauses marks name t b → (s ≡ t) × (a ≡ b)
-    proof_once v w (isnt_fetched r) y = absurd (v refl r)
-    proof_once v w (is_absent e) (isnt_fetched r) = absurd (w refl r)
-    proof_once v w (is_absent e) (is_absent f) = (refl, refl)
-    proof_once v w (is_absent e) (is_found f y) = absurd (some_or_none f e)
-    proof_once v w (is_found e x) (isnt_fetched r) = absurd (w refl r)
-    proof_once v w (is_found e x) (is_absent f) = absurd (some_or_none e f)
-    proof_once {t = t} {b = b} v w (is_found {text = text} e x) (is_found {text = other} f y) = text_once text x (subst (λ (bytes : List ℕ). TextAnswers table clauses marks name bytes t b) (some_once f e) y)
+  proof_once : (files : Files) (before now again later : ℕ) {s t : ℕ} {a b : List ℕ} → (s ≡ 5 → Rose before now → ⊥) → (t ≡ 5 → Rose again later → ⊥) → ProofAnswers table (Some files) before now clauses marks name s a → ProofAnswers table (Some files) again later clauses marks name t b → (s ≡ t) × (a ≡ b)
+  proof_once files before now again later v w x y = file_once files before now again later (TextAnswers table clauses marks name) name (λ text s t a b p q. text_once text p q) v w x y
 
 -- the answers for a problem that is loaded
 module _ (files : Files) (root : Option (List ℕ)) (name : List ℕ) (loaded : Table) (problem : Problem) (is_held : IsLoaded files root name loaded problem) where

@@ -1,22 +1,18 @@
 -- What the program answers: its status and its text, for the words of the command line and the files of a library.
-use Rattle.std.specs.Prelude.{ℕ, ◌≡◌, ◌+◌, List, [], ◌∷◌, take, codes, slice_get, Option, Some, None, Ok, Err}
+use Rattle.std.specs.Prelude.{ℕ, ◌≡◌, List, [], ◌∷◌, codes, slice_get, Option, Some, Ok, Err}
 use Rattle.uc_term.specs.declared.fresh.Fresh.{Fresh}
 use Rattle.uc_term.specs.Table.{Table, IsDistinct}
 use Rattle.uc_edge.specs.Files.{Files}
 use Rattle.uc_edge.specs.Faults.{Rose}
-use Rattle.uc_edge.specs.declared.library.Fetched.{Fetched}
-use Rattle.uc_edge.specs.declared.library.Fetched.TheVariants.{Found, Absent, Failed}
 use Rattle.uc_clause.specs.declared.clause.Sourced.{Sourced}
 use Rattle.uc_problem.specs.declared.fault.LoadFault.{LoadFault}
 use Rattle.uc_problem.specs.declared.fault.LoadFault.TheVariants as load
 use Rattle.uc_problem.specs.declared.fault.EncodeFault.TheVariants.{GoalTooLarge}
 use Rattle.uc_problem.specs.declared.problem.Problem.{Problem}
-use Rattle.uc_problem.specs.Loading.{held}
 use Rattle.uc_problem.specs.Refusing.{Stops, IsRefused}
 use Rattle.uc_problem.specs.Marks.{Marks}
 use Rattle.uc_problem.specs.Filling.{WhereTold, AddsMarks}
 use Rattle.uc_tstp.specs.declared.fault.ProofFault.{ProofFault}
-use Rattle.uc_tstp.specs.Framing.{max_proof}
 use Rattle.uc_tstp.specs.declared.fault.ProofFault.TheVariants.{NoMemory}
 use Rattle.uc_tstp.specs.Reading.{IsReading}
 use Rattle.uc_tstp.specs.Interning.{InternsProof}
@@ -32,18 +28,13 @@ use Rattle.uc_words.specs.Reads.{Reads}
 use Rattle.uc_answer.specs.Lines.{about_file, load_line, proof_line, checked_line, shown_lines, usage_line}
 use Rattle.uc_answer.specs.Refusals.{load_status, large_line}
 use Rattle.uc_top.specs.Loaded.{IsLoaded}
+use Rattle.uc_top.specs.FileAnswers.{FileAnswers}
+use Rattle.uc_top.specs.TableAnswers.{TableTextAnswers}
 use Rattle.uc_top.specs.OrderAnswers.{IsOrdered}
 use Rattle.uc_top.specs.RewriteAnswers.{IsRewritten}
 use Rattle.uc_top.specs.PairsAnswers.{IsPaired}
 use Rattle.uc_top.specs.ProveAnswers.{ProveAnswers}
 use Rattle.uc_top.specs.DecideAnswers.{IsDecided}
-
--- what a fetch answers of the proof file of this name: its first bytes, as many as are asked for; that there is none; or a failure,
--- which comes only where the count of faults rose
-abbrev pub IsProofFetched : Option Files → ℕ → ℕ → List ℕ → Fetched → Type 0
-IsProofFetched holds before now name (Found bytes) = WhereTold holds (λ files. (text : List ℕ) × (held files name ≡ Some text) × (bytes ≡ take (max_proof + 1) text))
-IsProofFetched holds before now name Absent = WhereTold holds (λ files. held files name ≡ None)
-IsProofFetched holds before now name Failed = Rose before now
 
 abbrev pub checked_status : Checked → ℕ
 checked_status Accepted = 0
@@ -58,6 +49,7 @@ IsBuilt verb.Order = Unit {0}
 IsBuilt verb.Rewrite = Unit {0}
 IsBuilt verb.Pairs = Unit {0}
 IsBuilt verb.Decide = Unit {0}
+IsBuilt verb.Table = Unit {0}
 IsBuilt other = ⊥
 
 -- the commands that are built and search, each by one worker so far
@@ -79,14 +71,9 @@ module _ (table : Table) where
   abbrev pub IsShown : Problem → ℕ → List ℕ → Type 0
   IsShown problem status answer = (status ≡ 0) × (answer ≡ shown_lines table problem.clauses)
 
-  -- The library's files are these, where it tells them, and its count of faults was and is this.
-  module _ (holds : Option Files) (before now : ℕ) where
-    -- the answer for the proof file of this name
-    module _ (clauses : List Sourced) (marks : Option Fresh) (name : List ℕ) where
-      pub data ProofAnswers : ℕ → List ℕ → Type 0 where
-        is_absent : WhereTold holds (λ files. held files name ≡ None) → ProofAnswers 3 (about_file name (codes "Absent"))
-        isnt_fetched : Rose before now → ProofAnswers 5 (about_file name (codes "ReadFault"))
-        is_found : {text : List ℕ} {status : ℕ} {answer : List ℕ} → WhereTold holds (λ files. held files name ≡ Some text) → TextAnswers clauses marks name text status answer → ProofAnswers status answer
+  -- the answer for the proof file of this name
+  abbrev pub ProofAnswers : Option Files → ℕ → ℕ → List Sourced → Option Fresh → List ℕ → ℕ → List ℕ → Type 0
+  ProofAnswers holds before now clauses marks name = FileAnswers holds before now (TextAnswers clauses marks name) name
 
 -- The library's files are these, where it tells them, and its count of faults was and is this.
 module _ (holds : Option Files) (before now : ℕ) where
@@ -130,6 +117,10 @@ module _ (holds : Option Files) (before now : ℕ) where
   abbrev pub DecideAnswers : Command → List ℕ → List (List ℕ) → ℕ → List ℕ → Type 0
   DecideAnswers command name questions = LoadAnswers (λ table. IsDecided table command name questions) command.root name
 
+  -- the answer to `table` for the problem file and the table file of these names, with this root
+  abbrev pub TableAnswers : Option (List ℕ) → List ℕ → List ℕ → ℕ → List ℕ → Type 0
+  TableAnswers root name file = LoadAnswers (λ symbols problem. FileAnswers holds before now (TableTextAnswers symbols problem file) file) root name
+
   -- the answer to the words of a command line; each command that is built has a case
   module _ (words : List (List ℕ)) where
     pub data Answers : ℕ → List ℕ → Type 0 where
@@ -143,3 +134,4 @@ module _ (holds : Option Files) (before now : ℕ) where
       pairs_up : {command : Command} {name : List ℕ} {status : ℕ} {answer : List ℕ} → Reads words command → command.verb ≡ verb.Pairs → command.positionals ≡ name ∷ [] → PairsAnswers command.order command.root name status answer → Answers status answer
       proves : {command : Command} {name : List ℕ} {status : ℕ} {answer : List ℕ} → Reads words command → command.verb ≡ verb.Prove → command.workers ≡ 1 → command.positionals ≡ name ∷ [] → ProveAnswers command name holds before now status answer → Answers status answer
       decides : {command : Command} {name : List ℕ} {questions : List (List ℕ)} {status : ℕ} {answer : List ℕ} → Reads words command → command.verb ≡ verb.Decide → command.workers ≡ 1 → command.positionals ≡ name ∷ questions → DecideAnswers command name questions status answer → Answers status answer
+      tables : {command : Command} {name file : List ℕ} {status : ℕ} {answer : List ℕ} → Reads words command → command.verb ≡ verb.Table → command.positionals ≡ name ∷ file ∷ [] → TableAnswers command.root name file status answer → Answers status answer

@@ -4,6 +4,8 @@ pub mod RewriteAnswers
 pub mod PairsAnswers
 pub mod ProveAnswers
 pub mod DecideAnswers
+pub mod FileAnswers
+pub mod TableAnswers
 pub mod Told
 pub mod Faulting
 pub mod Answers
@@ -14,4 +16,5 @@ pub mod PairsRuns
 pub mod ProveRuns
 pub mod DecideRuns
 pub mod DecideTold
+pub mod TableRuns
 pub mod Headline

@@ -4,23 +4,21 @@ ghost use Rattle.std.specs.Prelude.{◌≡◌, ◌<◌, ◌≤◌, ◌^◌, ℕ,
 ghost use Rattle.std.specs.Option.{option_copied};
 ghost use Rattle.uc_term.specs.Table.{Table, Grows, IsDistinct};
 ghost use Rattle.uc_term.specs.Conversion.{SomeFollows};
-ghost use Rattle.uc_edge.specs.Files.{Files, failing};
+ghost use Rattle.uc_edge.specs.Files.{Files};
 ghost use Rattle.uc_check.specs.Clauses.{axioms_of, goals_of, AreFresh, HasGoalIfEncoded};
 ghost use Rattle.uc_problem.specs.Holds.{Agrees};
 ghost use Rattle.uc_tstp.specs.Interning.{InternsProof};
 ghost use Rattle.uc_tstp.specs.Reading.{IsReading};
 ghost use Rattle.uc_answer.specs.Lines.{joined, proof_line};
 ghost use Rattle.uc_answer.specs.Refusals.{large_line};
-ghost use Rattle.uc_top.specs.Answers.{checked_status, IsProofFetched, TextAnswers, ProofAnswers, ProblemAnswers, CheckAnswers};
+ghost use Rattle.uc_top.specs.Answers.{checked_status, TextAnswers, ProofAnswers, ProblemAnswers, CheckAnswers};
 ghost use Rattle.uc_top.specs.Runs.{HasProof};
 ghost use Rattle.uc_top.specs.Faulting.{AnswersFault};
-ghost use Rattle.uc_edge.specs.Faults.{IsCounted};
 
-use crate::loading::bytes_of;
+use crate::loading::{absent_answer, bytes_of, failed_answer, fetch_text};
 use std::alloc::{AllocError, Global};
 use uc_answer::{
-    Answer, DONE, NO, READ_FAULT, REFUSED, about_file, checked_line, large_answer, load_answer,
-    of_line, proof_line,
+    Answer, DONE, NO, REFUSED, checked_line, large_answer, load_answer, of_line, proof_line,
 };
 use uc_check::{Checked, Proof, check};
 use uc_clause::Sourced;
@@ -116,29 +114,12 @@ fn proof_answer<L: Library>(
     ensures faulted { AnswersFault (L.faults library.old) (L.faults library.new) (L.failed_at library.old) (L.failed_at library.new) [] result }
 {
     let file = name.as_bytes();
-    match fetch_proof(alloc, library, file)? {
+    match fetch_text(alloc, library, file, MAX_PROOF + 1)? {
         Fetched::Found(text) => {
             text_answer(alloc, clauses, marks, file, text.as_bytes(), symbols)
         }
-        Fetched::Absent => of_line(alloc, REFUSED, about_file(alloc, file, b"Absent")?),
-        Fetched::Failed => of_line(alloc, READ_FAULT, about_file(alloc, file, b"ReadFault")?),
-    }
-}
-
-// What the library has under the proof file's name, cut behind the first byte that is too many.
-fn fetch_proof<L: Library>(
-    alloc: Global,
-    library: &mut L,
-    name: &[u8],
-) -> Result<Fetched, AllocError>
-    ensures fetched { IfOk result (IsProofFetched (L.holds library.old) (L.faults library.old) (L.faults library.new) name.now) }
-    ensures same { L.holds library.new ≡ L.holds library.old }
-    ensures later { L.faults library.old ≤ L.faults library.new }
-    ensures counted { IsCounted (failing name.now result) (L.faults library.old) (L.faults library.new) (L.failed_at library.old) (L.failed_at library.new) }
-{
-    match str::from_utf8(name) {
-        Ok(name) => library.fetch(alloc, name, MAX_PROOF + 1),
-        Err(_) => Ok(Fetched::Absent),
+        Fetched::Absent => absent_answer(alloc, file),
+        Fetched::Failed => failed_answer(alloc, file),
     }
 }
 

@@ -13,6 +13,7 @@ mod program;
 mod proving;
 mod rewriting;
 mod showing;
+mod tabling;
 
 pub use laws::{chosen_order_fits, one_answer, one_history, one_line, one_run, searches_are_short};
 pub use output::tell_memory_out;

@@ -1,8 +1,15 @@
 //! What the commands that load a problem share.
 
-ghost use Rattle.std.specs.Prelude.{◌≡◌};
+ghost use Rattle.std.specs.Prelude.{◌≡◌, ◌≤◌, codes, IfOk};
 ghost use Rattle.std.specs.Option.{option_copied};
+ghost use Rattle.uc_edge.specs.Faults.{IsCounted};
+ghost use Rattle.uc_edge.specs.Files.{failing};
+ghost use Rattle.uc_answer.specs.Lines.{joined, about_file};
+ghost use Rattle.uc_top.specs.FileAnswers.{IsTextFetched};
 
+use std::alloc::{AllocError, Global};
+use uc_answer::{Answer, READ_FAULT, REFUSED, about_file, of_line};
+use uc_edge::{Fetched, Library};
 use uc_term::Text;
 
 // The bytes of a root, where one is given.
@@ -13,4 +20,36 @@ pub(crate) fn bytes_of(root: Option<&Text>) -> Option<&[u8]>
         Some(root) => Some(root.as_bytes()),
         None => None,
     }
+}
+
+// What the library has under the name of a file beside the problem's, cut behind so many bytes.
+pub(crate) fn fetch_text<L: Library>(
+    alloc: Global,
+    library: &mut L,
+    name: &[u8],
+    most: usize,
+) -> Result<Fetched, AllocError>
+    ensures fetched { IfOk result (IsTextFetched most (L.holds library.old) (L.faults library.old) (L.faults library.new) name.now) }
+    ensures same { L.holds library.new ≡ L.holds library.old }
+    ensures later { L.faults library.old ≤ L.faults library.new }
+    ensures counted { IsCounted (failing name.now result) (L.faults library.old) (L.faults library.new) (L.failed_at library.old) (L.failed_at library.new) }
+{
+    match str::from_utf8(name) {
+        Ok(name) => library.fetch(alloc, name, most),
+        Err(_) => Ok(Fetched::Absent),
+    }
+}
+
+// The answer for such a file that isn't there.
+pub(crate) fn absent_answer(alloc: Global, file: &[u8]) -> Result<Answer, AllocError>
+    ensures { IfOk result (λ answer. (answer.status ≡ 3) × (joined answer.lines ≡ about_file file.now (codes "Absent"))) }
+{
+    of_line(alloc, REFUSED, about_file(alloc, file, b"Absent")?)
+}
+
+// The answer where the fetch of such a file failed.
+pub(crate) fn failed_answer(alloc: Global, file: &[u8]) -> Result<Answer, AllocError>
+    ensures { IfOk result (λ answer. (answer.status ≡ 5) × (joined answer.lines ≡ about_file file.now (codes "ReadFault"))) }
+{
+    of_line(alloc, READ_FAULT, about_file(alloc, file, b"ReadFault")?)
 }

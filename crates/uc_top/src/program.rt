@@ -15,6 +15,7 @@ ghost use Rattle.uc_top.specs.RewriteRuns.{CompletesRewrite};
 ghost use Rattle.uc_top.specs.PairsRuns.{CompletesPairs};
 ghost use Rattle.uc_top.specs.ProveRuns.{KeepsCommand, CompletesProve};
 ghost use Rattle.uc_top.specs.DecideRuns.{KeepsDecideCommand, CompletesDecide};
+ghost use Rattle.uc_top.specs.TableRuns.{KeepsTableWord, CompletesTable};
 ghost use Rattle.uc_top.specs.Faulting.{AnswersFault, IsStatusFaulted, IsFaultedRun, fault_opening, fault_text};
 ghost use Rattle.uc_top.specs.Told.{CountsWrites};
 ghost use Rattle.uc_top.specs.Headline.{Headline};
@@ -27,6 +28,7 @@ use crate::pairing::pairs_answer;
 use crate::proving::prove_answer;
 use crate::rewriting::rewrite_answer;
 use crate::showing::show_answer;
+use crate::tabling::table_answer;
 use std::alloc::{AllocError, Global};
 use std::sync::Wait;
 use std::thread::Threads;
@@ -52,9 +54,11 @@ use uc_words::{Command, Verb, WordsFault, read_words};
 /// where the order is refused; else 3. For `decide`, with one worker, it is 0 where each question has its line, `equal` where
 /// its equation follows from the axioms and `different` where it doesn't, with the least terms to which its sides are equal; 2
 /// where a question stays open, since its steps are spent or a term grew too large, or where the text names the budget, the
-/// limit on pairs or the size that ended the search; 4 where the order is refused; else 3. 4 stands for words that have no
-/// reading, name a command that isn't built, or ask for more than one worker, 5 for a failure of the library and 6 for one of
-/// the sink, each only where its count of faults rose in this call, and 7 for want of memory.
+/// limit on pairs or the size that ended the search; 4 where the order is refused; else 3. For `table` it is 0 where the table
+/// file has a table that is a model of the problem, so that none of the problem's goals follows from its axioms; 1 where an axiom
+/// fails in it, or the sides of a goal meet, under the assignment that is told; else 3. 4 stands for words that have no reading,
+/// name a command that isn't built, or ask for more than one worker, 5 for a failure of the library and 6 for one of the sink, each
+/// only where its count of faults rose in this call, and 7 for want of memory.
 ///
 /// At most one fetch fails, and it ends the call with status 5, in which case the text names the file whose fetch failed, or with 6 or
 /// 7, where its line isn't written. At most one write fails, and it ends the call with status 6.
@@ -76,6 +80,8 @@ pub fn run<R: Threads + Wait + Sync, L: Library, S: Sink, G: Gate + Sync>(
     ensures headline { (files : Files) → L.holds library.old ≡ Some files → Headline files (map string_bytes words.now) (S.written sink.old) (S.written sink.new) result }
     ensures complete_prove { (files : Files) → L.holds library.old ≡ Some files → (Rose (L.faults library.old) (L.faults library.new) → ⊥) → (Rose (S.faults sink.old) (S.faults sink.new) → ⊥) → CompletesProve files (map string_bytes words.now) (S.written sink.old) (S.written sink.new) result }
     ensures complete_decide { (files : Files) → L.holds library.old ≡ Some files → (Rose (L.faults library.old) (L.faults library.new) → ⊥) → (Rose (S.faults sink.old) (S.faults sink.new) → ⊥) → CompletesDecide files (map string_bytes words.now) (S.written sink.old) (S.written sink.new) result }
+    ensures tabled { (files : Files) → L.holds library.old ≡ Some files → KeepsTableWord files (map string_bytes words.now) result }
+    ensures complete_table { (files : Files) → L.holds library.old ≡ Some files → (Rose (L.faults library.old) (L.faults library.new) → ⊥) → (Rose (S.faults sink.old) (S.faults sink.new) → ⊥) → CompletesTable files (map string_bytes words.now) (S.written sink.old) (S.written sink.new) result }
     ensures same { L.holds library.new ≡ L.holds library.old }
     ensures later { L.faults library.old ≤ L.faults library.new }
     ensures faulted { IsFaultedRun (L.faults library.old) (L.faults library.new) (L.failed_at library.old) (L.failed_at library.new) result }
@@ -148,6 +154,10 @@ fn command_answer<R: Wait, L: Library>(
         },
         Verb::Pairs => match command.positionals.as_slice() {
             [name] => pairs_answer(alloc, command.root.as_ref(), name, &command.order, library),
+            _ => unreachable!(),
+        },
+        Verb::Table => match command.positionals.as_slice() {
+            [name, file] => table_answer(alloc, command.root.as_ref(), name, file, library),
             _ => unreachable!(),
         },
         Verb::Prove => prove_command(rt, alloc, command, library),

@@ -1,7 +1,7 @@
 use Rattle.std.proofs.Common.{◌≡◌, [], ◌∷◌, refl, sym, ◌∙◌, subst, arith}
 use Rattle.std.proofs.lemmas.Result.{IfOk-weaker}
 use Rattle.uc_answer.specs.QuestionWords.{AreShort}
-use Rattle.uc_top.specs.Answers.{checks, shows, orders, rewrites, pairs_up, isnt_built}
+use Rattle.uc_top.specs.Answers.{checks, shows, orders, rewrites, pairs_up, tables, isnt_built}
 use Rattle.uc_top.specs.Runs.{MayAnswer, is_answer}
 use Rattle.uc_top.proofs.Answering.{one_line, one_name, two_names, not_built, usage_not_done}
 use Rattle.uc_top.proofs.ShortWords.{positionals_short}
@@ -51,7 +51,7 @@ returns-in-len1-as_slice-2-clause-answers g c words r =
 
 pub returns-in_default : goal.returns-in_default
 returns-in_default g c = record {
-  answers = λ words r. one_line c.usage_answer.result (MayAnswer _ _ _ words) _ _ c.usage_answer.ensures (is_answer (isnt_built r (not_built _ c.in_default.not-Check c.in_default.not-Show c.in_default.not-Order c.in_default.not-Rewrite c.in_default.not-Pairs c.in_default.not-Prove c.in_default.not-Decide)));
+  answers = λ words r. one_line c.usage_answer.result (MayAnswer _ _ _ words) _ _ c.usage_answer.ensures (is_answer (isnt_built r (not_built _ c.in_default.not-Check c.in_default.not-Show c.in_default.not-Order c.in_default.not-Rewrite c.in_default.not-Pairs c.in_default.not-Prove c.in_default.not-Decide c.in_default.not-Table)));
   certified = λ v. usage_not_done _ c.usage_answer.result _ c.usage_answer.ensures;
   promise = λ v. absurd (c.in_default.not-Prove v);
   decided = λ v. absurd (c.in_default.not-Decide v);
@@ -74,3 +74,11 @@ returns-in-len2-as_slice-clause-faulted g c = rw c.in-Rewrite.is c.rewrite_answe
 
 pub returns-in-len1-as_slice-2-clause-faulted : goal.returns-in-len1-as_slice-2-clause-faulted
 returns-in-len1-as_slice-2-clause-faulted g c = rw c.in-Pairs.is c.pairs_answer.ensures.faulted
+
+pub returns-in-len2-as_slice-2-clause-answers : goal.returns-in-len2-as_slice-2-clause-answers
+returns-in-len2-as_slice-2-clause-answers g c words r =
+    let names : c.args.command.now.positionals ≡ c.name-item-then-this-lt3-3.result ∷ c.file-item.result ∷ [] = sym c.as_slice-in-Table.ensures ∙ two_names c.as_slice-in-Table.result.now c.name-item-then-this-lt3-3.result c.file-item.result c.in-len2-as_slice-2.len_at_least c.in-len2-as_slice-2.len_below c.name-item-then-this-lt3-3.is c.file-item.is in
+    IfOk-weaker c.table_answer.result _ _ (λ answer a. is_answer (tables r c.in-Table.is names a)) (rw c.as_ref-in-len2-as_slice-2.ensures.value at c.table_answer.ensures.answers)
+
+pub returns-in-len2-as_slice-2-clause-faulted : goal.returns-in-len2-as_slice-2-clause-faulted
+returns-in-len2-as_slice-2-clause-faulted g c = rw c.in-Table.is c.table_answer.ensures.faulted

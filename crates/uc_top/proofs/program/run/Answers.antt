@@ -5,6 +5,7 @@ use Rattle.uc_top.proofs.OrderCompleting.{order_completes}
 use Rattle.uc_top.proofs.CheckEnding.{completes_check}
 use Rattle.uc_top.proofs.RewriteCompleting.{rewrite_completes}
 use Rattle.uc_top.proofs.PairsCompleting.{pairs_complete}
+use Rattle.uc_top.proofs.TableCompleting.{table_completes, keeps_table_word}
 use Rattle.uc_top.proofs.ProveCompleting.{prove_completes, keeps_word}
 use Rattle.uc_top.proofs.DecidePromises.{keeps_decide_word}
 use Rattle.uc_top.proofs.DecideCompleting.{decide_completes}
@@ -88,3 +89,15 @@ returns-in-Ok-clause-sink_counted g c = (_, c.tell.ensures.counted)
 
 pub returns-in-Err-clause-sink_counted : goal.returns-in-Err-clause-sink_counted
 returns-in-Err-clause-sink_counted g c = (7, c.tell_memory_out.ensures.counted)
+
+pub returns-in-Err-clause-complete_table : goal.returns-in-Err-clause-complete_table
+returns-in-Err-clause-complete_table g c = table_completes _ _ _ _ _ _ _ _ _ (record { status = 7; text = _; answer = wants_memory; told = c.tell_memory_out.ensures.told })
+
+pub returns-in-Ok-clause-complete_table : goal.returns-in-Ok-clause-complete_table
+returns-in-Ok-clause-complete_table g c = table_completes _ _ _ _ _ _ _ _ _ (record { status = _; text = _; answer = c.in-Ok.ensures.answers; told = c.tell.ensures.told })
+
+pub returns-in-Err-clause-tabled : goal.returns-in-Err-clause-tabled
+returns-in-Err-clause-tabled g c = keeps_table_word _ 0 0 _ _ _ _ _ _ (record { status = 7; text = _; answer = wants_memory; told = c.tell_memory_out.ensures.told })
+
+pub returns-in-Ok-clause-tabled : goal.returns-in-Ok-clause-tabled
+returns-in-Ok-clause-tabled g c = keeps_table_word _ _ _ _ _ _ _ _ _ (record { status = _; text = _; answer = c.in-Ok.ensures.answers; told = c.tell.ensures.told })
