@@ -42,11 +42,7 @@ pub(crate) fn write_path(out: &mut Text, path: &[u32]) -> Result<(), AllocError>
 }
 
 /// Writes numbers, each behind this mark.
-pub(crate) fn write_numbers(
-    out: &mut Text,
-    mark: &[u8],
-    numbers: &[u32],
-) -> Result<(), AllocError>
+pub(crate) fn write_numbers(out: &mut Text, mark: &[u8], numbers: &[u32]) -> Result<(), AllocError>
     ensures { OnOk result (out.new ≡ out.old ++ further mark.now decimal numbers.now) }
 {
     for number in numbers {
