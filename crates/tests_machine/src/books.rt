@@ -1,6 +1,6 @@
 //! The book: whole histories of small problems.
 
-mod settings;
+pub(crate) mod settings;
 mod turns;
 
 ghost use Rattle.std.specs.Prelude.{◌≡◌, ◌∷◌, []};

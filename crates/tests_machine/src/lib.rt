@@ -22,3 +22,5 @@ mod rows;
 mod shelf;
 #[cfg(test)]
 mod tasks;
+#[cfg(test)]
+mod workers;
