@@ -121,7 +121,8 @@ class View(Case):
         self.assertEqual(course.drawn, [(3, 0), (7, 1), (12, 7)])
         page = self.page(TRACE, "--axioms", "2")
         Page(page)
-        self.assertIn("ended by budget", page)
+        self.assertIn("<p>14 events; the budget is spent.</p>", page)
+        self.assertIn('<tr><td>drop</td><td class="number">1</td></tr>', page)
         self.assertNotIn("doesn't tell how many axioms", page)
 
     def test_proof_and_trace(self):
@@ -146,7 +147,7 @@ class View(Case):
             options = orders.get(name, [])
             trace = ended([uc(), "prove", "--trace", "--budget", "60", *options, path]).stdout.decode()
             page = self.page(trace, "--uc", uc(), "--problem", path, *options)
-            self.assertIn("Weight of the pair that is drawn", page, name)
+            self.assertIn("Weight of the drawn pair", page, name)
             self.assertNotIn("aren&#x27;t shown", page)
 
     def test_weights_of_a_small_search(self):
@@ -155,7 +156,8 @@ class View(Case):
         problem = clauses.read_problem("cnf(a, axiom, f(a) = b).\ncnf(b, axiom, f(b) = a).\ncnf(g, negated_conjecture, f(f(a)) != a).\n")
         trace = "% 1 w0 draw join 0 front 0\n% 2 w0 commit join 0 kept 0\n% 3 w0 draw meet 0 front 1\n% 4 w0 commit meet 0 pairs 0 kills 0\n"
         more = "% 5 w0 draw join 1 front 1\n% 6 w0 commit join 1 kept 1\n"
-        self.assertEqual(replay.weights_of(traces.read_trace(trace + more), problem, {}), ([(1, 3), (5, 3)], 2))
+        self.assertEqual(replay.weights_of(traces.read_trace(trace + more), problem, {}), ([(1, 3), (5, 3)], 2, 6))
+        self.assertEqual(replay.weights_of(traces.read_trace(trace + more), problem, {}, most=4), ([(1, 3)], 2, 4))
         with self.assertRaises(replay.Differs):
             replay.weights_of(traces.read_trace(trace.replace("pairs 0", "pairs 1")), problem, {})
 
@@ -164,7 +166,7 @@ class View(Case):
         trace = ended([uc(), "prove", "--trace", "--budget", "60", os.path.join(EXAMPLES, "group-right-inverse.p")]).stdout.decode()
         page = self.page(trace, "--uc", uc(), "--problem", os.path.join(EXAMPLES, "ring-zero.p"))
         self.assertIn("The weights of the pairs that were drawn aren&#x27;t shown: ", page)
-        self.assertNotIn("Weight of the pair that is drawn", page)
+        self.assertNotIn("Weight of the drawn pair", page)
 
     def test_deep_and_long(self):
         deep = "f(" * 3000 + "a" + ")" * 3000

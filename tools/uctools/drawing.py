@@ -133,9 +133,9 @@ class Axes:
 
     wide, high, left, right, top, low = 720, 260, 64, 16, 30, 40
 
-    def __init__(self, points, logarithmic):
+    def __init__(self, points, logarithmic, span):
         self.logarithmic = logarithmic
-        self.x0, self.x1 = min(x for x, _ in points), max(max(x for x, _ in points), 1)
+        self.x0, self.x1 = span or (min(x for x, _ in points), max(max(x for x, _ in points), 1))
         highest = max(self.height(y) for _, y in points)
         self.y0, self.y1 = (-2, max(math.ceil(highest), 0)) if logarithmic else (0, max(highest, 1))
 
@@ -170,9 +170,12 @@ class Axes:
         return pieces
 
 
-def chart(title, across, up, curves, dots=False, logarithmic=False):
-    """Draws curves over one pair of axes; each curve is a name and its points. With `dots` each point is a dot."""
-    axes = Axes([point for _, curve in curves for point in curve] or [(0, 0)], logarithmic)
+def chart(title, across, up, curves, dots=False, logarithmic=False, span=None):
+    """Draws curves over one pair of axes; each curve is a name and its points. With `dots` each point is a dot.
+
+    The level axis goes over the numbers of `span`, or else as far as the points.
+    """
+    axes = Axes([point for _, curve in curves for point in curve] or [(0, 0)], logarithmic, span)
     end = axes.wide - axes.right
     pieces = [
         f'<svg class="chart" role="img" aria-label="{escape(title)}" viewBox="0 0 {axes.wide} {axes.high}" '

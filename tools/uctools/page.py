@@ -47,6 +47,7 @@ button { font: inherit; margin-right: .5rem; }
   body { padding: .6rem; font-size: 15px; }
   .step { grid-template-columns: minmax(0, 1fr); }
   .step .by { grid-column: 1; grid-row: auto; }
+  .chart text { font-size: 17px; }
 }
 @media print { .scroll { max-height: none; overflow: visible; } button { display: none; } }
 """
@@ -68,7 +69,14 @@ document.addEventListener('click', event => {
 show();
 """
 
-KINDS = {"axiom": "axiom", "goal": "goal, denied", "lemma": "lemma", "end": "contradiction"}
+KINDS = {"axiom": "axiom", "goal": "denied goal", "lemma": "lemma", "end": "contradiction"}
+ENDINGS = {
+    "proved": "; a goal is proved",
+    "saturated": "; the facts are saturated",
+    "budget": "; the budget is spent",
+    "pairs": "; too many pairs would wait",
+    "size": "; a term is too large",
+}
 RULES = {"chain": "", "encode": "the encoding of a goal with variables", "refute": "", "file": ""}
 
 
@@ -136,7 +144,7 @@ def line_html(line, by_name, is_open):
     """Returns a line of the proof, to unfold."""
     kind = drawing.kind_of(line)
     what = KINDS[kind] if line.rule != "encode" else RULES["encode"]
-    note = f" {escape(line.note)}" if line.note else ""
+    note = f": {escape(line.note)}" if line.note else ""
     body = []
     if line.rule == "chain":
         before = line.chain[0]
@@ -149,7 +157,7 @@ def line_html(line, by_name, is_open):
         links = " and ".join(f'<a href="#{name}">{name}</a> <code>{escape(equation(by_name[name]))}</code>' for name in line.parents)
         body.append(f"<p>From {links}.</p>")
     else:
-        body.append(f"<p>A clause of the problem{':' + note if note else ''}.</p>" if line.rule == "file" else "<p>It holds of every term.</p>")
+        body.append(f"<p>A clause of the problem{note}.</p>" if line.rule == "file" else "<p>It holds of every term.</p>")
     mark = " open" if is_open else ""
     steps = f", {counted(len(line.chain) - 1, 'step')}" if line.rule == "chain" else ""
     return (
@@ -183,17 +191,18 @@ def proof_html(name, lines):
 
 def trace_html(course, weights, about_axioms):
     """Returns the part of the page about a history."""
-    draws = [(number, pair) for number, pair in course.drawn]
+    last = course.live[-1][0]
+    span = (0, max(last, 1))
     parts = [
         "<h2>The course of the search</h2>",
-        f"<p>{course.live[-1][0]:,} events{', ended by ' + course.ending if course.ending else ''}.</p>",
-        drawing.chart("Live facts", "event", "facts", [("live facts", course.live)]),
-        drawing.chart("Waiting pairs", "event", "pairs", [("waiting pairs", course.waiting)]),
+        f"<p>{last:,} events{ENDINGS.get(course.ending, '')}.</p>",
+        drawing.chart("Live facts", "event", "facts", [("live facts", course.live)], span=span),
+        drawing.chart("Waiting pairs", "event", "pairs", [("waiting pairs", course.waiting)], span=span),
         f'<p class="key">{escape(about_axioms)}</p>' if about_axioms else "",
     ]
     if weights:
-        parts.append(drawing.chart("Weight of the pair that is drawn", "event", "nodes of both sides", [("weight", weights)], dots=True))
-    parts.append(drawing.chart("Number of the pair that is drawn: pairs are numbered as they are formed", "event", "pair", [("pair", draws)], dots=True))
+        parts.append(drawing.chart("Weight of the drawn pair", "event", "nodes of both sides", [("weight", weights)], dots=True, span=span))
+    parts.append(drawing.chart("Number of the drawn pair, in order of forming", "event", "pair", [("pair", course.drawn)], dots=True, span=span))
     rows = "".join(f'<tr><td>{escape(kind)}</td><td class="number">{count:,}</td></tr>' for kind, count in sorted(course.counts.items()))
     parts.append(f"<h2>How often what happened</h2><table><tr><th>event</th><th>times</th></tr>{rows}</table>")
     return "\n".join(parts)

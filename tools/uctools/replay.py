@@ -2,13 +2,13 @@
 
 The history says what happened; the problem and the order say to which terms. So facts and pairs are formed anew: the history decides
 which pair is drawn and which is kept, and what it counts is compared on the way. Where it doesn't fit, `Differs` is raised, and the page
-has no curve of weights. It is as slow as a short program is; of histories past `MOST_EVENTS` only the beginning is gone through.
+has no curve of weights. It is as slow as a short program is, so of a long history only the beginning is gone through.
 """
 from .clauses import is_variable, parts, size
 from .orders import EQUAL, LESS, chosen
 
 MOST_NODES = 4096
-MOST_EVENTS = 6000
+EVENTS = 2000
 
 
 class Differs(Exception):
@@ -275,12 +275,12 @@ def fresh(name, taken):
     return found
 
 
-def weights_of(events, problem, options):
-    """Returns the curve of the weights of the pairs that were drawn, and how many axioms the search had."""
+def weights_of(events, problem, options, most=EVENTS):
+    """Returns the weights of the pairs that were drawn, how many axioms the search had, and how many events were gone through."""
     axioms, order, least = opening_of(problem, options)
     replay = Replay(axioms, order, least)
-    drawn = []
-    for event in events[:MOST_EVENTS]:
+    drawn, gone = [], 0
+    for event in events[:most]:
         words = event.words
         if event.worker != 0:
             raise Differs("several workers searched, and their facts aren't gone through again")
@@ -295,4 +295,5 @@ def weights_of(events, problem, options):
             replay.meet(int(words[1]), int(words[3]), int(words[5]))
         elif event.what == "audit":
             break
-    return drawn, len(axioms)
+        gone += 1
+    return drawn, len(axioms), gone

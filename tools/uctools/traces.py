@@ -36,8 +36,8 @@ def course_of(events, axioms):
     live, waiting, drawn, counts = [(0, 0)], [(0, axioms)], [], Counter()
     facts, pairs, ending = 0, axioms, None
     for event in events:
-        kind = " ".join([event.what, *event.words[:1]]) if event.what != "close" else "close"
         words = event.words
+        kind = " ".join([event.what, *words[:1]]) if event.what in ("draw", "commit", "reclaim") else event.what
         if event.what == "commit" and words[0] == "join":
             kind += f" {words[2]}"
             facts += words[2] == "kept"
