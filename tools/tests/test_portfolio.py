@@ -223,6 +223,28 @@ class Recognition(unittest.TestCase):
         self.assertEqual(found.products_over_sums(), [("t", "p")])
         self.assertEqual(found.of("commutative"), [("p",)])
 
+        self.assertIn("a near-ring: t distributes over p", self.theory(GROUP.replace("m", "p") + "cnf(d, axiom, t(X1,p(X2,X3)) = p(t(X1,X2),t(X1,X3))).\n").names())
+        both = "cnf(a, axiom, p(z,X1) = X1).\ncnf(b, axiom, p(n(X1),X1) = z).\ncnf(c, axiom, p(p(X1,X2),X3) = p(X1,p(X2,X3))).\n"
+        both += "cnf(d, axiom, t(p(X1,X2),X3) = p(t(X1,X3),t(X2,X3))).\ncnf(e, axiom, t(X1,X2) = t(X2,X1)).\ncnf(f, axiom, p(X1,X2) = p(X2,X1)).\n"
+        self.assertIn("a ring: t distributes over p", self.theory(both).names())
+
+    def test_one_sided(self):
+        """A left unit with a right inverse makes no group."""
+        names = self.theory(GROUP.replace("m(i(X),X)", "m(X,i(X))")).names()
+        self.assertEqual(names, ["a product with unit and inverse: m, e, i"])
+        self.assertEqual(self.theory(GROUP).names(), ["a group: product m, inverse i"])
+
+    def test_boolean_algebra(self):
+        text = "cnf(a, axiom, or(X1,and(X2,X3)) = and(or(X1,X2),or(X1,X3))).\ncnf(b, axiom, and(X1,or(X2,X3)) = or(and(X1,X2),and(X1,X3))).\n"
+        self.assertEqual(self.theory(text).names(), ["and and or distribute over each other"])
+        text += "cnf(c, axiom, or(X1,not(X1)) = one).\ncnf(d, axiom, and(X1,not(X1)) = zero).\n"
+        self.assertEqual(self.theory(text).names(), ["a Boolean algebra: and and or, complement not"])
+
+    def test_presentations(self):
+        self.assertEqual(self.theory(GROUP + "cnf(r, axiom, m(a,m(b,a)) = e).\n").letters(), ["a", "b"])
+        self.assertEqual(self.theory(GROUP + "cnf(r, axiom, m(a,X) = m(X,a)).\ncnf(s, axiom, m(a,a) = e).\n").letters(), [])
+        self.assertIn("the presentation of a monoid: each letter a function of one argument", self.theory("cnf(r, axiom, a(b(X1)) = X1).\n").names())
+
     def test_near_misses(self):
         found = self.theory("cnf(a, axiom, f(X1,X1) = f(X1,X1)).\ncnf(b, axiom, f(f(X1,X2),X3) = f(X2,f(X1,X3))).\n")
         self.assertEqual(found.facts, [])

@@ -177,8 +177,9 @@ def chart(title, across, up, curves, dots=False, logarithmic=False, span=None):
     """
     axes = Axes([point for _, curve in curves for point in curve] or [(0, 0)], logarithmic, span)
     end = axes.wide - axes.right
+    names = [name for name, _ in curves] if len(curves) > 1 else []
     pieces = [
-        f'<svg class="chart" role="img" aria-label="{escape(title)}" viewBox="0 0 {axes.wide} {axes.high}" '
+        f'<svg class="chart" role="img" aria-label="{escape(title)}" viewBox="0 0 {axes.wide} {axes.high + 16 * len(names)}" '
         'xmlns="http://www.w3.org/2000/svg" font-family="sans-serif" font-size="12">',
         f'<text x="{axes.left}" y="18" font-weight="bold">{escape(title)}</text>',
         f'<text x="{end}" y="{axes.high - 6}" text-anchor="end">{escape(across)}</text>',
@@ -187,9 +188,7 @@ def chart(title, across, up, curves, dots=False, logarithmic=False, span=None):
     ]
     for number, (_, curve) in enumerate(curves):
         pieces += drawn_curve([axes.at(point) for point in thinned(curve)], DASHES[number % len(DASHES)], dots)
-    if len(curves) > 1:
-        pieces += legend([name for name, _ in curves], axes.left + 12, axes.top + 8)
-    return "\n".join([*pieces, "</svg>"])
+    return "\n".join([*pieces, *legend(names, axes.left, axes.high), "</svg>"])
 
 
 def drawn_curve(spots, dash, dots):
@@ -201,8 +200,8 @@ def drawn_curve(spots, dash, dots):
 
 
 def legend(names, x, y):
-    """Draws the names of curves, each beside its dashes."""
-    pieces = [f'<rect x="{x - 6}" y="{y - 6}" width="{60 + 8 * max(map(len, names))}" height="{8 + 16 * len(names)}" fill="white" stroke="#999"/>']
+    """Draws the names of curves below each other, each beside its dashes."""
+    pieces = []
     for number, name in enumerate(names):
         here = y + 6 + 16 * number
         dash = DASHES[number % len(DASHES)]
