@@ -200,8 +200,11 @@ class Stops(BenchCase):
 
     @needs("parallel")
     def test_two_machines_ended_at_work(self):
-        """Runs that would go on for long end when the one that waits for them is ended, though its signals don't get to them."""
-        ssh = self.write("ssh", SSH.replace("exec bash", "exec setsid -w bash"), 0o755)
+        """Runs that would go on for long end when the one that waits for them is ended, though its signals don't get to them.
+
+        As with a real ssh, what a run prints goes through the connection, which is open as long as both ends are there.
+        """
+        ssh = self.write("ssh", SSH.replace('exec bash -c "$*"', 'setsid -w bash -c "$*" | cat'), 0o755)
         words = ["--provers", "uc", "-o", self.path("out"), "--sshlogin", "east,west", "--ssh", ssh]
         words = [tool("uc-bench"), "--uc", self.answering(wait="300"), *words, self.problems("a.p", "b.p")]
         with started(words, env=self.environment) as done:

@@ -38,6 +38,15 @@ def _end_with_maker(maker):
         os._exit(127)
 
 
+def join(group):
+    """Puts this process into the group of a family, which a program between them has taken it out of, so that it ends with the family."""
+    _end_with_maker(os.getppid())
+    try:
+        os.setpgid(0, group)
+    except OSError as error:
+        raise Fault(BROKEN, f"the processes to which this one belongs have ended: {reason_of(error)}") from error
+
+
 class Child:
     """A process of a family, with what it has printed so far."""
 
