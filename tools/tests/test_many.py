@@ -1,4 +1,4 @@
-"""The two callers of docs/MANY.md print what stands under them."""
+"""The programs of docs/MANY.md print what stands under them."""
 import os
 import re
 import sys
@@ -19,23 +19,22 @@ def blocks():
 class Callers(Case):
     """Each program, run at the top of the repository with uc on PATH."""
 
-    def run_block(self, language):
+    def run_blocks(self, language, number):
+        found = [block[1:] for block in blocks() if block[0] == language]
+        self.assertEqual(len(found), number)
         os.symlink(os.path.abspath(uc()), self.path("uc"))
         environment = {**self.environment, "PATH": self.folder + os.pathsep + os.environ["PATH"]}
-        for kind, text, wanted in blocks():
-            if kind == language:
-                words = ["bash", "-c", text] if kind == "sh" else [sys.executable, "-c", text]
-                done = ended(words, cwd=TOP, env=environment)
-                self.assertEqual(done.stderr.decode(), "")
-                self.assertEqual((done.returncode, done.stdout.decode()), (0, wanted))
-                return
-        self.fail(f"docs/MANY.md has no program in {language}")
+        for text, wanted in found:
+            words = ["bash", "-c", text] if language == "sh" else [sys.executable, "-c", text]
+            done = ended(words, cwd=TOP, env=environment)
+            self.assertEqual(done.stderr.decode(), "")
+            self.assertEqual((done.returncode, done.stdout.decode()), (0, wanted))
 
     def test_shell(self):
-        self.run_block("sh")
+        self.run_blocks("sh", 2)
 
     def test_python(self):
-        self.run_block("python")
+        self.run_blocks("python", 1)
 
 
 if __name__ == "__main__":
