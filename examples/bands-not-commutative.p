@@ -2,7 +2,8 @@
 %
 % Idempotent semigroups need not commute: two elements show it, while completion doesn't end.
 %
-% Status: ResourceOut
+% Status: Satisfiable
+% Answer: ResourceOut
 % Options: --budget 2000
 
 cnf(associative, axiom, m(m(X,Y),Z) = m(X,m(Y,Z))).

@@ -3,7 +3,8 @@
 % A De Morgan algebra needn't be a Boolean one: in one with three elements the middle one and its complement don't join to what the
 % others and theirs do.
 %
-% Status: ResourceOut
+% Status: Satisfiable
+% Answer: ResourceOut
 % Options: --budget 2000
 
 cnf(join_commutes, axiom, join(X,Y) = join(Y,X)).

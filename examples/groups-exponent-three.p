@@ -3,7 +3,8 @@
 % A group in which the third power of every element is the unit needn't be trivial: three elements show it, while completion doesn't
 % end.
 %
-% Status: ResourceOut
+% Status: Satisfiable
+% Answer: ResourceOut
 % Options: --budget 2000
 
 cnf(left_unit, axiom, m(e,X) = X).

@@ -2,7 +2,8 @@
 %
 % Multiplication in a ring, which need not have a unit, needn't commute: four elements show it.
 %
-% Status: ResourceOut
+% Status: Satisfiable
+% Answer: ResourceOut
 % Options: --budget 2000
 
 cnf(add_commutes, axiom, add(X,Y) = add(Y,X)).

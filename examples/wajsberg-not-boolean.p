@@ -2,7 +2,8 @@
 %
 % Lukasiewicz's logic with many values, by Wajsberg's axioms, doesn't have Peirce's law: three values show it.
 %
-% Status: ResourceOut
+% Status: Satisfiable
+% Answer: ResourceOut
 % Options: --budget 2000
 
 cnf(truth, axiom, i(t,X) = X).

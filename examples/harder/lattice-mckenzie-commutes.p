@@ -2,8 +2,7 @@
 %
 % Four identities of absorption are a basis of lattices; here that the join commutes.
 %
-% Source: R. N. McKenzie, Equational bases for lattice theories, Mathematica Scandinavica 27, 1970; the problems LAT006
-% and following of the TPTP library.
+% Source: R. N. McKenzie, Equational bases for lattice theories, Mathematica Scandinavica 27, 1970.
 %
 % Status: Unsatisfiable
 

@@ -215,6 +215,15 @@ class Faults(Case):
         done = self.view(path, "-o", "/dev/stdout")
         self.assertTrue(done.stdout.startswith(b"<!DOCTYPE html>"))
 
+    def test_missing_uc_and_problem(self):
+        """The problem of a history is read by uc, which has to be there, and to find the problem."""
+        trace, out = self.write("a.t", TRACE), self.path("page.html")
+        self.says(self.view(trace, "-o", out, "--uc", self.path("none"), "--problem", "p.p"), 8, "there is no program")
+        fake = self.fake("exit 3", show="echo '% p.p Absent'; exit 3")
+        self.says(self.view(trace, "-o", out, "--uc", fake, "--problem", "p.p"), 3, "uc refuses the problem or the order")
+        self.says(self.view(trace, "-o", out, "--problem", "ä.p"), 4, "uc reads names of the bytes 32 to 126 alone")
+        self.assertFalse(os.path.exists(out))
+
     def test_a_page_that_stands_is_kept(self):
         """Where a page can't be made, the one that stood there stays."""
         out = self.write("page.html", "before")

@@ -3,8 +3,8 @@
 Each row has a name, the round in which it enters, a function that gives the options for a theory (or None where the row isn't for it),
 and the reason. Rows that give the same options are tried once, by the first of them.
 
-The rounds have growing limits, `limits_of`: a row that is stopped by one is tried again with more. So a row that needs little is found
-early, whatever stands before it, and at most a third of the work of a row is done twice.
+The limits grow, `limits_of`: a row that is stopped by one is tried again with limits that are doubled twice. So a row that needs little
+is found early, whatever stands before it, and at most a third of the work of a row is done twice.
 """
 from collections import namedtuple
 
