@@ -124,6 +124,7 @@ class View(Case):
         self.assertIn("<p>14 events; the budget is spent.</p>", page)
         self.assertIn('<tr><td>drop</td><td class="number">1</td></tr>', page)
         self.assertNotIn("doesn't tell how many axioms", page)
+        self.assertIn("With --problem there is a curve of the weights", page)
 
     def test_proof_and_trace(self):
         page = self.page(PROOF + TRACE)
