@@ -223,7 +223,8 @@ class Recognition(unittest.TestCase):
         self.assertEqual(found.products_over_sums(), [("t", "p")])
         self.assertEqual(found.of("commutative"), [("p",)])
 
-        self.assertIn("a near-ring: t distributes over p", self.theory(GROUP.replace("m", "p") + "cnf(d, axiom, t(X1,p(X2,X3)) = p(t(X1,X2),t(X1,X3))).\n").names())
+        near = GROUP.replace("m(", "p(") + "cnf(d, axiom, t(X1,p(X2,X3)) = p(t(X1,X2),t(X1,X3))).\n"
+        self.assertIn("a near-ring: t distributes over p", self.theory(near).names())
         both = "cnf(a, axiom, p(z,X1) = X1).\ncnf(b, axiom, p(n(X1),X1) = z).\ncnf(c, axiom, p(p(X1,X2),X3) = p(X1,p(X2,X3))).\n"
         both += "cnf(d, axiom, t(p(X1,X2),X3) = p(t(X1,X3),t(X2,X3))).\ncnf(e, axiom, t(X1,X2) = t(X2,X1)).\ncnf(f, axiom, p(X1,X2) = p(X2,X1)).\n"
         self.assertIn("a ring: t distributes over p", self.theory(both).names())
@@ -243,7 +244,8 @@ class Recognition(unittest.TestCase):
     def test_presentations(self):
         self.assertEqual(self.theory(GROUP + "cnf(r, axiom, m(a,m(b,a)) = e).\n").letters(), ["a", "b"])
         self.assertEqual(self.theory(GROUP + "cnf(r, axiom, m(a,X) = m(X,a)).\ncnf(s, axiom, m(a,a) = e).\n").letters(), [])
-        self.assertIn("the presentation of a monoid: each letter a function of one argument", self.theory("cnf(r, axiom, a(b(X1)) = X1).\n").names())
+        words = self.theory("cnf(r, axiom, a(b(X1)) = X1).\n").names()
+        self.assertIn("the presentation of a monoid: each letter a function of one argument", words)
 
     def test_near_misses(self):
         found = self.theory("cnf(a, axiom, f(X1,X1) = f(X1,X1)).\ncnf(b, axiom, f(f(X1,X2),X3) = f(X2,f(X1,X3))).\n")
