@@ -62,6 +62,7 @@ const show = () => {
 };
 document.querySelectorAll('.scroll').forEach(box => { box.scrollLeft = (box.scrollWidth - box.clientWidth) / 2; });
 addEventListener('hashchange', show);
+addEventListener('beforeprint', () => all(true));
 document.addEventListener('click', event => {
   const link = event.target.closest('a[href^="#"]');
   if (link && link.getAttribute('href') === location.hash) { show(); }
