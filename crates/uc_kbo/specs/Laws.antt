@@ -18,6 +18,7 @@ use Rattle.uc_kbo.specs.Instances.{gain, occurrences-apply, Keeps, kept}
 use Rattle.uc_kbo.specs.WellFounded.{accessible}
 use Rattle.uc_kbo.specs.Table.{bool_cases, if_true, if_false, admissible}
 use Rattle.uc_kbo.specs.Rises.{no_greater_sum}
+use Rattle.uc_kbo.specs.Refining.{refined, one_way}
 use Rattle.uc_kbo.specs.Ground.{no_variables, total_ground, least_is, bottom, binary}
 
 module _ (w : Weighing) (ok : Admissible w) where
@@ -113,5 +114,7 @@ kbo_laws w0 es table =
       least_is = least_is w0 es table;
       bottom = bottom w0 es table;
       under_holds = λ cs σ s t hs ht r gs gt k. under_holds w ok (In (symbols_of es)) (arity_in es) cs σ r s t hs ht gs gt k;
+      refined = refined w;
+      one_way = one_way w;
       binary = binary w0 es table;
     }

@@ -12,3 +12,4 @@ pub mod Runs
 pub mod Balances
 pub mod Faults
 pub mod Valid
+pub mod Refining

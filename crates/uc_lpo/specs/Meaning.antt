@@ -1,13 +1,14 @@
 -- What the lexicographic path order of a precedence says, and that it keeps the laws of an order.
 use Rattle.std.proofs.Common.{◌≡◌, ℕ, ◌<◌, ◌≤◌, List}
 use Rattle.uc_term.specs.declared.node.Sym.{Sym}
-use Rattle.uc_term.specs.Tree.{Tree, Trees, none, more, apply}
+use Rattle.uc_term.specs.Tree.{Tree, var, Trees, none, more, apply}
 use Rattle.uc_order.specs.Members.{In}
-use Rattle.uc_order.specs.VarOrders.{Classes, Among, HasOnly, IsHigher, represented, Respects}
+use Rattle.uc_order.specs.VarOrders.{Classes, Among, HasOnly, IsHigher, representative, represented, Respects}
 use Rattle.uc_order.specs.Laws.{Meaning, Laws, Inside, inside, InsideOne, is_first, in_first_one, in_later_one}
 use Rattle.uc_order.proofs.Respected.{HasOnly-represented, represented-same, higher_greater}
 use Rattle.uc_lpo.specs.PathOrder.{PathOrder, by_argument, SomeReaches, is_it, is_greater, a_later, Nothing, Lpo}
 use Rattle.uc_lpo.specs.Laws.{PathOrder-apply, contexts, transitive, irreflexive}
+use Rattle.uc_lpo.specs.Higher.{higher_transitive, higher_irreflexive}
 use Rattle.uc_lpo.specs.Total.{total, bottom}
 use Rattle.uc_lpo.specs.WellFounded.{accessible}
 use Rattle.uc_lpo.specs.Binary.{associates, commutes, exchanges}
@@ -56,6 +57,15 @@ module _ (rank : Sym → ℕ) where
       let at_t = represented-same (Lpo rank) σ cs r t in
       rw (← at_s, ← at_t) (PathOrder-apply rank (IsHigher cs) Nothing (Among cs) σ (λ x y a b h. higher_greater (Lpo rank) σ cs x y r a b h) (HasOnly-represented cs s hs) (HasOnly-represented cs t ht) l)
 
+  refined : (cs : Classes) (s t : Tree) → Lpo rank s t → LpoUnder rank cs s t
+  refined cs s t l = PathOrder-apply rank Nothing (IsHigher cs) (λ x. Unit {0}) (λ x. var (representative cs x)) (λ x y _ _ h. absurd h) (λ x _. tt) (λ x _. tt) l
+
+  one_way : (cs : Classes) (s t : Tree) → LpoUnder rank cs s t → LpoUnder rank cs t s → ⊥
+  one_way cs s t l k =
+      let a = represented cs s in
+      let b = represented cs t in
+      irreflexive rank (IsHigher cs) (higher_transitive cs) (higher_irreflexive cs) a (transitive rank (IsHigher cs) (higher_transitive cs) a b a l k)
+
 -- the laws, where `least` is the constant of the lowest rank
 pub laws_of : (precedence : List Sym) (arities : List ℕ) (least : Sym) → 0 < rank_in precedence least → arity_in precedence arities least ≡ 0 → ((f : Sym) → 0 < rank_in precedence f → arity_in precedence arities f ≡ 0 → rank_in precedence least ≤ rank_in precedence f) → Laws (meaning_of precedence arities least)
 laws_of precedence arities least known bare lowest =
@@ -72,6 +82,8 @@ laws_of precedence arities least known bare lowest =
       least_is = (known_rank precedence least known, bare);
       bottom = bottom rank Nothing (In precedence) arity (rank_once precedence) least (known_rank precedence least known) (λ g i e. lowest g (rank_known precedence g i) e);
       under_holds = λ cs σ s t hs ht r _ _ l. under_holds rank cs σ s t hs ht r l;
+      refined = refined rank;
+      one_way = one_way rank;
       binary = λ f _ _. record {
         brackets = λ x y z _ _ _. associates rank Nothing f x y z;
         swapped = λ x y _ _ l. commutes rank Nothing f x y l;

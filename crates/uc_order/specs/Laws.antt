@@ -61,4 +61,8 @@ pub record Laws (m : Meaning) : Type 0 where
   pub bottom : (t : Tree) → IsGroundOf m t → (t ≡ least_term m) ⊎ m.greater t (least_term m)
   -- what is greater under an order of variables is greater in every ground instance that respects it
   pub under_holds : (cs : Classes) (σ : ℕ → Tree) (s t : Tree) → HasOnly cs s → HasOnly cs t → Respects m.greater σ cs → IsGroundOf m (apply σ s) → IsGroundOf m (apply σ t) → m.under cs s t → m.greater (apply σ s) (apply σ t)
+  -- what is greater is so under every order of variables
+  pub refined : (cs : Classes) (s t : Tree) → m.greater s t → m.under cs s t
+  -- under an order of variables only one of two terms is greater
+  pub one_way : (cs : Classes) (s t : Tree) → m.under cs s t → m.under cs t s → ⊥
   pub binary : (f : Sym) → HasSym m f → m.arity f ≡ 2 → BinaryLaws m f

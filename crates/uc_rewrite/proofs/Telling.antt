@@ -12,17 +12,17 @@ use Rattle.uc_term.proofs.NodeVars.{node_vars, node_vars-append, node_vars-flat}
 use Rattle.uc_fact.proofs.Occurring.{occurs}
 use Rattle.uc_order.specs.Laws.{Meaning, Laws, Inside, inside, InsideOne, is_first, in_first_one, in_later_one}
 use Rattle.uc_rewrite.specs.declared.comparison.Falling.TheVariants.{Always, Never}
-use Rattle.uc_rewrite.specs.Comparing.{IsVariableOf, Tells}
+use Rattle.uc_rewrite.specs.Comparing.{IsVariableOf, TellsAll}
 
 module _ (m : Meaning) (laws : Laws m) (from to : Tree) where
-  pub always : m.greater from to → Tells m.greater from to Always
-  always g σ = laws.instances σ from to g
+  pub always : m.greater from to → TellsAll m from to Always
+  always g = (λ σ. laws.instances σ from to g, λ cs σ. laws.refined cs (apply σ from) (apply σ to) (laws.instances σ from to g))
 
-  pub never_up : m.greater to from → Tells m.greater from to Never
-  never_up g σ d = laws.irreflexive (apply σ from) (laws.transitive (apply σ from) (apply σ to) (apply σ from) d (laws.instances σ to from g))
+  pub never_up : m.greater to from → TellsAll m from to Never
+  never_up g = (λ σ d. laws.irreflexive (apply σ from) (laws.transitive (apply σ from) (apply σ to) (apply σ from) d (laws.instances σ to from g)), λ cs σ d. laws.one_way cs (apply σ from) (apply σ to) d (laws.refined cs (apply σ to) (apply σ from) (laws.instances σ to from g)))
 
-  pub never_same : from ≡ to → Tells m.greater from to Never
-  never_same e σ d = laws.irreflexive (apply σ from) (subst (λ z. m.greater (apply σ from) (apply σ z)) (sym e) d)
+  pub never_same : from ≡ to → TellsAll m from to Never
+  never_same e = (λ σ d. laws.irreflexive (apply σ from) (subst (λ z. m.greater (apply σ from) (apply σ z)) (sym e) d), λ cs σ d. let k = subst (λ z. m.under cs (apply σ from) (apply σ z)) (sym e) d in laws.one_way cs (apply σ from) (apply σ from) k k)
 
 pub two : (R : Tree → Tree → Type 0) (a b : List Node) (c d : Tree) → tree_of a ≡ c → tree_of b ≡ d → R (tree_of a) (tree_of b) → R c d
 two R a b c d e f h = subst (λ z. R c z) f (subst (λ z. R z (tree_of b)) e h)
@@ -42,8 +42,8 @@ mutual
   inside_one x (more t ts) (in_later o) = in_later_one (inside_one x ts o)
 
 -- so that no instance of it is greater
-pub never_variable : (m : Meaning) (laws : Laws m) (from to : Tree) → IsVariableOf from to → Tells m.greater from to Never
-never_variable m laws from to v = elim (at_or_inside v.x to v.occurs) as (λ _. Tells m.greater from to Never) [
+pub never_variable : (m : Meaning) (laws : Laws m) (from to : Tree) → IsVariableOf from to → TellsAll m from to Never
+never_variable m laws from to v = elim (at_or_inside v.x to v.occurs) as (λ _. TellsAll m from to Never) [
   | inl e ↦ never_same m laws from to (v.term_is ∙ sym e)
   | inr i ↦ never_up m laws from to (subst (λ z. m.greater to z) (sym v.term_is) (laws.subterms to (var v.x) i))
 ]

@@ -2,6 +2,8 @@
 use Rattle.std.specs.Prelude.{ℕ, ◌≡◌}
 use Rattle.uc_term.specs.Tree.{Tree, var, apply}
 use Rattle.uc_term.specs.Variables.{Occurs}
+use Rattle.uc_order.specs.VarOrders.{Classes}
+use Rattle.uc_order.specs.Laws.{Meaning}
 use Rattle.uc_rewrite.specs.declared.comparison.Falling.{Falling}
 use Rattle.uc_rewrite.specs.declared.comparison.Falling.TheVariants.{Always, Never, Unclear}
 
@@ -14,6 +16,10 @@ abbrev pub Tells : (Tree → Tree → Type 0) → Tree → Tree → Falling → 
 Tells Greater from to Always = (σ : ℕ → Tree) → Greater (apply σ from) (apply σ to)
 Tells Greater from to Never = (σ : ℕ → Tree) → Greater (apply σ from) (apply σ to) → ⊥
 Tells Greater from to Unclear = Unit {0}
+
+-- the same by an order, and by it under each order of variables
+abbrev pub TellsAll : Meaning → Tree → Tree → Falling → Type 0
+TellsAll m from to answer = Tells m.greater from to answer × ((cases : Classes) → Tells (m.under cases) from to answer)
 
 -- the term is a variable, and it occurs in the other one
 pub record IsVariableOf (term other : Tree) : Type 0 where

@@ -3,7 +3,7 @@
 ghost use Rattle.std.specs.Prelude.{◌≡◌, ◌↔◌, IsTrue};
 ghost use Rattle.uc_term.specs.Flat.{tree_of, IsWhole};
 ghost use Rattle.uc_term.specs.Variables.{Occurs};
-ghost use Rattle.uc_rewrite.specs.Comparing.{IsVariableOf};
+ghost use Rattle.uc_rewrite.specs.Comparing.{IsVariableOf, TellsAll};
 
 use uc_order::{Cmp, Order};
 use uc_term::{MAX_INSTANCE, Node, Sym, Term, VarOrder};
@@ -44,9 +44,6 @@ pub trait Comparison {
         requires t_known { VariablesAre (knows self.now) (tree_of t.now) }
         ensures { IsTrue result ↔ greater self.now (tree_of s.now) (tree_of t.now) };
 
-    /// Whether the sides of a fact tell anything of their instances at all, so that it is worth looking them up.
-    fn asks_sides(&self) -> bool;
-
     /// What the two sides of a fact tell of their instances. It takes no memory.
     fn of_sides(&self, from: &Term, to: &Term) -> Falling
         ensures { Tells (greater self.now) from.now to.now result };
@@ -73,22 +70,8 @@ impl<'a, O: Order> Comparison for ByOrder<'a, O> {
         self.order.compare(s, t) == Cmp::Greater
     }
 
-    fn asks_sides(&self) -> bool {
-        true
-    }
-
-    // An order keeps to instances, so what it says of the sides holds of all of them. A variable that occurs in the other
-    // side needn't be compared: its instances are subterms.
     fn of_sides(&self, from: &Term, to: &Term) -> Falling {
-        if is_variable_of(from, to) {
-            return Falling::Never;
-        }
-        match self.order.compare(from.as_nodes(), to.as_nodes()) {
-            Cmp::Greater => Falling::Always,
-            Cmp::Less => Falling::Never,
-            Cmp::Equal => Falling::Never,
-            Cmp::Unknown => Falling::Unclear,
-        }
+        told_by_sides(self.order, from, to)
     }
 
     fn least(&self) -> Sym {
@@ -116,17 +99,30 @@ impl<'a, O: Order> Comparison for UnderCases<'a, O> {
         self.order.compare_under(self.cases, s, t) == Cmp::Greater
     }
 
-    fn asks_sides(&self) -> bool {
-        false
-    }
-
-    // The order of the variables says nothing of those of a fact.
-    fn of_sides(&self, _from: &Term, _to: &Term) -> Falling {
-        Falling::Unclear
+    // The order of the variables says nothing of those of a fact, but what is greater without it is greater under it.
+    fn of_sides(&self, from: &Term, to: &Term) -> Falling {
+        told_by_sides(self.order, from, to)
     }
 
     fn least(&self) -> Sym {
         self.order.least()
+    }
+}
+
+/// What the two sides of a fact tell of their instances, by an order and by it under each order of variables: an order keeps
+/// to instances, and what is greater is so under every order of variables. A variable that occurs in the other side needn't
+/// be compared: its instances are subterms.
+fn told_by_sides<O: Order>(order: &O, from: &Term, to: &Term) -> Falling
+    ensures { TellsAll (O.meaning order.now) from.now to.now result }
+{
+    if is_variable_of(from, to) {
+        return Falling::Never;
+    }
+    match order.compare(from.as_nodes(), to.as_nodes()) {
+        Cmp::Greater => Falling::Always,
+        Cmp::Less => Falling::Never,
+        Cmp::Equal => Falling::Never,
+        Cmp::Unknown => Falling::Unclear,
     }
 }
 

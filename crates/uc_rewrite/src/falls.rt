@@ -35,9 +35,6 @@ impl<'a, C: Comparison, I: Index> Test for Falls<'a, C, I> {
     ghost accepts = { λ s found. LeadsDown (C.greater s.rules.now.comparison.now) (C.constant s.rules.now.comparison.now) (I.live s.rules.now.index.now) (tree_of s.term.now) found };
 
     fn rules_out(&self, fact: u32, side: Side) -> bool {
-        if !self.rules.comparison.asks_sides() {
-            return false;
-        }
         match self.rules.index.pair(fact) {
             Some((left, right)) => never_falls(self.rules.comparison, side, left, right),
             None => false,
