@@ -84,14 +84,14 @@ read_plain cs (App f n ∷ ns) = ap (λ l. App f n ∷ l) (read_plain cs ns)
 
 -- counter by counter
 module _ (w : Weighing) (cs : Classes) (s t : List Node) (a b : Run) where
-  by_counters : (ns ms : List Node) (k : ℕ) → ((i : ℕ) → i < 64 → slice_index a.counts i ≡ count_by (is_counted (is_it i)) ns) → ((i : ℕ) → i < 64 → slice_index b.counts i ≡ count_by (is_counted (is_it i)) ms) → ((i : ℕ) → 64 ≤ i → count_by (is_counted (is_it i)) ms ≡ 0) → ((i : ℕ) → i < 64 → slice_index b.counts i ≤ slice_index a.counts i) → (k < 64) ⊎ (64 ≤ k) → count_by (is_counted (is_it k)) ms ≤ count_by (is_counted (is_it k)) ns
+  by_counters : (ns ms : List Node) (k : ℕ) → ((i : ℕ) → i < 32 → slice_index a.counts i ≡ count_by (is_counted (is_it i)) ns) → ((i : ℕ) → i < 32 → slice_index b.counts i ≡ count_by (is_counted (is_it i)) ms) → ((i : ℕ) → 32 ≤ i → count_by (is_counted (is_it i)) ms ≡ 0) → ((i : ℕ) → i < 32 → slice_index b.counts i ≤ slice_index a.counts i) → (k < 32) ⊎ (32 ≤ k) → count_by (is_counted (is_it k)) ms ≤ count_by (is_counted (is_it k)) ns
   by_counters ns ms k p q z h (inl l) = omega (arith, p k l, q k l, h k l)
   by_counters ns ms k p q z h (inr g) = omega (arith, z k g)
 
-  pub each_covers : IsRun w (slot_by false cs) s a → IsRun w (slot_by false cs) t b → b.has_large ≡ false → ((i : ℕ) → i < 64 → slice_index b.counts i ≤ slice_index a.counts i) → HasAll (test_by false cs) (part s a.from a.to) (part t b.from b.to)
+  pub each_covers : IsRun w (slot_by false cs) s a → IsRun w (slot_by false cs) t b → b.has_large ≡ false → ((i : ℕ) → i < 32 → slice_index b.counts i ≤ slice_index a.counts i) → HasAll (test_by false cs) (part s a.from a.to) (part t b.from b.to)
   each_covers p q l h k = by_counters (part s a.from a.to) (part t b.from b.to) k p.counts q.counts (q.large l) h (grind arith)
 
-  pub covers_each : IsRun w (slot_by false cs) s a → IsRun w (slot_by false cs) t b → HasAll (test_by false cs) (part s a.from a.to) (part t b.from b.to) → (i : ℕ) → i < 64 → slice_index b.counts i ≤ slice_index a.counts i
+  pub covers_each : IsRun w (slot_by false cs) s a → IsRun w (slot_by false cs) t b → HasAll (test_by false cs) (part s a.from a.to) (part t b.from b.to) → (i : ℕ) → i < 32 → slice_index b.counts i ≤ slice_index a.counts i
   covers_each p q h i l = omega (arith, h i, p.counts i l, q.counts i l)
 
 -- sums of the counters from one on
@@ -128,26 +128,26 @@ drop_past (x ∷ xs) (suc i) h = drop_past xs i (omega arith)
 
 module _ (w : Weighing) (cs : Classes) (list : List Node) (r : Run) (run : IsRun w (slot_by true cs) list r) (l : r.has_large ≡ false) where
   -- n counters before the end
-  from_sum : (n k : ℕ) → k + n ≡ 64 → count_by (is_counted (is_from cs k)) (part list r.from r.to) ≡ sum (drop k r.counts)
+  from_sum : (n k : ℕ) → k + n ≡ 32 → count_by (is_counted (is_from cs k)) (part list r.from r.to) ≡ sum (drop k r.counts)
   from_sum zero k e = omega (arith, beyond cs k (part list r.from r.to) (λ i h. run.large l i (omega arith)), ap sum (drop_past r.counts k (omega (arith, run.size))))
   from_sum (suc n) k e =
       let s : k + 1 ≡ suc k = omega arith in
       let d : sum (drop (k + 1) r.counts) ≡ sum (drop (suc k) r.counts) = ap (λ m. sum (drop m r.counts)) s in
       omega (arith, count_split cs k (part list r.from r.to), run.counts k (omega arith), sum_at r.counts k (omega (arith, run.size)), from_sum n (suc k) (omega arith), d)
 
-  from_beyond : (k : ℕ) → 64 ≤ k → count_by (is_counted (is_from cs k)) (part list r.from r.to) ≡ 0
+  from_beyond : (k : ℕ) → 32 ≤ k → count_by (is_counted (is_from cs k)) (part list r.from r.to) ≡ 0
   from_beyond k h = beyond cs k (part list r.from r.to) (λ i g. run.large l i (omega arith))
 
 module _ (w : Weighing) (cs : Classes) (s t : List Node) (a b : Run) (p : IsRun w (slot_by true cs) s a) (q : IsRun w (slot_by true cs) t b) (la : a.has_large ≡ false) (lb : b.has_large ≡ false) where
-  from_one : (k : ℕ) → ((i : ℕ) → i ≤ 64 → sum (drop i b.counts) ≤ sum (drop i a.counts)) → (k ≤ 64) ⊎ (64 ≤ k) → count_by (is_counted (is_from cs k)) (part t b.from b.to) ≤ count_by (is_counted (is_from cs k)) (part s a.from a.to)
-  from_one k h (inl l) = omega (arith, from_sum w cs s a p la (64 - k) k (omega arith), from_sum w cs t b q lb (64 - k) k (omega arith), h k l)
+  from_one : (k : ℕ) → ((i : ℕ) → i ≤ 32 → sum (drop i b.counts) ≤ sum (drop i a.counts)) → (k ≤ 32) ⊎ (32 ≤ k) → count_by (is_counted (is_from cs k)) (part t b.from b.to) ≤ count_by (is_counted (is_from cs k)) (part s a.from a.to)
+  from_one k h (inl l) = omega (arith, from_sum w cs s a p la (32 - k) k (omega arith), from_sum w cs t b q lb (32 - k) k (omega arith), h k l)
   from_one k h (inr g) = omega (arith, from_beyond w cs t b q lb k g)
 
-  pub from_covers : ((i : ℕ) → i ≤ 64 → sum (drop i b.counts) ≤ sum (drop i a.counts)) → HasAll (test_by true cs) (part s a.from a.to) (part t b.from b.to)
+  pub from_covers : ((i : ℕ) → i ≤ 32 → sum (drop i b.counts) ≤ sum (drop i a.counts)) → HasAll (test_by true cs) (part s a.from a.to) (part t b.from b.to)
   from_covers h k = from_one k h (grind arith)
 
-  pub covers_from : HasAll (test_by true cs) (part s a.from a.to) (part t b.from b.to) → (i : ℕ) → i ≤ 64 → sum (drop i b.counts) ≤ sum (drop i a.counts)
-  covers_from h i l = omega (arith, h i, from_sum w cs s a p la (64 - i) i (omega arith), from_sum w cs t b q lb (64 - i) i (omega arith))
+  pub covers_from : HasAll (test_by true cs) (part s a.from a.to) (part t b.from b.to) → (i : ℕ) → i ≤ 32 → sum (drop i b.counts) ≤ sum (drop i a.counts)
+  covers_from h i l = omega (arith, h i, from_sum w cs s a p la (32 - i) i (omega arith), from_sum w cs t b q lb (32 - i) i (omega arith))
 
 -- no class number is above the number of classes
 class_bound : (cs : Classes) (x : ℕ) → class_of cs x ≤ length cs
@@ -178,18 +178,18 @@ sum_before xs at h k =
     let e : at - 1 + 1 ≡ at = omega arith in
     sum_at xs (at - 1) (omega arith) ∙ ap (λ m. slice_index xs (at - 1) + sum (drop m xs)) e
 
-pub so_far_more : (xs bs : List ℕ) (at : ℕ) → sum (drop (at - 1) bs) ≤ sum (drop (at - 1) xs) → ((k : ℕ) → at ≤ k → k ≤ 64 → sum (drop k bs) ≤ sum (drop k xs)) → (k : ℕ) → at - 1 ≤ k → k ≤ 64 → sum (drop k bs) ≤ sum (drop k xs)
+pub so_far_more : (xs bs : List ℕ) (at : ℕ) → sum (drop (at - 1) bs) ≤ sum (drop (at - 1) xs) → ((k : ℕ) → at ≤ k → k ≤ 32 → sum (drop k bs) ≤ sum (drop k xs)) → (k : ℕ) → at - 1 ≤ k → k ≤ 32 → sum (drop k bs) ≤ sum (drop k xs)
 so_far_more xs bs at h f k l m = go (grind arith)
   where
     go : (at ≤ k) ⊎ (k ≡ at - 1) → sum (drop k bs) ≤ sum (drop k xs)
     go (inl g) = f k g m
     go (inr e) = let P : ℕ → Type 0 = λ j. sum (drop j bs) ≤ sum (drop j xs) in subst P (sym e) h
 
-pub so_far_end : (xs bs : List ℕ) → length xs ≡ 64 → length bs ≡ 64 → (k : ℕ) → 64 ≤ k → k ≤ 64 → sum (drop k bs) ≤ sum (drop k xs)
+pub so_far_end : (xs bs : List ℕ) → length xs ≡ 32 → length bs ≡ 32 → (k : ℕ) → 32 ≤ k → k ≤ 32 → sum (drop k bs) ≤ sum (drop k xs)
 so_far_end xs bs ha hb k l m = omega (arith, ap sum (drop_past bs k (omega arith)), ap sum (drop_past xs k (omega arith)))
 
-pub drop_end : (xs : List ℕ) → length xs ≡ 64 → 0 ≡ sum (drop 64 xs)
-drop_end xs h = sym (ap sum (drop_past xs 64 (omega arith)))
+pub drop_end : (xs : List ℕ) → length xs ≡ 32 → 0 ≡ sum (drop 32 xs)
+drop_end xs h = sym (ap sum (drop_past xs 32 (omega arith)))
 
 -- counting node by node
 pub count_step : (p : Node → Bool) (ns : List Node) (i : ℕ) (d : Node) → i < length ns → count_by p (take (i + 1) ns) ≡ count_by p (take i ns) + cond {A = ℕ} (p (get_or ns i d)) 1 0

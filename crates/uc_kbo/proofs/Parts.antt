@@ -46,9 +46,9 @@ pub record Taken (w : Weighing) (slot : ℕ → ℕ) (old : Run) (ns : List Node
   pub to : r.to ≡ old.to
   pub weight : r.weight ≡ old.weight + sum_by (node_weight w) (take i ns)
   pub small : r.weight ≤ 4294967295 * (r.to - r.from + i)
-  pub size : length r.counts ≡ 64
-  pub counts : (x : ℕ) → x < 64 → slice_index r.counts x ≡ slice_index old.counts x + count_by (is_counted (in_slot slot x)) (take i ns)
-  pub large : r.has_large ≡ false → (old.has_large ≡ false) × ((x : ℕ) → 64 ≤ x → count_by (is_counted (in_slot slot x)) (take i ns) ≡ 0)
+  pub size : length r.counts ≡ 32
+  pub counts : (x : ℕ) → x < 32 → slice_index r.counts x ≡ slice_index old.counts x + count_by (is_counted (in_slot slot x)) (take i ns)
+  pub large : r.has_large ≡ false → (old.has_large ≡ false) × ((x : ℕ) → 32 ≤ x → count_by (is_counted (in_slot slot x)) (take i ns) ≡ 0)
 
 pub taken_all : (w : Weighing) (slot : ℕ → ℕ) (list : List Node) (old r : Run) (to i : ℕ) → IsRun w slot list old → old.to ≤ to → to ≤ length list → Taken w slot old (part list old.to to) i r → length (part list old.to to) ≤ i → i ≤ length (part list old.to to) → IsRun w slot list (record r { to = to })
 taken_all w slot list old r to i run ahead within t all most =
@@ -90,7 +90,7 @@ to_sums a b x y p q (inr h) = inr (omega arith, h.1)
 none_of : (p : ℕ) (ns : List Node) → part ns p p ≡ []
 none_of p ns = let e : p - p ≡ 0 = omega arith in ap (λ n. take n (drop p ns)) e
 
-pub run_new : (w : Weighing) (slot : ℕ → ℕ) (list : List Node) (p : ℕ) (r : Run) → p ≤ length list → r.from ≡ p → r.to ≡ p → r.weight ≡ 0 → r.counts ≡ replicate 64 0 → r.has_large ≡ false → IsRun w slot list r
+pub run_new : (w : Weighing) (slot : ℕ → ℕ) (list : List Node) (p : ℕ) (r : Run) → p ≤ length list → r.from ≡ p → r.to ≡ p → r.weight ≡ 0 → r.counts ≡ replicate 32 0 → r.has_large ≡ false → IsRun w slot list r
 run_new w slot list p r h f t wt c l =
     let e : part list r.from r.to ≡ [] = rw (f, t) (none_of p list) in
     record {
@@ -98,8 +98,8 @@ run_new w slot list p r h f t wt c l =
       within = omega arith;
       weight = wt ∙ ap (sum_by (node_weight w)) (sym e);
       small = omega arith;
-      size = ap length c ∙ length-replicate {A = ℕ} 64 0;
-      counts = λ x k. ap (λ l. slice_index l x) c ∙ get_or-replicate {A = ℕ} 64 x 0 0 k ∙ ap (count_by (is_counted (in_slot slot x))) (sym e);
+      size = ap length c ∙ length-replicate {A = ℕ} 32 0;
+      counts = λ x k. ap (λ l. slice_index l x) c ∙ get_or-replicate {A = ℕ} 32 x 0 0 k ∙ ap (count_by (is_counted (in_slot slot x))) (sym e);
       large = λ q x k. ap (count_by (is_counted (in_slot slot x))) e;
     }
 
@@ -110,7 +110,7 @@ module _ (w : Weighing) (slot : ℕ → ℕ) (list : List Node) (old : Run) (to 
       let long = length-part list old.to to ahead within in
       omega (arith, t.small, t.from, t.to, run.ordered)
 
-  pub room_counts : (x : ℕ) → x < 64 → slice_index r.counts x + 1 < 4294967296
+  pub room_counts : (x : ℕ) → x < 32 → slice_index r.counts x + 1 < 4294967296
   room_counts x h =
       let long = length-part list old.to to ahead within in
       let before = length-part list old.from old.to run.ordered run.within in
@@ -118,7 +118,7 @@ module _ (w : Weighing) (slot : ℕ → ℕ) (list : List Node) (old : Run) (to 
       omega (arith, t.counts x h, run.counts x h, count_small (is_counted (in_slot slot x)) (part list old.from old.to), count_small (is_counted (in_slot slot x)) (take i (part list old.to to)), run.ordered, run.within)
 
   -- one node more
-  pub taken_more : (r' : Run) (d n : Node) → n ≡ get_or (part list old.to to) i d → r'.from ≡ r.from → r'.to ≡ r.to → r'.weight ≡ r.weight + node_weight w n → r'.weight ≤ r.weight + 4294967295 → length r'.counts ≡ 64 → ((x : ℕ) → x < 64 → slice_index r'.counts x ≡ slice_index r.counts x + cond (is_counted (in_slot slot x) n) 1 0) → (r'.has_large ≡ false → (r.has_large ≡ false) × ((x : ℕ) → 64 ≤ x → is_counted (in_slot slot x) n ≡ false)) → Taken w slot old (part list old.to to) (i + 1) r'
+  pub taken_more : (r' : Run) (d n : Node) → n ≡ get_or (part list old.to to) i d → r'.from ≡ r.from → r'.to ≡ r.to → r'.weight ≡ r.weight + node_weight w n → r'.weight ≤ r.weight + 4294967295 → length r'.counts ≡ 32 → ((x : ℕ) → x < 32 → slice_index r'.counts x ≡ slice_index r.counts x + cond (is_counted (in_slot slot x) n) 1 0) → (r'.has_large ≡ false → (r.has_large ≡ false) × ((x : ℕ) → 32 ≤ x → is_counted (in_slot slot x) n ≡ false)) → Taken w slot old (part list old.to to) (i + 1) r'
   taken_more r' d n e f o wt sm sz cs lg =
       let xs = part list old.to to in
       record {

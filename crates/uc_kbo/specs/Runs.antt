@@ -72,9 +72,9 @@ pub record IsRun (w : Weighing) (slot : ℕ → ℕ) (list : List Node) (r : Run
   pub within : r.to ≤ length list
   pub weight : r.weight ≡ sum_by (node_weight w) (part list r.from r.to)
   pub small : r.weight ≤ 4294967295 * (r.to - r.from)
-  pub size : length r.counts ≡ 64
-  pub counts : (i : ℕ) → i < 64 → slice_index r.counts i ≡ count_by (is_counted (in_slot slot i)) (part list r.from r.to)
-  pub large : r.has_large ≡ false → (i : ℕ) → 64 ≤ i → count_by (is_counted (in_slot slot i)) (part list r.from r.to) ≡ 0
+  pub size : length r.counts ≡ 32
+  pub counts : (i : ℕ) → i < 32 → slice_index r.counts i ≡ count_by (is_counted (in_slot slot i)) (part list r.from r.to)
+  pub large : r.has_large ≡ false → (i : ℕ) → 32 ≤ i → count_by (is_counted (in_slot slot i)) (part list r.from r.to) ≡ 0
 
 module _ (w : Weighing) (test : ℕ → ℕ → Bool) (above : ℕ → ℕ → Type 0) where
   -- what a comparison of two terms that differ answers

@@ -39,12 +39,12 @@ pub fn has_all(
 // Each counter of the first run is as great as that of the second. All are looked at, so that it is done several at a time.
 #[inline]
 fn has_each(a: &Run, b: &Run) -> bool
-    requires a { length a.now.counts ≡ 64 }
-    requires b { length b.now.counts ≡ 64 }
-    ensures { IsTrue result ↔ ((i : ℕ) → i < 64 → slice_index b.now.counts i ≤ slice_index a.now.counts i) }
+    requires a { length a.now.counts ≡ 32 }
+    requires b { length b.now.counts ≡ 32 }
+    ensures { IsTrue result ↔ ((i : ℕ) → i < 32 → slice_index b.now.counts i ≤ slice_index a.now.counts i) }
 {
     let mut all = true;
-    for i in 0..64 {
+    for i in 0..32 {
         if a.counts[i] < b.counts[i] {
             all = false;
         }
@@ -55,13 +55,13 @@ fn has_each(a: &Run, b: &Run) -> bool
 // From each counter on the sum of the first run is as great as that of the second.
 #[inline]
 fn has_from(a: &Run, b: &Run) -> bool
-    requires a { length a.now.counts ≡ 64 }
-    requires b { length b.now.counts ≡ 64 }
-    ensures { IsTrue result ↔ ((i : ℕ) → i ≤ 64 → sum (drop i b.now.counts) ≤ sum (drop i a.now.counts)) }
+    requires a { length a.now.counts ≡ 32 }
+    requires b { length b.now.counts ≡ 32 }
+    ensures { IsTrue result ↔ ((i : ℕ) → i ≤ 32 → sum (drop i b.now.counts) ≤ sum (drop i a.now.counts)) }
 {
     let mut ours: u64 = 0;
     let mut theirs: u64 = 0;
-    let mut at = 64;
+    let mut at = 32;
     while at > 0 {
         at -= 1;
         let mine: u32 = a.counts[at];

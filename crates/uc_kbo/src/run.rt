@@ -8,14 +8,14 @@ use crate::Weights;
 use uc_order::{class_number, first_of_class};
 use uc_term::{Node, Seq};
 
-/// The nodes from one place of a list to another. The variables that are counted under a number below 64 have a counter
+/// The nodes from one place of a list to another. The variables that are counted under a number below 32 have a counter
 /// each.
 #[derive(Drop)]
 pub struct Run {
     pub from: usize,
     pub to: usize,
     pub weight: u64,
-    pub counts: [u32; 64],
+    pub counts: [u32; 32],
     pub has_large: bool,
 }
 
@@ -49,14 +49,14 @@ impl Run {
         ensures from { result.from ≡ from }
         ensures to { result.to ≡ from }
         ensures weight { result.weight ≡ 0 }
-        ensures counts { result.counts ≡ replicate 64 0 }
+        ensures counts { result.counts ≡ replicate 32 0 }
         ensures large { result.has_large ≡ false }
     {
         Run {
             from,
             to: from,
             weight: 0,
-            counts: [0; 64],
+            counts: [0; 32],
             has_large: false,
         }
     }
@@ -65,21 +65,21 @@ impl Run {
     #[inline]
     fn count(&mut self, w: &Weights, under: bool, classes: &[Seq<u32>], node: Node)
         requires weight { self.old.weight + 4294967295 < 2 ^ 64 }
-        requires size { length self.old.counts ≡ 64 }
-        requires counts { (i : ℕ) → i < 64 → slice_index self.old.counts i + 1 < 2 ^ 32 }
+        requires size { length self.old.counts ≡ 32 }
+        requires counts { (i : ℕ) → i < 32 → slice_index self.old.counts i + 1 < 2 ^ 32 }
         ensures from { self.new.from ≡ self.old.from }
         ensures to { self.new.to ≡ self.old.to }
         ensures weight { self.new.weight ≡ self.old.weight + node_weight (table_weighing w.now.w0 w.now.table.items) node }
         ensures small { self.new.weight ≤ self.old.weight + 4294967295 }
-        ensures size { length self.new.counts ≡ 64 }
-        ensures counts { (i : ℕ) → i < 64 → slice_index self.new.counts i ≡ slice_index self.old.counts i + cond (is_counted (in_slot (slot_by under classes.now) i) node) 1 0 }
-        ensures large { self.new.has_large ≡ false → (self.old.has_large ≡ false) × ((i : ℕ) → 64 ≤ i → is_counted (in_slot (slot_by under classes.now) i) node ≡ false) }
+        ensures size { length self.new.counts ≡ 32 }
+        ensures counts { (i : ℕ) → i < 32 → slice_index self.new.counts i ≡ slice_index self.old.counts i + cond (is_counted (in_slot (slot_by under classes.now) i) node) 1 0 }
+        ensures large { self.new.has_large ≡ false → (self.old.has_large ≡ false) × ((i : ℕ) → 32 ≤ i → is_counted (in_slot (slot_by under classes.now) i) node ≡ false) }
     {
         match node {
             Node::Var(x) => {
                 self.weight += w.w0 as u64;
                 let at = slot(under, classes, x);
-                if at < 64 {
+                if at < 32 {
                     self.counts[at] += 1;
                 } else {
                     self.has_large = true;

@@ -14,14 +14,14 @@ by_parts under cs s t i j k l b h =
     let R : List Node → Type 0 = λ ms. IsTrue b ↔ HasAll (test_by under cs) (part (read_by under cs s) i j) ms in
     subst R (sym (part-renamed (image_by under cs) t k l)) (subst Q (sym (part-renamed (image_by under cs) s i j)) h)
 
-by_sums : (w : Weighing) (under : Bool) (cs : Classes) (s t : List Node) (a b : Run) (r : Bool) → under ≡ true → IsRun w (slot_by under cs) (read_by under cs s) a → IsRun w (slot_by under cs) (read_by under cs t) b → a.has_large ≡ false → b.has_large ≡ false → IsTrue r ↔ ((i : ℕ) → i ≤ 64 → sum (drop i b.counts) ≤ sum (drop i a.counts)) → IsTrue r ↔ HasAll (test_by under cs) (part (read_by under cs s) a.from a.to) (part (read_by under cs t) b.from b.to)
+by_sums : (w : Weighing) (under : Bool) (cs : Classes) (s t : List Node) (a b : Run) (r : Bool) → under ≡ true → IsRun w (slot_by under cs) (read_by under cs s) a → IsRun w (slot_by under cs) (read_by under cs t) b → a.has_large ≡ false → b.has_large ≡ false → IsTrue r ↔ ((i : ℕ) → i ≤ 32 → sum (drop i b.counts) ≤ sum (drop i a.counts)) → IsTrue r ↔ HasAll (test_by under cs) (part (read_by under cs s) a.from a.to) (part (read_by under cs t) b.from b.to)
 by_sums w under cs s t a b r u =
-    let P : Bool → Type 0 = λ v. IsRun w (slot_by v cs) (read_by v cs s) a → IsRun w (slot_by v cs) (read_by v cs t) b → a.has_large ≡ false → b.has_large ≡ false → IsTrue r ↔ ((i : ℕ) → i ≤ 64 → sum (drop i b.counts) ≤ sum (drop i a.counts)) → IsTrue r ↔ HasAll (test_by v cs) (part (read_by v cs s) a.from a.to) (part (read_by v cs t) b.from b.to) in
+    let P : Bool → Type 0 = λ v. IsRun w (slot_by v cs) (read_by v cs s) a → IsRun w (slot_by v cs) (read_by v cs t) b → a.has_large ≡ false → b.has_large ≡ false → IsTrue r ↔ ((i : ℕ) → i ≤ 32 → sum (drop i b.counts) ≤ sum (drop i a.counts)) → IsTrue r ↔ HasAll (test_by v cs) (part (read_by v cs s) a.from a.to) (part (read_by v cs t) b.from b.to) in
     subst P (sym u) (λ p q la lb h. (λ e. from_covers w cs (read_by true cs s) (read_by true cs t) a b p q la lb (h.0 e), λ k. h.1 (covers_from w cs (read_by true cs s) (read_by true cs t) a b p q la lb k)))
 
-by_each : (w : Weighing) (under : Bool) (cs : Classes) (s t : List Node) (a b : Run) (r : Bool) → under ≡ false → IsRun w (slot_by under cs) (read_by under cs s) a → IsRun w (slot_by under cs) (read_by under cs t) b → b.has_large ≡ false → IsTrue r ↔ ((i : ℕ) → i < 64 → slice_index b.counts i ≤ slice_index a.counts i) → IsTrue r ↔ HasAll (test_by under cs) (part (read_by under cs s) a.from a.to) (part (read_by under cs t) b.from b.to)
+by_each : (w : Weighing) (under : Bool) (cs : Classes) (s t : List Node) (a b : Run) (r : Bool) → under ≡ false → IsRun w (slot_by under cs) (read_by under cs s) a → IsRun w (slot_by under cs) (read_by under cs t) b → b.has_large ≡ false → IsTrue r ↔ ((i : ℕ) → i < 32 → slice_index b.counts i ≤ slice_index a.counts i) → IsTrue r ↔ HasAll (test_by under cs) (part (read_by under cs s) a.from a.to) (part (read_by under cs t) b.from b.to)
 by_each w under cs s t a b r u =
-    let P : Bool → Type 0 = λ v. IsRun w (slot_by v cs) (read_by v cs s) a → IsRun w (slot_by v cs) (read_by v cs t) b → b.has_large ≡ false → IsTrue r ↔ ((i : ℕ) → i < 64 → slice_index b.counts i ≤ slice_index a.counts i) → IsTrue r ↔ HasAll (test_by v cs) (part (read_by v cs s) a.from a.to) (part (read_by v cs t) b.from b.to) in
+    let P : Bool → Type 0 = λ v. IsRun w (slot_by v cs) (read_by v cs s) a → IsRun w (slot_by v cs) (read_by v cs t) b → b.has_large ≡ false → IsTrue r ↔ ((i : ℕ) → i < 32 → slice_index b.counts i ≤ slice_index a.counts i) → IsTrue r ↔ HasAll (test_by v cs) (part (read_by v cs s) a.from a.to) (part (read_by v cs t) b.from b.to) in
     subst P (sym u) (λ p q lb h. (λ e. each_covers w cs (read_by false cs s) (read_by false cs t) a b p q lb (h.0 e), λ k. h.1 (covers_each w cs (read_by false cs s) (read_by false cs t) a b p q k)))
 
 pub returns-then-a : goal.returns-then-a

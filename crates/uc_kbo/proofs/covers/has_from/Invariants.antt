@@ -3,12 +3,12 @@ use Rattle.uc_kbo.proofs.covers.has_from.Given as goal
 
 abbrev pub invariant-loop-at : goal.invariant-loop-at
 invariant-loop-at l = record {
-  within : l.at ≤ 64;
+  within : l.at ≤ 32;
   ours : l.ours ≡ sum (drop l.at l.a.counts);
   theirs : l.theirs ≡ sum (drop l.at l.b.counts);
-  ours_small : l.ours ≤ 4294967295 * (64 - l.at);
-  theirs_small : l.theirs ≤ 4294967295 * (64 - l.at);
-  so_far : (k : ℕ) → l.at ≤ k → k ≤ 64 → sum (drop k l.b.counts) ≤ sum (drop k l.a.counts);
+  ours_small : l.ours ≤ 4294967295 * (32 - l.at);
+  theirs_small : l.theirs ≤ 4294967295 * (32 - l.at);
+  so_far : (k : ℕ) → l.at ≤ k → k ≤ 32 → sum (drop k l.b.counts) ≤ sum (drop k l.a.counts);
 }
 
 abbrev pub decreases-loop-at : goal.decreases-loop-at
