@@ -1,10 +1,12 @@
 -- The overlaps of two facts, less those that are left out (Bachmair, Dershowitz and Plaisted, Completion without failure).
-use Rattle.std.specs.Prelude.{ℕ, ◌≡◌, ◌+◌, ◌<◌, ◌≤◌, ◌⊎◌, ◌++◌, List, [], ◌∷◌}
+use Rattle.std.specs.Prelude.{ℕ, ◌≡◌, ◌↔◌, ◌+◌, ◌<◌, ◌≤◌, ◌⊎◌, ◌++◌, List, [], ◌∷◌}
 use Rattle.uc_term.specs.declared.equation.Equation.{Equation}
 use Rattle.uc_term.specs.declared.equation.Side.TheVariants.{Left, Right}
 use Rattle.uc_term.specs.Tree.{Tree, nodes, subterm}
 use Rattle.uc_term.specs.Variables.{Occurs, IsApp}
 use Rattle.uc_fact.specs.Live.{Rule}
+use Rattle.uc_order.specs.declared.order.Cmp.{Cmp}
+use Rattle.uc_order.specs.declared.order.Cmp.TheVariants as ByCmp
 use Rattle.uc_pair.specs.declared.formed.Size.{Size}
 use Rattle.uc_pair.specs.declared.formed.Formed.{Formed}
 use Rattle.uc_pair.specs.Overlapping.{Overlapping, IsApart, HasSize, IsLarge, IsSmall, peak, left_of, inner_from, inner_to, overlap_at, read_from}
@@ -31,6 +33,12 @@ module _ (Greater : Tree → Tree → Type 0) where
   -- s is t, or less
   abbrev pub AtMost : Tree → Tree → Type 0
   AtMost s t = Greater t s ⊎ (s ≡ t)
+
+  -- how the left side of an equation compares to the right one
+  pub record IsWayOf (equation : Equation) (way : Cmp) : Type 0 where
+    pub greater : (way ≡ ByCmp.Greater) ↔ Greater equation.left equation.right
+    pub less : (way ≡ ByCmp.Less) ↔ Greater equation.right equation.left
+    pub equal : (way ≡ ByCmp.Equal) ↔ (equation.left ≡ equation.right)
 
   -- The instance u of a side l is at most the instance v of the other side r; where one of the instances is too large for a
   -- term, the sides themselves are compared.

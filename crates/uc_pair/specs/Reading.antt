@@ -1,13 +1,18 @@
 -- Rules as they are read, and the sides of an outer and an inner rule with their variables renamed apart.
-use Rattle.std.specs.Prelude.{ℕ, ◌≡◌}
+use Rattle.std.specs.Prelude.{ℕ, ◌≡◌, ◌↔◌, IsTrue}
 use Rattle.uc_term.specs.Tree.{Tree, var, Trees, none, more, apply, apply_all}
 use Rattle.uc_fact.specs.Live.{Rule}
 use Rattle.uc_pair.specs.declared.reading.Read.{Read}
 use Rattle.uc_pair.specs.declared.instances.RenamedApart.{RenamedApart}
 use Rattle.uc_pair.specs.Overlapping.{shifted, IsBelow}
+use Rattle.uc_pair.specs.Listing.{NeverDown}
 
 abbrev pub rule_read : Read → Rule
 rule_read r = record { number = r.number; side = r.side; from = r.from.now; to = r.to.now }
+
+-- what is noted of it is so: it leads down nowhere
+abbrev pub IsTold : (Tree → Tree → Type 0) → Read → Type 0
+IsTold Greater r = IsTrue r.never_down ↔ NeverDown Greater (rule_read r)
 
 -- the variables renamed
 abbrev pub renamed : (ℕ → ℕ) → Tree → Tree

@@ -16,5 +16,6 @@ mod reading;
 pub use formation::Formation;
 pub use formed::{Formed, Size};
 pub use laws::{nowhere_is_up, one_list, one_pair, too_large_by_size, up_is_never_down};
-pub use listing::overlaps;
+pub use listing::{overlaps, overlaps_by};
 pub use pairing::pair_of;
+pub use reading::way_of;

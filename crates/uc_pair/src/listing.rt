@@ -4,18 +4,18 @@ ghost use Rattle.std.specs.Prelude.{◌≡◌, ◌<◌, [], ◌∷◌, IfOk, OnO
 ghost use Rattle.uc_term.specs.Tree.{nodes};
 ghost use Rattle.uc_term.specs.declared.equation.Side.TheVariants.{Left, Right};
 ghost use Rattle.uc_pair.specs.Overlapping.{IsFormedOf, read_from};
-ghost use Rattle.uc_pair.specs.Listing.{NeverDown, Lists, ListsEach, AreOverlaps};
-ghost use Rattle.uc_pair.specs.Reading.{rule_read};
+ghost use Rattle.uc_pair.specs.Listing.{NeverDown, IsWayOf, Lists, ListsEach, AreOverlaps};
+ghost use Rattle.uc_pair.specs.Reading.{rule_read, IsTold};
 ghost use Rattle.uc_pair.specs.Adding.{Adds, AddsAt};
 
 use crate::fitting::first_fit;
 use crate::instances::rename_apart;
 use crate::judging::size_at;
-use crate::reading::{Read, is_never_down};
+use crate::reading::{Read, way_of};
 use crate::{Formed, Size};
 use std::alloc::{AllocError, Global};
 use uc_fact::{Overlap, Side};
-use uc_order::Order;
+use uc_order::{Cmp, Order};
 use uc_term::{Equation, Pos, Seq};
 
 /// The overlaps of an outer and an inner fact with the sizes of their pairs, by outer side, inner side, and position in
@@ -40,23 +40,35 @@ pub fn overlaps<O: Order>(
     // what follows for each of them
     ensures formed { IfOk result (All (IsFormedOf a.now b.now)) }
 {
+    let a_way = way_of(a, order);
+    let b_way = way_of(b, order);
+    overlaps_by(alloc, outer, a, a_way, inner, b, b_way, order)
+}
+
+/// The same where it is known how the order compares the left side of each fact to its right one, so that a fact that meets
+/// many is compared once.
+pub fn overlaps_by<O: Order>(
+    alloc: Global,
+    outer: u32,
+    a: &Equation,
+    a_way: Cmp,
+    inner: u32,
+    b: &Equation,
+    b_way: Cmp,
+    order: &O,
+) -> Result<Seq<Formed>, AllocError>
+    requires same { outer ≡ inner → a.now ≡ b.now }
+    requires a_way { IsWayOf (O.meaning order.now).greater a.now a_way }
+    requires b_way { IsWayOf (O.meaning order.now).greater b.now b_way }
+    ensures list { IfOk result (AreOverlaps (O.meaning order.now).greater outer a.now inner b.now) }
+    // what follows for each of them
+    ensures formed { IfOk result (All (IsFormedOf a.now b.now)) }
+{
     let mut list = Vec::new(alloc);
-    add_outer(
-        alloc,
-        &mut list,
-        &Read::new(outer, Side::Left, a),
-        inner,
-        b,
-        order,
-    )?;
-    add_outer(
-        alloc,
-        &mut list,
-        &Read::new(outer, Side::Right, a),
-        inner,
-        b,
-        order,
-    )?;
+    let left = Read::told(outer, Side::Left, a, a_way, order);
+    add_outer(alloc, &mut list, &left, inner, b, b_way, order)?;
+    let right = Read::told(outer, Side::Right, a, a_way, order);
+    add_outer(alloc, &mut list, &right, inner, b, b_way, order)?;
     Ok(Seq::from_vec(list))
 }
 
@@ -67,15 +79,20 @@ fn add_outer<O: Order>(
     outer: &Read,
     inner: u32,
     b: &Equation,
+    way: Cmp,
     order: &O,
 ) -> Result<(), AllocError>
+    requires told { IsTold (O.meaning order.now).greater outer.now }
+    requires way { IsWayOf (O.meaning order.now).greater b.now way }
     ensures { OnOk result (Adds (ListsEach (O.meaning order.now).greater ((rule_read outer.now, read_from inner Left b.now) ∷ (rule_read outer.now, read_from inner Right b.now) ∷ [])) list.old.items list.new.items) }
 {
-    if is_never_down(outer, order) {
+    if outer.never_down {
         return Ok(());
     }
-    add_inner(alloc, list, outer, &Read::new(inner, Side::Left, b), order)?;
-    add_inner(alloc, list, outer, &Read::new(inner, Side::Right, b), order)
+    let left = Read::told(inner, Side::Left, b, way, order);
+    add_inner(alloc, list, outer, &left, order)?;
+    let right = Read::told(inner, Side::Right, b, way, order);
+    add_inner(alloc, list, outer, &right, order)
 }
 
 /// Adds the overlaps of two rules, of which the outer one leads down somewhere.
@@ -86,15 +103,16 @@ fn add_inner<O: Order>(
     inner: &Read,
     order: &O,
 ) -> Result<(), AllocError>
-    requires { NeverDown (O.meaning order.now).greater (rule_read outer.now) → ⊥ }
+    requires down { NeverDown (O.meaning order.now).greater (rule_read outer.now) → ⊥ }
+    requires told { IsTold (O.meaning order.now).greater inner.now }
     ensures { OnOk result (Adds (Lists (O.meaning order.now).greater (rule_read outer.now) (rule_read inner.now) 0) list.old.items list.new.items) }
 {
+    if inner.never_down {
+        return Ok(());
+    }
     let Some(first) = first_fit(outer.from, inner.from) else {
         return Ok(());
     };
-    if is_never_down(inner, order) {
-        return Ok(());
-    }
     let terms = rename_apart(alloc, outer, inner)?;
     for place in first..outer.from.nodes() {
         let size = size_at(alloc, &terms, outer, inner, place, order)?;

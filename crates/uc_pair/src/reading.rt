@@ -4,20 +4,22 @@ ghost use Rattle.std.specs.Prelude.{◌≡◌, ◌↔◌, ℕ, IsTrue, false};
 ghost use Rattle.uc_term.specs.Flat.{tree_of, IsWhole};
 ghost use Rattle.uc_term.specs.Variables.{Occurs, IsApp};
 ghost use Rattle.uc_pair.specs.Overlapping.{read_from};
-ghost use Rattle.uc_pair.specs.Listing.{AtMost, NeverDown, ComesBefore, IsCopy, IsRepeated};
-ghost use Rattle.uc_pair.specs.Reading.{rule_read};
+ghost use Rattle.uc_pair.specs.Listing.{AtMost, IsWayOf, ComesBefore, IsCopy, IsRepeated};
+ghost use Rattle.uc_pair.specs.Reading.{rule_read, IsTold};
 
 use uc_fact::Side;
 use uc_order::{Cmp, Order};
 use uc_term::{Equation, Node, Term};
 
-/// A fact read from one of its sides to the other.
+/// A fact read from one of its sides to the other. Where an order was asked, it is noted whether it leads down nowhere, since
+/// that side is the other one, or less.
 #[derive(Clone, Copy)]
 pub(crate) struct Read<'a> {
     pub(crate) number: u32,
     pub(crate) side: Side,
     pub(crate) from: &'a Term,
     pub(crate) to: &'a Term,
+    pub(crate) never_down: bool,
 }
 
 impl<'a> Read<'a> {
@@ -31,22 +33,55 @@ impl<'a> Read<'a> {
                 side,
                 from: &equation.left,
                 to: &equation.right,
+                never_down: false,
             },
             Side::Right => Read {
                 number,
                 side,
                 from: &equation.right,
                 to: &equation.left,
+                never_down: false,
+            },
+        }
+    }
+
+    /// The equation of this number, read from this side, where it is known how the order compares its left side to its right
+    /// one. So each fact's sides are compared once, in however many ways it is read.
+    pub(crate) fn told<O: Order>(
+        number: u32,
+        side: Side,
+        equation: &'a Equation,
+        way: Cmp,
+        _order: &O,
+    ) -> Self
+        requires { IsWayOf (O.meaning _order.now).greater equation.now way }
+        ensures rule { rule_read result ≡ read_from number side equation.now }
+        ensures told { IsTold (O.meaning _order.now).greater result }
+    {
+        match side {
+            Side::Left => Read {
+                number,
+                side,
+                from: &equation.left,
+                to: &equation.right,
+                never_down: way == Cmp::Less || way == Cmp::Equal,
+            },
+            Side::Right => Read {
+                number,
+                side,
+                from: &equation.right,
+                to: &equation.left,
+                never_down: way == Cmp::Greater || way == Cmp::Equal,
             },
         }
     }
 }
 
-/// Whether the side from which it is read is the other one, or less; so are its instances then.
-pub(crate) fn is_never_down<O: Order>(rule: &Read, order: &O) -> bool
-    ensures { IsTrue result ↔ NeverDown (O.meaning order.now).greater (rule_read rule.now) }
+/// How the order compares the left side of an equation to the right one.
+pub fn way_of<O: Order>(equation: &Equation, order: &O) -> Cmp
+    ensures { IsWayOf (O.meaning order.now).greater equation.now result }
 {
-    is_at_most(rule.from, rule.to, order)
+    order.compare(equation.left.as_nodes(), equation.right.as_nodes())
 }
 
 /// Whether a term is another one, or less.

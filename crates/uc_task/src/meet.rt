@@ -8,6 +8,7 @@ ghost use Rattle.uc_shelf.specs.Fronts.{IsOf};
 ghost use Rattle.uc_machine.specs.Results.{IsResult, AreKills, AreMeetings};
 ghost use Rattle.uc_machine.specs.declared.task.Job.TheVariants.{Meet};
 ghost use Rattle.uc_shelf.specs.Lending.{lent_of};
+ghost use Rattle.uc_pair.specs.Listing.{IsWayOf};
 ghost use Rattle.uc_task.specs.Meeting.{Adds, IsReducedByIt, FirstReducer, KillsOne, MeetsOne};
 
 use crate::live::copy_equation;
@@ -15,8 +16,8 @@ use crate::reducing::reduces;
 use std::alloc::{AllocError, Global};
 use uc_fact::Equation;
 use uc_machine::Finding;
-use uc_order::Order;
-use uc_pair::{Formed, overlaps};
+use uc_order::{Cmp, Order};
+use uc_pair::{Formed, overlaps_by, way_of};
 use uc_shelf::{Front, Lent, Shelf};
 use uc_term::Seq;
 
@@ -127,11 +128,12 @@ fn meetings<O: Order>(
 ) -> Result<Seq<Formed>, AllocError>
     ensures { IfOk result (λ list. (entries : List Entry) → AreMeetings (O.meaning order.now) entries number own.now (map lent_of facts.now) list) }
 {
+    let way = way_of(own, order);
     let mut list = Seq::new(alloc);
     for fact in facts {
-        add_overlaps(alloc, &mut list, number, own, fact, order)?;
+        add_overlaps(alloc, &mut list, number, own, way, fact, order)?;
     }
-    list.append(overlaps(alloc, number, own, number, own, order)?)?;
+    list.append(overlaps_by(alloc, number, own, way, number, own, way, order)?)?;
     Ok(list)
 }
 
@@ -141,16 +143,20 @@ fn add_overlaps<O: Order>(
     list: &mut Seq<Formed>,
     number: u32,
     own: &Equation,
+    way: Cmp,
     fact: &Lent,
     order: &O,
 ) -> Result<(), AllocError>
+    requires { IsWayOf (O.meaning order.now).greater own.now way }
     ensures { OnOk result (Adds (MeetsOne (O.meaning order.now) number own.now (lent_of fact.now)) list.old list.new) }
 {
     let other = fact.number;
     if other >= number {
         return Ok(());
     }
-    list.append(overlaps(alloc, other, fact.equation, number, own, order)?)?;
-    list.append(overlaps(alloc, number, own, other, fact.equation, order)?)?;
+    let theirs = fact.equation;
+    let their_way = way_of(theirs, order);
+    list.append(overlaps_by(alloc, other, theirs, their_way, number, own, way, order)?)?;
+    list.append(overlaps_by(alloc, number, own, way, other, theirs, their_way, order)?)?;
     Ok(())
 }

@@ -12,8 +12,8 @@ on_ok : {A E : Type 0} (P Q : Type 0) → (P → Q) → (r : Result A E) → OnO
 on_ok P Q f (Ok a) p = f p
 on_ok P Q f (Err e) p = tt
 
-pub returns-then-is_never_down : goal.returns-then-is_never_down
-returns-then-is_never_down g c = none_each (g.O.Order.meaning c.args.order.now) (g.met.O.Order.laws c.args.order.now) (rule_read c.args.outer.now) (read_from c.args.inner Left c.args.b.now) (read_from c.args.inner Right c.args.b.now) c.args.list.now.items (c.is_never_down.ensures.0 c.if-is_never_down.true)
+pub returns-then-outer : goal.returns-then-outer
+returns-then-outer g c = none_each (g.O.Order.meaning c.args.order.now) (g.met.O.Order.laws c.args.order.now) (rule_read c.args.outer.now) (read_from c.args.inner Left c.args.b.now) (read_from c.args.inner Right c.args.b.now) c.args.list.now.items (c.requires.told.0 c.if-outer.true)
 
 pub returns : goal.returns
 returns g c =
@@ -24,8 +24,8 @@ returns g c =
     let outer = rule_read c.args.outer.now in
     let left = read_from c.args.inner Left c.args.b.now in
     let right = read_from c.args.inner Right c.args.b.now in
-    on_ok (Adds (Lists G outer (rule_read c.new-2.result) 0) mid new) _
+    on_ok (Adds (Lists G outer (rule_read c.told-right.result) 0) mid new) _
     (λ second. adds_each (g.O.Order.meaning c.args.order.now) outer left right old mid new
-    (subst (λ (r : Rule). Adds (Lists G outer r 0) old mid) c.new.ensures c.in_ok-add_inner.ensures)
-    (subst (λ (r : Rule). Adds (Lists G outer r 0) mid new) c.new-2.ensures second))
+    (subst (λ (r : Rule). Adds (Lists G outer r 0) old mid) c.told-left.ensures.rule c.in_ok-add_inner.ensures)
+    (subst (λ (r : Rule). Adds (Lists G outer r 0) mid new) c.told-right.ensures.rule second))
     c.add_inner-2.result c.add_inner-2.ensures
