@@ -31,3 +31,7 @@ pub mod SearchMoved
 pub mod SearchRows
 pub mod SearchEnds
 pub mod SearchWhole
+pub mod SearchModels
+pub mod SearchOrdered
+pub mod SearchOnce
+pub mod SearchShows

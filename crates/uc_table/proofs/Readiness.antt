@@ -21,11 +21,54 @@ use Rattle.uc_table.specs.Algebras.{cells_among, cells_of}
 use Rattle.uc_table.specs.Tables.{IsRow, AreRows, IsTableOf}
 use Rattle.uc_table.specs.Checks.{variables_in, variables_in_all, variable_count}
 use Rattle.uc_table.specs.Evaluating.{number_of, AreNumbers, IsNumbered, IsReady, AreReady}
-use Rattle.uc_table.specs.Against.{IsReadyClause, AreReadyClauses}
+use Rattle.uc_table.specs.Against.{AreReadyClauses}
 
 parts_in : (fs : List Sym) (xs ys : List Occurrence) → AllIn fs (xs ++ ys) → AllIn fs xs × AllIn fs ys
 parts_in fs [] ys a = (tt, a)
 parts_in fs (x ∷ xs) ys a = let r = parts_in fs xs ys a.1 in ((a.0, r.0), r.1)
+
+-- the symbol is of the signature, at this arity
+pub record IsSymbol (symbols : SymbolTable) (signature : List Sym) (f : Sym) (n : ℕ) : Type 0 where
+  pub place : In f signature
+  pub has : Has symbols f
+  pub arity : n ≡ arity_of symbols f
+
+module _ (symbols : SymbolTable) (signature : List Sym) where
+  -- the term's symbols are of the signature
+  abbrev mutual
+    pub IsKnown : Tree → Type 0
+    IsKnown (var x) = Unit {0}
+    IsKnown (app f ts) = IsSymbol symbols signature f (count ts) × AreKnown ts
+
+    pub AreKnown : Trees → Type 0
+    AreKnown none = Unit {0}
+    AreKnown (more t ts) = IsKnown t × AreKnown ts
+
+  -- so are those of the sides of each clause
+  abbrev pub AreKnownClauses : List Sourced → Type 0
+  AreKnownClauses ss = (k : ℕ) (s : Sourced) → slice_get ss k ≡ Some s → IsKnown s.clause.left × IsKnown s.clause.right
+
+  mutual
+    tree_known : (t : Tree) (term from : ℕ) → IsOf symbols t → AllIn signature (occurrences_in term from (flat t)) → IsKnown t
+    tree_known (var x) term from o a = tt
+    tree_known (app f ts) term from o a = (record { place = a.0; has = o.0; arity = o.1 }, trees_known ts term (from + 1) o.2 a.1)
+
+    trees_known : (ts : Trees) (term from : ℕ) → AreOver (Has symbols) (arity_of symbols) (λ _. Unit {0}) ts → AllIn signature (occurrences_in term from (flat_all ts)) → AreKnown ts
+    trees_known none term from o a = tt
+    trees_known (more t ts) term from o a =
+        let r = parts_in signature (occurrences_in term from (flat t)) (occurrences_in term (from + length (flat t)) (flat_all ts)) (subst (AllIn signature) (occurrences_in-append term from (flat t) (flat_all ts)) a) in
+        (tree_known t term from o.0 r.0, trees_known ts term (from + length (flat t)) o.1 r.1)
+
+  clauses_known : (ss : List Sourced) (n : ℕ) → AreOf symbols (terms_of ss) → AllIn signature (occurrences_from n (terms_of ss)) → AreKnownClauses ss
+  clauses_known [] n o a k s e = absurd cc
+  clauses_known (x ∷ xs) n o a k s e =
+      let l = parts_in signature (occurrences_in n 0 (flat x.clause.left)) (occurrences_from (n + 1) (x.clause.right ∷ terms_of xs)) a in
+      let r = parts_in signature (occurrences_in (n + 1) 0 (flat x.clause.right)) (occurrences_from (n + 1 + 1) (terms_of xs)) l.1 in
+      go k e (tree_known x.clause.left n 0 (o 0 x.clause.left refl) l.0, tree_known x.clause.right (n + 1) 0 (o 1 x.clause.right refl) r.0) (clauses_known xs (n + 1 + 1) (λ i. o (suc (suc i))) r.1)
+    where
+      go : (k : ℕ) → slice_get (x ∷ xs) k ≡ Some s → IsKnown x.clause.left × IsKnown x.clause.right → AreKnownClauses xs → IsKnown s.clause.left × IsKnown s.clause.right
+      go zero e h later = let same : x ≡ s = cc in subst (λ (y : Sourced). IsKnown y.clause.left × IsKnown y.clause.right) same h
+      go (suc k) e h later = later k s e
 
 -- these cells stand at this number, and are a row of the symbol
 record IsPlacedAt (symbols : SymbolTable) (size : ℕ) (f : Sym) (rows : List (List ℕ)) (n : ℕ) (cells : List ℕ) : Type 0 where
@@ -67,27 +110,19 @@ module _ (symbols : SymbolTable) (signature : List Sym) (table : Table) (is : Is
 
   module _ (variables : ℕ) where
     mutual
-      tree_ready : (t : Tree) (term from : ℕ) → IsOf symbols t → AllIn signature (occurrences_in term from (flat t)) → variables_in t ≤ variables → IsReady table numbers variables t
-      tree_ready (var x) term from o a h = omega arith
-      tree_ready (app f ts) term from o a h = (numbered f (count ts) a.0 o.0 o.1, trees_ready ts term (from + 1) o.2 a.1 h)
+      tree_ready : (t : Tree) → IsKnown symbols signature t → variables_in t ≤ variables → IsReady table numbers variables t
+      tree_ready (var x) k h = omega arith
+      tree_ready (app f ts) k h = (numbered f (count ts) k.0.place k.0.has k.0.arity, trees_ready ts k.1 h)
 
-      trees_ready : (ts : Trees) (term from : ℕ) → AreOver (Has symbols) (arity_of symbols) (λ _. Unit {0}) ts → AllIn signature (occurrences_in term from (flat_all ts)) → variables_in_all ts ≤ variables → AreReady table numbers variables ts
-      trees_ready none term from o a h = tt
-      trees_ready (more t ts) term from o a h =
-          let r = parts_in signature (occurrences_in term from (flat t)) (occurrences_in term (from + length (flat t)) (flat_all ts)) (subst (AllIn signature) (occurrences_in-append term from (flat t) (flat_all ts)) a) in
-          (tree_ready t term from o.0 r.0 (omega arith), trees_ready ts term (from + length (flat t)) o.1 r.1 (omega arith))
+      trees_ready : (ts : Trees) → AreKnown symbols signature ts → variables_in_all ts ≤ variables → AreReady table numbers variables ts
+      trees_ready none k h = tt
+      trees_ready (more t ts) k h = (tree_ready t k.0 (omega arith), trees_ready ts k.1 (omega arith))
 
-  clauses_ready : (ss : List Sourced) (n : ℕ) → AreOf symbols (terms_of ss) → AllIn signature (occurrences_from n (terms_of ss)) → AreReadyClauses table numbers ss
-  clauses_ready [] n o a k s e = absurd cc
-  clauses_ready (x ∷ xs) n o a k s e =
-      let l = parts_in signature (occurrences_in n 0 (flat x.clause.left)) (occurrences_from (n + 1) (x.clause.right ∷ terms_of xs)) a in
-      let r = parts_in signature (occurrences_in (n + 1) 0 (flat x.clause.right)) (occurrences_from (n + 1 + 1) (terms_of xs)) l.1 in
-      let most : ℕ = variable_count (equation_of x.clause) in
-      go k e (tree_ready (variable_count (equation_of x.clause)) x.clause.left n 0 (o 0 x.clause.left refl) l.0 (omega arith), tree_ready (variable_count (equation_of x.clause)) x.clause.right (n + 1) 0 (o 1 x.clause.right refl) r.0 (omega arith)) (clauses_ready xs (n + 1 + 1) (λ i. o (suc (suc i))) r.1)
-    where
-      go : (k : ℕ) → slice_get (x ∷ xs) k ≡ Some s → IsReadyClause table numbers x.clause → AreReadyClauses table numbers xs → IsReadyClause table numbers s.clause
-      go zero e h later = let same : x ≡ s = cc in subst (λ (y : Sourced). IsReadyClause table numbers y.clause) same h
-      go (suc k) e h later = later k s e
+  pub clauses_ready : (ss : List Sourced) → AreKnownClauses symbols signature ss → AreReadyClauses table numbers ss
+  clauses_ready ss known k s e =
+      let c = known k s e in
+      let most : ℕ = variable_count (equation_of s.clause) in
+      (tree_ready (variable_count (equation_of s.clause)) s.clause.left c.0 (omega arith), tree_ready (variable_count (equation_of s.clause)) s.clause.right c.1 (omega arith))
 
 all_in_more : (fs gs : List Sym) (os : List Occurrence) → AllIn fs os → AllIn (fs ++ gs) os
 all_in_more fs gs [] a = tt
@@ -97,8 +132,12 @@ completed : (symbols : SymbolTable) (fs : List Sym) (signature : Signature) (os 
 completed symbols fs signature os (has_constant e) a = a
 completed symbols fs signature os (gets_constant {c = c} e f) a = all_in_more fs (c ∷ []) os a
 
-pub problem_ready : (symbols : SymbolTable) (problem : Problem) (table : Table) (numbers : List ℕ) → Agrees symbols problem → IsTableOf symbols problem.signature.symbols table → AreNumbers table.symbols numbers → length numbers ≡ length symbols → AreReadyClauses table numbers problem.clauses
-problem_ready symbols problem table numbers agrees is are long =
+pub problem_known : (symbols : SymbolTable) (problem : Problem) → Agrees symbols problem → AreKnownClauses symbols problem.signature.symbols problem.clauses
+problem_known symbols problem agrees =
     let s : IsSignatureOf symbols (terms_of problem.clauses) problem.signature = agrees.signature in
     let all : AllIn problem.signature.symbols (occurrences_of (terms_of problem.clauses)) = completed symbols s.symbols problem.signature (occurrences_of (terms_of problem.clauses)) s.completes (all_gathered s.gathers s.symbols refl) in
-    clauses_ready symbols problem.signature.symbols table is numbers (subst (λ fs. AreNumbers fs numbers) is.symbols_are are) long problem.clauses 0 agrees.over all
+    clauses_known symbols problem.signature.symbols problem.clauses 0 agrees.over all
+
+pub problem_ready : (symbols : SymbolTable) (problem : Problem) (table : Table) (numbers : List ℕ) → Agrees symbols problem → IsTableOf symbols problem.signature.symbols table → AreNumbers table.symbols numbers → length numbers ≡ length symbols → AreReadyClauses table numbers problem.clauses
+problem_ready symbols problem table numbers agrees is are long =
+    clauses_ready symbols problem.signature.symbols table is numbers (subst (λ fs. AreNumbers fs numbers) is.symbols_are are) long problem.clauses (problem_known symbols problem agrees)

@@ -1,6 +1,6 @@
 -- Each assignment is that of a number's digits.
-use Rattle.std.proofs.Common.{◌≡◌, ℕ, zero, suc, ◌+◌, ◌*◌, ◌/◌, ◌%◌, ◌^◌, ◌≤◌, ◌<◌, refl, ap, sym, ◌∙◌, arith, subst, lit<}
-use Rattle.std.proofs.Math.Nat.{mul_assoc, mul_comm, pow-zero, pow-suc, div-one, add-mul-mod_self_left, add-mul-div_left, div-eq_of_lt, mod-eq_of_lt, div-div-eq-div-mul}
+use Rattle.std.proofs.Common.{◌≡◌, ℕ, zero, suc, ◌+◌, ◌*◌, ◌/◌, ◌%◌, ◌^◌, ◌<◌, ap, sym, ◌∙◌, arith, lit<}
+use Rattle.std.proofs.Math.Nat.{mul_comm, pow-zero, pow-suc, div-one, add-mul-mod_self_left, add-mul-div_left, div-eq_of_lt, mod-eq_of_lt, div-div-eq-div-mul}
 use Rattle.std.proofs.lemmas.Nat.{mul-add-lt}
 
 -- the number whose digits are the first n values

@@ -1,5 +1,5 @@
 -- What the end of a search of the forms says of the clauses.
-use Rattle.std.proofs.Common.{◌≡◌, ℕ, zero, suc, ◌+◌, ◌^◌, ◌≤◌, ◌<◌, List, [], ◌∷◌, ◌++◌, length, take, get_or, refl, ap, sym, ◌∙◌, arith, subst, Bool, true, false, ◌==◌, if◌then◌else◌}
+use Rattle.std.proofs.Common.{◌≡◌, ℕ, ◌+◌, ◌^◌, ◌≤◌, ◌<◌, List, [], ◌∷◌, ◌++◌, length, take, get_or, refl, ap, sym, ◌∙◌, arith, subst, Bool, true, false, ◌==◌, if◌then◌else◌}
 use Rattle.std.specs.Prelude.{slice_get, Option, Some, None}
 use Rattle.std.proofs.Math.Nat.{one-le-pow}
 use Rattle.std.proofs.lemmas.Bool.{eqb-true}
@@ -17,16 +17,14 @@ use Rattle.uc_table.specs.declared.search_steps.Step.TheVariants.{Foreign}
 use Rattle.uc_table.specs.declared.search_instances.Form.{Form}
 use Rattle.uc_table.specs.declared.search_size.Rules.{Rules}
 use Rattle.uc_table.specs.Tables.{cells_for, MOST_CELLS}
-use Rattle.uc_table.specs.Checks.{AreFewEnough}
 use Rattle.uc_table.specs.SearchCells.{first_cell, IsRefuted}
 use Rattle.uc_table.specs.SearchSteps.{AreSteps, IsStep}
 use Rattle.uc_table.specs.SearchForms.{AreFirsts, AreFormsOf, IsFormOf, step_of, steps_of, applied}
-use Rattle.uc_table.specs.SearchPrefixes.{In, IsOpen, IsVisited, AreFirst, AreAll}
-use Rattle.uc_table.specs.SearchState.{IsRefutedIn, EndsFound, EndsNone, EndsSpent, AreStepsOf}
+use Rattle.uc_table.specs.SearchPrefixes.{IsOpen, IsVisited, AreFirst, AreAll}
+use Rattle.uc_table.specs.SearchState.{IsRefutedIn, EndsFound, EndsNone, EndsSpent}
 use Rattle.uc_table.specs.Searching.{Holds, IsWithin}
 use Rattle.uc_table.specs.SearchSizes.{FindsAt, NoneAt, SpentAt}
 use Rattle.uc_table.proofs.SearchLayouts.{first_within}
-use Rattle.uc_table.proofs.SearchFollowing.{get_before}
 use Rattle.uc_table.proofs.SearchRefuting.{to_forms, from_forms, find}
 use Rattle.uc_table.proofs.SearchMoved.{open_moved, visited_moved, all_moved, first_moved, open_back}
 

@@ -5,7 +5,7 @@ use Rattle.std.proofs.lemmas.Bool.{cases_order, eqb-true, eq-eqb, false≢true}
 use Rattle.uc_term.specs.declared.node.Sym.{Sym}
 use Rattle.uc_term.specs.Table.{Table as SymbolTable, arity_of}
 use Rattle.uc_term.specs.Signatures.{same_symbol}
-use Rattle.uc_table.specs.Tables.{cell_count, cells_for, MOST_CELLS}
+use Rattle.uc_table.specs.Tables.{cell_count, cells_for}
 use Rattle.uc_table.specs.Evaluating.{number_of}
 use Rattle.std.proofs.Common.{length-append}
 use Rattle.std.proofs.Math.Nat.{pow-le-pow_right}

@@ -11,7 +11,7 @@ use Rattle.uc_table.specs.SearchWaiting.{IsWell}
 use Rattle.uc_table.specs.SearchInstances.{AreOf, AreSettled, AreSettledBelow, Extends}
 use Rattle.uc_table.specs.SearchState.{AreLevels, IsSound, IsOpenState, IsSet}
 use Rattle.uc_table.proofs.SearchOrder.{below_append}
-use Rattle.uc_table.proofs.SearchRuns.{values_take}
+use Rattle.uc_table.proofs.Lists.{taken as values_taken}
 use Rattle.uc_table.proofs.SearchLonger.{settled_next}
 
 pub levels_longer : (rules : Rules) (p q ms ns : List ℕ) (k : ℕ) (es : List Entry) → k ≤ length p → k ≤ length ms → AreLevels rules p ms k es → AreLevels rules (p ++ q) (ms ++ ns) k es
@@ -138,7 +138,7 @@ back_open rules s t last mark h l m p q w well = record {
   sound = record {
     well = well;
     of = λ i e g. h.sound.of i e (get_of_take s.waiting.entries.items mark i e (subst (λ z. slice_get z i ≡ Some e) w g));
-    values = subst (AreValues rules.size) (sym p) (values_take rules.size last s.prefix.items h.sound.values);
+    values = subst (AreValues rules.size) (sym p) (values_taken rules.size last s.prefix.items h.sound.values);
     as_many = (let n : length s.marks.items ≡ length s.prefix.items = h.sound.as_many in ap length q ∙ taken_length s.marks.items last (omega arith) ∙ sym (taken_length s.prefix.items last (omega arith)) ∙ sym (ap length p));
     short = (let n : length t.prefix.items ≡ last = ap length p ∙ taken_length s.prefix.items last (omega arith) in let k : length s.prefix.items ≤ rules.cells = h.sound.short in omega arith);
   };

@@ -1,18 +1,18 @@
 -- What the steps of a clause come to is what the prefix fixes.
-use Rattle.std.proofs.Common.{◌≡◌, ℕ, zero, suc, ◌+◌, ◌*◌, ◌/◌, ◌%◌, ◌^◌, ◌≤◌, ◌<◌, List, [], ◌∷◌, ◌++◌, length, take, drop, refl, ap, sym, ◌∙◌, arith, subst, Bool, true, false, append_assoc, append-nil, if◌then◌else◌, ◌==◌}
+use Rattle.std.proofs.Common.{◌≡◌, ℕ, ◌+◌, ◌/◌, ◌%◌, ◌^◌, ◌≤◌, List, [], ◌∷◌, ◌++◌, length, take, drop, refl, ap, sym, ◌∙◌, arith, subst, Bool, true, false, append_assoc, append-nil, if◌then◌else◌, ◌==◌}
 use Rattle.std.specs.Prelude.{slice_get, Option, Some, None}
 use Rattle.std.proofs.lemmas.Grind.{common_steps}
 use Rattle.uc_term.specs.declared.node.Sym.{Sym}
 use Rattle.uc_term.specs.declared.node.Node.{Node}
-use Rattle.uc_term.specs.declared.node.Node.TheVariants.{Var, App}
+use Rattle.uc_term.specs.declared.node.Node.TheVariants.{App}
 use Rattle.uc_term.specs.Tree.{Tree, var, app, Trees, none, more, count}
 use Rattle.uc_term.specs.Flat.{flat, flat_all}
 use Rattle.uc_term.specs.Table.{Table as SymbolTable, arity_of}
 use Rattle.uc_table.specs.declared.search_steps.Step.{Step}
-use Rattle.uc_table.specs.declared.search_steps.Step.TheVariants.{Variable, Apply, Foreign}
+use Rattle.uc_table.specs.declared.search_steps.Step.TheVariants.{Foreign}
 use Rattle.uc_table.specs.Algebras.{place_of}
 use Rattle.uc_table.specs.SearchCells.{first_cell, behind_some, cell_in, fixed_by, all_fixed_by}
-use Rattle.uc_table.specs.SearchSteps.{Ran, stops, waits, breaks, go_on, read, take_step, run}
+use Rattle.uc_table.specs.SearchSteps.{Ran, stops, go_on, read, take_step, run}
 use Rattle.uc_table.specs.SearchForms.{applied, step_of, steps_of}
 use Rattle.uc_table.proofs.SearchRuns.{not_lt}
 

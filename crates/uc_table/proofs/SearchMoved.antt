@@ -1,6 +1,6 @@
 -- What is visited rests only on which prefixes are refuted.
-use Rattle.std.proofs.Common.{◌≡◌, ℕ, ◌<◌, ◌≤◌, List, length}
-use Rattle.uc_table.specs.SearchPrefixes.{Before, front, In, IsOpen, IsVisited, AreFirst, AreAll}
+use Rattle.std.proofs.Common.{ℕ, List}
+use Rattle.uc_table.specs.SearchPrefixes.{front, IsOpen, IsVisited, AreFirst, AreAll}
 
 module _ (size cells : ℕ) (R S : List ℕ → Type 0) (to : (p : List ℕ) → R p → S p) (from : (p : List ℕ) → S p → R p) where
   pub open_moved : (t : List ℕ) → IsOpen size cells R t → IsOpen size cells S t

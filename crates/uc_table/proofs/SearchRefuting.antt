@@ -1,20 +1,19 @@
 -- A prefix is refuted exactly where an instance of a clause's form is against it.
-use Rattle.std.proofs.Common.{◌≡◌, ℕ, zero, suc, ◌+◌, ◌/◌, ◌%◌, ◌^◌, ◌≤◌, ◌<◌, max, List, [], ◌∷◌, ◌++◌, length, refl, ap, sym, ◌∙◌, arith, subst, Bool}
-use Rattle.std.specs.Prelude.{slice_get, Option, Some, None}
+use Rattle.std.proofs.Common.{◌≡◌, ℕ, zero, suc, ◌/◌, ◌^◌, ◌≤◌, ◌<◌, List, [], ◌∷◌, length, refl, ap, sym, ◌∙◌, arith, subst}
+use Rattle.std.specs.Prelude.{slice_get, Option, Some}
 use Rattle.std.proofs.Math.Nat.{mod-lt}
-use Rattle.std.proofs.lemmas.Option.{slice_get_within, slice_get_cases}
+use Rattle.std.proofs.lemmas.Option.{slice_get_within}
 use Rattle.uc_term.specs.declared.node.Sym.{Sym}
 use Rattle.uc_term.specs.Tree.{Tree, var, app, Trees, none, more}
-use Rattle.uc_term.specs.Flat.{flat}
 use Rattle.uc_term.specs.Table.{Table as SymbolTable}
 use Rattle.uc_clause.specs.declared.clause.Sourced.{Sourced}
 use Rattle.uc_check.specs.Clauses.{equation_of}
 use Rattle.uc_table.specs.declared.search_instances.Form.{Form}
 use Rattle.uc_table.specs.Checks.{variables_in, variables_in_all, variable_count}
 use Rattle.uc_table.specs.SearchCells.{behind_some, cell_in, fixed_by, all_fixed_by, AreAgainst, IsRefuted}
-use Rattle.uc_table.specs.SearchSteps.{run, stops}
-use Rattle.uc_table.specs.SearchForms.{AreFormsOf, IsFormOf, steps_of}
-use Rattle.uc_table.specs.SearchInstances.{IsRefutedBy, IsAgainst, ran}
+use Rattle.uc_table.specs.SearchSteps.{run}
+use Rattle.uc_table.specs.SearchForms.{AreFormsOf, IsFormOf}
+use Rattle.uc_table.specs.SearchInstances.{IsRefutedBy}
 use Rattle.uc_table.proofs.SearchMeaning.{digit, both_run, run_both}
 use Rattle.uc_table.proofs.SearchDigits.{number_of, number_within, digit_is}
 

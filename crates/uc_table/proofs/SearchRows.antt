@@ -1,5 +1,5 @@
 -- The rows of a table, cut from its cells.
-use Rattle.std.proofs.Common.{◌≡◌, ℕ, zero, suc, ◌+◌, ◌-◌, ◌^◌, ◌≤◌, ◌<◌, List, [], ◌∷◌, ◌++◌, length, take, drop, get_or, refl, ap, sym, ◌∙◌, arith, subst, append-nil, append_assoc, add-one}
+use Rattle.std.proofs.Common.{◌≡◌, ℕ, ◌+◌, ◌^◌, ◌≤◌, ◌<◌, List, [], ◌∷◌, ◌++◌, length, take, drop, get_or, ap, sym, ◌∙◌, arith, subst, append-nil, add-one}
 use Rattle.std.specs.List.{concat}
 use Rattle.std.proofs.lemmas.Grind.{common_steps}
 use Rattle.std.proofs.lemmas.List.Folds.{concat-append}
@@ -8,9 +8,9 @@ use Rattle.std.proofs.Math.Nat.{one-le-pow}
 use Rattle.uc_term.specs.declared.node.Sym.{Sym}
 use Rattle.uc_term.specs.Table.{Table as SymbolTable, arity_of}
 use Rattle.uc_term.specs.declared.signature.Signature.{Signature}
-use Rattle.uc_term.specs.Signatures.{Completes, has_constant, gets_constant, first_constant}
+use Rattle.uc_term.specs.Signatures.{Completes, has_constant, gets_constant}
 use Rattle.uc_table.specs.Tables.{AreValues, IsRow, AreRows, cell_count, cells_for}
-use Rattle.uc_table.proofs.SearchRuns.{values_take, values_drop}
+use Rattle.uc_table.proofs.Lists.{taken, dropped}
 use Rattle.uc_table.proofs.SearchLayouts.{next_cells}
 use Rattle.std.proofs.Common.{length-append}
 
@@ -33,7 +33,7 @@ one_row symbols size fs values i a count from d rows new row l e c f r k n v w x
     let as_many : length row ≡ count = ap length w ∙ taken_length values from count b in
     let same : count ≡ cell_count symbols size (get_or fs i d) = c ∙ ap (λ z. size ^ z) e in
     let t : take (i + 1) fs ≡ take i fs ++ get_or fs i d ∷ [] = ap (λ z. take z fs) (add-one i) ∙ take-suc fs i d l in
-    let g : AreRows symbols size (take i fs ++ get_or fs i d ∷ []) (rows ++ row ∷ []) = rows_snoc symbols size (take i fs) (get_or fs i d) rows row r (record { as_many = as_many ∙ same; values = subst (AreValues size) (sym w) (values_take size count (drop from values) (values_drop size from values v)) }) in
+    let g : AreRows symbols size (take i fs ++ get_or fs i d ∷ []) (rows ++ row ∷ []) = rows_snoc symbols size (take i fs) (get_or fs i d) rows row r (record { as_many = as_many ∙ same; values = subst (AreValues size) (sym w) (taken size count (drop from values) (dropped size from values v)) }) in
     record {
       from_is = omega (arith, s.0);
       rows_are = subst (λ z. AreRows symbols size z new) (sym t) (subst (λ z. AreRows symbols size (take i fs ++ get_or fs i d ∷ []) z) (sym x) g);

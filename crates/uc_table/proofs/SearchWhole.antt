@@ -6,7 +6,7 @@ use Rattle.uc_clause.specs.declared.clause.Sourced.{Sourced}
 use Rattle.uc_table.specs.declared.table.Table.{Table}
 use Rattle.uc_table.specs.declared.answers.Searched.TheVariants.{Found, Absent, Spent, Cells, Assignments}
 use Rattle.uc_table.specs.Tables.{MOST_CELLS}
-use Rattle.uc_table.specs.Searching.{cells_at, IsReached, is_first, is_next, Searches, is_found, has_too_many_cells, has_too_many_assignments, is_spent, is_absent}
+use Rattle.uc_table.specs.Searching.{cells_at, IsReached, is_next, Searches, is_found, has_too_many_cells, has_too_many_assignments, is_spent, is_absent}
 use Rattle.uc_table.specs.SearchSizes.{FindsAt, NoneAt, SpentAt, TooManyAt}
 
 module _ (symbols : SymbolTable) (signature : List Sym) (clauses : List Sourced) (budget size m count : ℕ) (reached : IsReached symbols signature clauses budget m count) (few : count ≤ budget) where

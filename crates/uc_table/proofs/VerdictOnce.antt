@@ -1,12 +1,12 @@
 -- A table is one thing to a problem.
-use Rattle.std.proofs.Common.{◌≡◌, ℕ, ◌+◌, ◌<◌, ◌≤◌, List, slice_get, Some, length, refl, sym, ap, ap₂, ◌∙◌, subst, arith, inl, inr}
+use Rattle.std.proofs.Common.{◌≡◌, ℕ, ◌≤◌, List, slice_get, Some, refl, sym, ap, ap₂, ◌∙◌, subst, arith, inl, inr}
 use Rattle.std.proofs.lemmas.Bool.{cases_lt}
 use Rattle.uc_term.specs.declared.equation.Equation.{Equation}
 use Rattle.uc_clause.specs.declared.clause.Sourced.{Sourced}
 use Rattle.uc_check.specs.Clauses.{axioms_of, goals_of}
 use Rattle.uc_table.specs.declared.table.Table.{Table}
 use Rattle.uc_table.specs.declared.answers.Tabled.{Tabled}
-use Rattle.uc_table.specs.declared.answers.Tabled.TheVariants.{Model, AxiomFails, GoalMeets, Assignments}
+use Rattle.uc_table.specs.declared.answers.Tabled.TheVariants.{AxiomFails, GoalMeets, Assignments}
 use Rattle.uc_table.specs.Algebras.{place_of, given}
 use Rattle.uc_table.specs.Tables.{IsRow}
 use Rattle.uc_table.specs.Models.{Assigns, Agree, Differ, Satisfies, KeepsApart, SatisfiesAll, KeepsAllApart}

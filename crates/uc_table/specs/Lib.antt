@@ -19,3 +19,4 @@ pub mod SearchState
 pub mod Printable
 pub mod SearchForms
 pub mod SearchSizes
+pub mod Least

@@ -25,7 +25,7 @@ mod table;
 pub use answers::{Searched, Tabled};
 pub use checking::check_table;
 pub use fault::TableFault;
-pub use laws::{model_refutes, one_verdict};
+pub use laws::{model_refutes, one_search, one_verdict};
 pub use printing::print_table;
 pub use reading::read_table;
 pub use searching::search;

@@ -1,9 +1,10 @@
 //! Steps that evaluate the two sides of a clause under an assignment, as far as a prefix of the cells has values.
 
 ghost use Rattle.std.specs.Prelude.{◌≡◌, ℕ, ◌+◌, ◌^◌, ◌<◌, ◌≤◌, [], length, drop};
-ghost use Rattle.uc_table.specs.Algebras.{place_of};
 ghost use Rattle.uc_table.specs.Tables.{AreValues};
 ghost use Rattle.uc_table.specs.SearchSteps.{run, take_step, IsStep, AreSteps, IsTaken, IsOutcome};
+
+use crate::places::place_of;
 
 /// A step over a stack of values.
 #[derive(Clone, Copy)]
@@ -30,21 +31,6 @@ pub(crate) enum Outcome {
     Sides(u32, u32),
     Waits(u32),
     Never,
-}
-
-/// Returns the place of a list of arguments among the lists of its length.
-fn place(size: u32, args: &[u32]) -> usize
-    requires size { 0 < size }
-    requires few { size ^ length args.now ≤ 65536 }
-    requires values { AreValues size args.now }
-    ensures place { result ≡ place_of size args.now }
-    ensures within { result < size ^ length args.now }
-{
-    let mut place = 0;
-    for value in args {
-        place = place * size as usize + *value as usize;
-    }
-    place
 }
 
 /// Takes a step on the stack that begins at `top`.
@@ -74,7 +60,7 @@ fn take_step(
             if stack.len() - top < count {
                 return Taken::Never;
             }
-            let cell = first as usize + place(size, &stack[top..top + count]);
+            let cell = first as usize + place_of(size, &stack[top..top + count]);
             if cell >= prefix.len() {
                 return Taken::Waits(cell as u32);
             }

@@ -10,6 +10,7 @@ ghost use Rattle.uc_table.specs.SearchSteps.{AreSteps};
 ghost use Rattle.uc_table.specs.SearchState.{AreStepsOf, Ends};
 ghost use Rattle.uc_table.specs.SearchSizes.{IsOfSize};
 ghost use Rattle.uc_table.specs.Searching.{Holds, Searches};
+ghost use Rattle.uc_table.specs.Least.{Shows};
 
 use crate::checking::{first_with_too_many, see_few};
 use crate::places::lists_of;
@@ -185,7 +186,8 @@ pub fn search(
     requires agrees { Agrees symbols.now problem.now }
     requires some { 1 ≤ size }
     requires most { size ≤ 8 }
-    ensures { IfOk result (Searches symbols.now problem.now.signature.symbols problem.now.clauses budget size) }
+    ensures searches { IfOk result (Searches symbols.now problem.now.signature.symbols problem.now.clauses budget size) }
+    ensures shows { IfOk result (Shows symbols.now problem.now.signature.symbols problem.now.clauses size) }
 {
     let clauses = problem.clauses.as_slice();
     let signature = problem.signature.symbols.as_slice();

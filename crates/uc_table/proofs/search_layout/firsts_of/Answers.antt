@@ -1,5 +1,5 @@
-use Rattle.std.proofs.Common.{◌≡◌, ◌∙◌, ap, sym, ℕ, ◌+◌, ◌<◌, ◌≤◌, ◌^◌, ◌++◌, ◌∷◌, [], length, take, get_or, rules, arith}
-use Rattle.uc_table.specs.Tables.{cells_for, MOST_CELLS, MOST_ASSIGNMENTS}
+use Rattle.std.proofs.Common.{◌≡◌, ◌+◌, ◌<◌, ◌^◌, ◌++◌, ◌∷◌, [], take, rules, arith}
+use Rattle.uc_table.specs.Tables.{cells_for, MOST_ASSIGNMENTS}
 use Rattle.uc_table.proofs.SearchLayouts.{next_cells, firsts_more}
 use Rattle.uc_table.proofs.search_layout.firsts_of.Goals as goal
 

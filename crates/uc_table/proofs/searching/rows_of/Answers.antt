@@ -1,5 +1,5 @@
-use Rattle.std.proofs.Common.{◌≡◌, ◌∙◌, ap, ℕ, ◌+◌, ◌-◌, ◌<◌, ◌≤◌, ◌^◌, ◌++◌, ◌∷◌, [], List, length, take, drop, rules, arith}
-use Rattle.uc_table.specs.Tables.{cells_for, MOST_CELLS, MOST_ASSIGNMENTS}
+use Rattle.std.proofs.Common.{◌≡◌, ◌∙◌, ap, ℕ, ◌+◌, ◌-◌, ◌<◌, ◌^◌, ◌++◌, ◌∷◌, [], List, take, drop, rules, arith}
+use Rattle.uc_table.specs.Tables.{MOST_ASSIGNMENTS}
 use Rattle.uc_table.proofs.SearchLayouts.{next_cells}
 use Rattle.uc_table.proofs.SearchRows.{one_row, row_bound}
 use Rattle.uc_table.proofs.searching.rows_of.Goals as goal

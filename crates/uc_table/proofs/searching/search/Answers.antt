@@ -1,4 +1,4 @@
-use Rattle.std.proofs.Common.{◌≡◌, ◌∙◌, ap, sym, subst, List, ℕ, ◌+◌, ◌-◌, ◌≤◌, ◌<◌, length, arith, rules}
+use Rattle.std.proofs.Common.{◌≡◌, sym, subst, List, ◌+◌, ◌-◌, ◌≤◌, ◌<◌, length, arith}
 use Rattle.uc_problem.proofs.FreshMarks.{signature_has}
 use Rattle.uc_term.specs.declared.node.Sym.{Sym}
 use Rattle.uc_term.specs.Gathering.{HasAll}
@@ -8,6 +8,9 @@ use Rattle.uc_table.specs.SearchSizes.{IsOfSize, FindsAt, NoneAt, SpentAt, TooMa
 use Rattle.uc_table.specs.Searching.{is_first, cells_at}
 use Rattle.uc_table.proofs.SearchRows.{some_symbol}
 use Rattle.uc_table.proofs.SearchWhole.{whole_found, whole_cells, whole_assignments, whole_spent, next_size, whole_absent}
+use Rattle.uc_table.specs.declared.answers.Searched.TheVariants.{Found, Absent}
+use Rattle.uc_table.proofs.Readiness.{problem_known}
+use Rattle.uc_table.proofs.SearchShows.{searches_show}
 use Rattle.uc_table.proofs.searching.search.Goals as goal
 
 pub loop-at-init : goal.loop-at-init
@@ -20,8 +23,8 @@ pub search_size-requires-clause-nonempty : goal.search_size-requires-clause-none
 search_size-requires-clause-nonempty c =
     subst (λ (z : List Sym). 0 < length z) (sym c.as_slice-signature.ensures) (some_symbol c.args.symbols.now c.requires.agrees.signature.symbols c.args.problem.now.signature c.requires.agrees.signature.completes)
 
-pub returns-in-Found : goal.returns-in-Found
-returns-in-Found c =
+pub returns-in-Found-clause-searches : goal.returns-in-Found-clause-searches
+returns-in-Found-clause-searches c =
     let sy = c.args.symbols.now in
     let sg = c.args.problem.now.signature.symbols in
     let cl = c.args.problem.now.clauses in
@@ -31,8 +34,8 @@ returns-in-Found c =
     let f : FindsAt sy sg cl c.loop-at.at left c.in-Found.table = rw c.in-Found.is at o2 in
     whole_found sy sg cl c.args.budget c.args.size c.loop-at.at c.loop-at.visited c.loop-at.invariant.reached c.loop-at.invariant.few c.in-Found.table c.loop-at-test.true f
 
-pub returns-in-Spent : goal.returns-in-Spent
-returns-in-Spent c =
+pub returns-in-Spent-clause-searches : goal.returns-in-Spent-clause-searches
+returns-in-Spent-clause-searches c =
     let sy = c.args.symbols.now in
     let sg = c.args.problem.now.signature.symbols in
     let cl = c.args.problem.now.clauses in
@@ -42,8 +45,8 @@ returns-in-Spent c =
     let f : SpentAt sy sg cl c.loop-at.at left = rw c.in-Spent.is at o2 in
     whole_spent sy sg cl c.args.budget c.args.size c.loop-at.at c.loop-at.visited c.loop-at.invariant.reached c.loop-at.invariant.few c.loop-at-test.true f
 
-pub returns-in-Cells : goal.returns-in-Cells
-returns-in-Cells c =
+pub returns-in-Cells-clause-searches : goal.returns-in-Cells-clause-searches
+returns-in-Cells-clause-searches c =
     let sy = c.args.symbols.now in
     let sg = c.args.problem.now.signature.symbols in
     let cl = c.args.problem.now.clauses in
@@ -53,8 +56,8 @@ returns-in-Cells c =
     let f : MOST_CELLS < cells_at sy sg cl c.loop-at.at = rw c.in-Cells.is at o2 in
     whole_cells sy sg cl c.args.budget c.args.size c.loop-at.at c.loop-at.visited c.loop-at.invariant.reached c.loop-at.invariant.few c.loop-at-test.true f
 
-pub returns-in-Assignments : goal.returns-in-Assignments
-returns-in-Assignments c =
+pub returns-in-Assignments-clause-searches : goal.returns-in-Assignments-clause-searches
+returns-in-Assignments-clause-searches c =
     let sy = c.args.symbols.now in
     let sg = c.args.problem.now.signature.symbols in
     let cl = c.args.problem.now.clauses in
@@ -76,7 +79,13 @@ loop-at-preserved c =
     let k : c.in-None.count ≤ left = f.few in
     record { reached = next_size sy sg cl c.args.budget c.args.size c.loop-at.at c.loop-at.visited c.loop-at.invariant.reached c.loop-at.invariant.few c.in-None.count f; few = omega arith; within = omega arith }
 
-pub returns : goal.returns
-returns c =
+pub returns-clause-searches : goal.returns-clause-searches
+returns-clause-searches c =
     let e : c.loop-at.at ≡ c.args.size + 1 = omega arith in
     whole_absent c.args.symbols.now c.args.problem.now.signature.symbols c.args.problem.now.clauses c.args.budget c.args.size c.loop-at.at c.loop-at.visited c.loop-at.invariant.reached c.loop-at.invariant.few e
+
+pub returns-in-Found-clause-shows : goal.returns-in-Found-clause-shows
+returns-in-Found-clause-shows c = searches_show c.args.symbols.now c.args.problem.now.signature.symbols c.args.problem.now.clauses c.args.budget (problem_known c.args.symbols.now c.args.problem.now c.requires.agrees) c.args.size (Found c.in-Found.table) c.requires.most (returns-in-Found-clause-searches c)
+
+pub returns-clause-shows : goal.returns-clause-shows
+returns-clause-shows c = searches_show c.args.symbols.now c.args.problem.now.signature.symbols c.args.problem.now.clauses c.args.budget (problem_known c.args.symbols.now c.args.problem.now c.requires.agrees) c.args.size Absent c.requires.most (returns-clause-searches c)

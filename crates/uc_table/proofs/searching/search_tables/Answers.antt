@@ -1,9 +1,9 @@
-use Rattle.std.proofs.Common.{◌≡◌, ◌≤◌, ◌∙◌, ap, sym, subst, List, ℕ, [], length, rules, arith}
+use Rattle.std.proofs.Common.{◌≡◌, ◌≤◌, ◌∙◌, sym, subst, List, ℕ, [], length, rules}
 use Rattle.std.specs.Prelude.{slice_get, Some}
 use Rattle.uc_table.specs.declared.search_instances.Form.{Form}
 use Rattle.uc_table.specs.declared.search_size.State.{State}
-use Rattle.uc_table.specs.SearchState.{IsReady, IsRefutedIn}
-use Rattle.uc_table.specs.SearchInstances.{IsForm, IsRefutedBy, AreSettled, AreOf}
+use Rattle.uc_table.specs.SearchState.{IsRefutedIn}
+use Rattle.uc_table.specs.SearchInstances.{IsRefutedBy, AreSettled, AreOf}
 use Rattle.uc_table.proofs.SearchGoing.{ready, ends_refuted, open_start}
 use Rattle.uc_table.proofs.searching.search_tables.Goals as goal
 

@@ -1,4 +1,4 @@
-use Rattle.std.proofs.Common.{◌≡◌, ◌-◌, arith}
+use Rattle.std.proofs.Common.{◌-◌, arith}
 use Rattle.uc_term.specs.declared.node.Node.TheVariants.{Var}
 use Rattle.uc_table.specs.Tables.{MOST_ASSIGNMENTS}
 use Rattle.uc_table.specs.Against.{node_variables, nodes_variables}

@@ -1,4 +1,4 @@
-use Rattle.std.proofs.Common.{◌≡◌, ◌∙◌, ap, sym, ℕ, ◌≤◌, ◌<◌, length, rules, arith, get_or, Some}
+use Rattle.std.proofs.Common.{◌≡◌, ◌∙◌, ap, ◌≤◌, ◌<◌, length, rules, arith, get_or, Some}
 use Rattle.std.proofs.lemmas.Grind.{get_or_default_zero}
 use Rattle.uc_table.proofs.SearchLayouts.{beyond, no_number, other_symbol, this_symbol}
 use Rattle.uc_table.proofs.search_layout.Layout.first_cell.Goals as goal

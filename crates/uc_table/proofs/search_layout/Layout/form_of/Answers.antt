@@ -1,4 +1,4 @@
-use Rattle.std.proofs.Common.{◌≡◌, ◌∙◌, ap, ◌≤◌, arith}
+use Rattle.std.proofs.Common.{◌≡◌, ◌∙◌, ap, arith}
 use Rattle.uc_check.specs.Clauses.{equation_of}
 use Rattle.uc_table.specs.Tables.{MOST_ASSIGNMENTS}
 use Rattle.uc_table.specs.Checks.{variables_in, variable_count}

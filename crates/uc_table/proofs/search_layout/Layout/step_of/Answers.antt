@@ -1,4 +1,4 @@
-use Rattle.std.proofs.Common.{◌≡◌, sym, ◌∙◌}
+use Rattle.std.proofs.Common.{sym, ◌∙◌}
 use Rattle.uc_table.proofs.SearchLayouts.{first_some}
 use Rattle.uc_table.proofs.search_layout.Layout.step_of.Goals as goal
 
