@@ -90,7 +90,7 @@ fn large_line<O: Order>(
 }
 
 /// The line of a budget that is spent.
-fn budget_line(alloc: Global, counted: u32, budget: u32) -> Result<Text, AllocError>
+pub(crate) fn budget_line(alloc: Global, counted: u32, budget: u32) -> Result<Text, AllocError>
     ensures { IfOk result (λ text. text ≡ budget_line counted budget) }
 {
     let mut line = Text::from_bytes(alloc, b"% budget ")?;
