@@ -7,7 +7,7 @@ use Rattle.uc_words.specs.declared.command.Verb.TheVariants as verb
 use Rattle.uc_words.specs.Reads.{Reads}
 use Rattle.uc_words.proofs.Only.{only}
 use Rattle.uc_answer.specs.Lines.{usage_line}
-use Rattle.uc_top.specs.Answers.{IsBuilt, IsSearching, CheckAnswers, ShowAnswers, OrderAnswers, RewriteAnswers, PairsAnswers, DecideAnswers, TableAnswers, Answers, has_no_reading, isnt_built, has_many_workers, checks, shows, orders, rewrites, pairs_up, proves, decides, tables}
+use Rattle.uc_top.specs.Answers.{IsBuilt, IsSearching, CheckAnswers, ShowAnswers, OrderAnswers, RewriteAnswers, PairsAnswers, DecideAnswers, TableAnswers, ModelAnswers, Answers, has_no_reading, isnt_built, has_many_workers, checks, shows, orders, rewrites, pairs_up, proves, decides, tables, models}
 use Rattle.uc_top.specs.ProveAnswers.{ProveAnswers}
 
 module _ (holds : Option Files) (before now : ℕ) where
@@ -33,7 +33,7 @@ module _ (holds : Option Files) (before now : ℕ) where
   Of verb.Pairs k status text = (name : List ℕ) × (k.positionals ≡ name ∷ []) × PairsAnswers holds before now k.order k.root name status text
   Of verb.Gen k status text = IsUsage status text
   Of verb.Table k status text = (name : List ℕ) × (file : List ℕ) × (k.positionals ≡ name ∷ file ∷ []) × TableAnswers holds before now k.root name file status text
-  Of verb.Model k status text = IsUsage status text
+  Of verb.Model k status text = (name : List ℕ) × (k.positionals ≡ name ∷ []) × ModelAnswers holds before now k name status text
 
   not_of : (v : Verb) (k : Command) → (IsBuilt v → ⊥) → Of v k 4 usage_line
   not_of verb.Check k n = absurd (n tt)
@@ -45,7 +45,7 @@ module _ (holds : Option Files) (before now : ℕ) where
   not_of verb.Pairs k n = absurd (n tt)
   not_of verb.Gen k n = (refl, refl)
   not_of verb.Table k n = absurd (n tt)
-  not_of verb.Model k n = (refl, refl)
+  not_of verb.Model k n = absurd (n tt)
 
   -- a command that searches, by more workers than one
   of_many : (v : Verb) (k : Command) → IsSearching v → (k.workers ≡ 1 → ⊥) → Of v k 4 usage_line
@@ -76,6 +76,7 @@ module _ (holds : Option Files) (before now : ℕ) where
     of_command {status = status} {text = text} x (pairs_up {name = name} y v p a) = of_other verb.Pairs status text x y v (name, p, a)
     of_command {status = status} {text = text} x (proves {name = name} y v w p a) = of_other verb.Prove status text x y v (inr (w, name, p, a))
     of_command {status = status} {text = text} x (tables {name = name} {file = file} y v p a) = of_other verb.Table status text x y v (name, file, p, a)
+    of_command {status = status} {text = text} x (models {name = name} y v p a) = of_other verb.Model status text x y v (name, p, a)
     of_command {status = status} {text = text} x (decides {name = name} {questions = questions} y v w p a) = of_other verb.Decide status text x y v (inr (w, name, questions, p, a))
 
     -- the same by the command's verb
@@ -95,3 +96,4 @@ module _ (holds : Option Files) (before now : ℕ) where
     read_or_not status text (proves {command = other} y v w p a) = inl (other, y)
     read_or_not status text (decides {command = other} y v w p a) = inl (other, y)
     read_or_not status text (tables {command = other} y v p a) = inl (other, y)
+    read_or_not status text (models {command = other} y v p a) = inl (other, y)

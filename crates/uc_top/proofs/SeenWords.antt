@@ -11,11 +11,11 @@ use Rattle.uc_words.specs.declared.line.Expects.TheVariants.{Item, Value, Positi
 use Rattle.uc_words.specs.declared.table.Key.{Key}
 use Rattle.uc_words.specs.declared.table.Key.TheVariants as key
 use Rattle.uc_words.specs.Forms.{form_of}
-use Rattle.uc_words.specs.Number.{number_of}
 use Rattle.uc_words.specs.Table.{verb_named}
 use Rattle.uc_words.specs.Lines.{Line, item, turn, onto, at_end, line_of, given_value, is_value, value, same}
-use Rattle.uc_words.specs.Reads.{is_clean, is_printable, is_within, limited, with_items, with_verb, says, Reads}
+use Rattle.uc_words.specs.Reads.{is_clean, is_printable, with_items, with_verb, says, Reads}
 use Rattle.uc_answer.specs.PrintableProblems.{are_seen, IsRootSeen}
+use Rattle.uc_top.proofs.VariableWeights.{limited_within}
 
 abbrev AllSeen : List (List ℕ) → Type 0
 AllSeen [] = Unit {0}
@@ -135,22 +135,8 @@ positionals_seen words command r = subst AreTitles (sym r.is.positionals) (says_
 pub root_seen : (words : List (List ℕ)) (command : Command) → Reads words command → IsRootSeen command.root
 root_seen words command r = subst IsRootSeen (sym r.is.root) (option_seen key.Root r.said.1.given (says_seen words r.said (clean_seen words r.clean) r.says).1)
 
--- the numbers of options are within their limits
-module _ (low high n : ℕ) where
-  within_number : (o : Option ℕ) → (if is_within low high o then o else None) ≡ Some n → n ≤ high
-  within_number None e = absurd cc
-  within_number (Some m) e = go (is_within low high (Some m)) refl e
-    where
-      go : (b : Bool) → is_within low high (Some m) ≡ b → (if b then Some m else None) ≡ Some n → n ≤ high
-      go true h k = let p = and_parts (nat_le low m) (nat_le m high) h in let one : m ≡ n = cc in subst (λ i. i ≤ high) one (leb-true m high p.1)
-      go false h k = absurd cc
-
-  within_limit : (default : ℕ) → default ≤ high → (o : Option (List ℕ)) → limited low high default o ≡ Some n → n ≤ high
-  within_limit default le None e = let one : default ≡ n = cc in subst (λ i. i ≤ high) one le
-  within_limit default le (Some word) e = within_number (number_of word) e
-
 pub budget_within : (words : List (List ℕ)) (command : Command) → Reads words command → command.budget ≤ 10000000
-budget_within words command r = within_limit 0 10000000 command.budget 100000 (omega arith) (value key.Budget r.said.1.given) r.is.budget
+budget_within words command r = (limited_within 0 10000000 command.budget 100000 (omega arith) (omega arith) (value key.Budget r.said.1.given) r.is.budget).1
 
 pub pairs_within : (words : List (List ℕ)) (command : Command) → Reads words command → command.pairs ≤ 8000000
-pairs_within words command r = within_limit 1 8000000 command.pairs 1000000 (omega arith) (value key.Pairs r.said.1.given) r.is.pairs
+pairs_within words command r = (limited_within 1 8000000 command.pairs 1000000 (omega arith) (omega arith) (value key.Pairs r.said.1.given) r.is.pairs).1

@@ -1,4 +1,4 @@
--- The weight of variables that a command line names is within its limits.
+-- The numbers that a command line names are within their limits.
 use Rattle.std.proofs.Common.{ℕ, ◌≡◌, ◌≤◌, nat_le, Bool, true, false, List, Option, Some, None, if◌then◌else◌, refl, subst, arith}
 use Rattle.std.proofs.lemmas.Bool.{and_parts, leb-true}
 use Rattle.uc_words.specs.declared.command.Command.{Command}
@@ -7,24 +7,27 @@ use Rattle.uc_words.specs.Lines.{value}
 use Rattle.uc_words.specs.Number.{number_of}
 use Rattle.uc_words.specs.Reads.{is_within, limited, Reads}
 
-module _ (n : ℕ) where
+module _ (low high n : ℕ) where
   abbrev Within : Type 0
-  Within = (1 ≤ n) × (n ≤ 1000000)
+  Within = (low ≤ n) × (n ≤ high)
 
-  number_within : (o : Option ℕ) → (if is_within 1 1000000 o then o else None) ≡ Some n → Within
+  number_within : (o : Option ℕ) → (if is_within low high o then o else None) ≡ Some n → Within
   number_within None e = absurd cc
-  number_within (Some m) e = go (is_within 1 1000000 (Some m)) refl e
+  number_within (Some m) e = go (is_within low high (Some m)) refl e
     where
-      go : (b : Bool) → is_within 1 1000000 (Some m) ≡ b → (if b then Some m else None) ≡ Some n → Within
+      go : (b : Bool) → is_within low high (Some m) ≡ b → (if b then Some m else None) ≡ Some n → Within
       go true h k =
-          let p = and_parts (nat_le 1 m) (nat_le m 1000000) h in
+          let p = and_parts (nat_le low m) (nat_le m high) h in
           let same : m ≡ n = cc in
-          subst (λ i. (1 ≤ i) × (i ≤ 1000000)) same (leb-true 1 m p.0, leb-true m 1000000 p.1)
+          subst (λ i. (low ≤ i) × (i ≤ high)) same (leb-true low m p.0, leb-true m high p.1)
       go false h k = absurd cc
 
-  limited_within : (o : Option (List ℕ)) → limited 1 1000000 1 o ≡ Some n → Within
-  limited_within None e = let same : 1 ≡ n = cc in subst (λ i. (1 ≤ i) × (i ≤ 1000000)) same (omega arith, omega arith)
-  limited_within (Some word) e = number_within (number_of word) e
+  pub limited_within : (default : ℕ) → low ≤ default → default ≤ high → (o : Option (List ℕ)) → limited low high default o ≡ Some n → Within
+  limited_within default some most None e = let same : default ≡ n = cc in subst (λ i. (low ≤ i) × (i ≤ high)) same (some, most)
+  limited_within default some most (Some word) e = number_within (number_of word) e
 
 pub w0_within : (words : List (List ℕ)) (command : Command) → Reads words command → (1 ≤ command.order.w0) × (command.order.w0 ≤ 1000000)
-w0_within words command r = limited_within command.order.w0 (value key.W0 r.said.1.given) r.is.order.w0
+w0_within words command r = limited_within 1 1000000 command.order.w0 1 (omega arith) (omega arith) (value key.W0 r.said.1.given) r.is.order.w0
+
+pub size_within : (words : List (List ℕ)) (command : Command) → Reads words command → (1 ≤ command.size) × (command.size ≤ 8)
+size_within words command r = limited_within 1 8 command.size 4 (omega arith) (omega arith) (value key.Size r.said.1.given) r.is.size

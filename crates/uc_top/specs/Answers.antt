@@ -30,6 +30,7 @@ use Rattle.uc_answer.specs.Refusals.{load_status, large_line}
 use Rattle.uc_top.specs.Loaded.{IsLoaded}
 use Rattle.uc_top.specs.FileAnswers.{FileAnswers}
 use Rattle.uc_top.specs.TableAnswers.{TableTextAnswers}
+use Rattle.uc_top.specs.ModelAnswers.{IsModelled}
 use Rattle.uc_top.specs.OrderAnswers.{IsOrdered}
 use Rattle.uc_top.specs.RewriteAnswers.{IsRewritten}
 use Rattle.uc_top.specs.PairsAnswers.{IsPaired}
@@ -50,6 +51,7 @@ IsBuilt verb.Rewrite = Unit {0}
 IsBuilt verb.Pairs = Unit {0}
 IsBuilt verb.Decide = Unit {0}
 IsBuilt verb.Table = Unit {0}
+IsBuilt verb.Model = Unit {0}
 IsBuilt other = ⊥
 
 -- the commands that are built and search, each by one worker so far
@@ -121,6 +123,10 @@ module _ (holds : Option Files) (before now : ℕ) where
   abbrev pub TableAnswers : Option (List ℕ) → List ℕ → List ℕ → ℕ → List ℕ → Type 0
   TableAnswers root name file = LoadAnswers (λ symbols problem. FileAnswers holds before now (TableTextAnswers symbols problem file) file) root name
 
+  -- the answer to `model` for the problem file of this name
+  abbrev pub ModelAnswers : Command → List ℕ → ℕ → List ℕ → Type 0
+  ModelAnswers command name = LoadAnswers (λ symbols. IsModelled symbols command name) command.root name
+
   -- the answer to the words of a command line; each command that is built has a case
   module _ (words : List (List ℕ)) where
     pub data Answers : ℕ → List ℕ → Type 0 where
@@ -135,3 +141,4 @@ module _ (holds : Option Files) (before now : ℕ) where
       proves : {command : Command} {name : List ℕ} {status : ℕ} {answer : List ℕ} → Reads words command → command.verb ≡ verb.Prove → command.workers ≡ 1 → command.positionals ≡ name ∷ [] → ProveAnswers command name holds before now status answer → Answers status answer
       decides : {command : Command} {name : List ℕ} {questions : List (List ℕ)} {status : ℕ} {answer : List ℕ} → Reads words command → command.verb ≡ verb.Decide → command.workers ≡ 1 → command.positionals ≡ name ∷ questions → DecideAnswers command name questions status answer → Answers status answer
       tables : {command : Command} {name file : List ℕ} {status : ℕ} {answer : List ℕ} → Reads words command → command.verb ≡ verb.Table → command.positionals ≡ name ∷ file ∷ [] → TableAnswers command.root name file status answer → Answers status answer
+      models : {command : Command} {name : List ℕ} {status : ℕ} {answer : List ℕ} → Reads words command → command.verb ≡ verb.Model → command.positionals ≡ name ∷ [] → ModelAnswers command name status answer → Answers status answer

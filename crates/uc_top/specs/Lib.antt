@@ -6,6 +6,7 @@ pub mod ProveAnswers
 pub mod DecideAnswers
 pub mod FileAnswers
 pub mod TableAnswers
+pub mod ModelAnswers
 pub mod Told
 pub mod Faulting
 pub mod Answers
@@ -17,4 +18,5 @@ pub mod ProveRuns
 pub mod DecideRuns
 pub mod DecideTold
 pub mod TableRuns
+pub mod ModelRuns
 pub mod Headline

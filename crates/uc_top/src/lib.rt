@@ -6,6 +6,7 @@ mod checking;
 mod deciding;
 mod laws;
 mod loading;
+mod modelling;
 mod ordering;
 mod output;
 mod pairing;

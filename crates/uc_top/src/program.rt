@@ -16,12 +16,14 @@ ghost use Rattle.uc_top.specs.PairsRuns.{CompletesPairs};
 ghost use Rattle.uc_top.specs.ProveRuns.{KeepsCommand, CompletesProve};
 ghost use Rattle.uc_top.specs.DecideRuns.{KeepsDecideCommand, CompletesDecide};
 ghost use Rattle.uc_top.specs.TableRuns.{KeepsTableWord, CompletesTable};
+ghost use Rattle.uc_top.specs.ModelRuns.{KeepsModelWord, CompletesModel};
 ghost use Rattle.uc_top.specs.Faulting.{AnswersFault, IsStatusFaulted, IsFaultedRun, fault_opening, fault_text};
 ghost use Rattle.uc_top.specs.Told.{CountsWrites};
 ghost use Rattle.uc_top.specs.Headline.{Headline};
 
 use crate::checking::check_answer;
 use crate::deciding::decide_answer;
+use crate::modelling::model_answer;
 use crate::ordering::order_answer;
 use crate::output::{tell, tell_memory_out};
 use crate::pairing::pairs_answer;
@@ -56,9 +58,12 @@ use uc_words::{Command, Verb, WordsFault, read_words};
 /// where a question stays open, since its steps are spent or a term grew too large, or where the text names the budget, the
 /// limit on pairs or the size that ended the search; 4 where the order is refused; else 3. For `table` it is 0 where the table
 /// file has a table that is a model of the problem, so that none of the problem's goals follows from its axioms; 1 where an axiom
-/// fails in it, or the sides of a goal meet, under the assignment that is told; else 3. 4 stands for words that have no reading,
-/// name a command that isn't built, or ask for more than one worker, 5 for a failure of the library and 6 for one of the sink, each
-/// only where its count of faults rose in this call, and 7 for want of memory.
+/// fails in it, or the sides of a goal meet, under the assignment that is told; else 3. For `model` it is 0 where a table up to the
+/// size is a model of the problem, so that none of its goals follows, while none of a smaller size is one, and the text is that table;
+/// 1 where none up to the size is one; 2 where the text names the limit that ended the search: the budget, the cells of a table or the
+/// assignments of a clause; else 3. 4 stands for words that have no reading, name a command that isn't built, or ask for more than one
+/// worker, 5 for a failure of the library and 6 for one of the sink, each only where its count of faults rose in this call, and 7 for
+/// want of memory.
 ///
 /// At most one fetch fails, and it ends the call with status 5, in which case the text names the file whose fetch failed, or with 6 or
 /// 7, where its line isn't written. At most one write fails, and it ends the call with status 6.
@@ -82,6 +87,8 @@ pub fn run<R: Threads + Wait + Sync, L: Library, S: Sink, G: Gate + Sync>(
     ensures complete_decide { (files : Files) → L.holds library.old ≡ Some files → (Rose (L.faults library.old) (L.faults library.new) → ⊥) → (Rose (S.faults sink.old) (S.faults sink.new) → ⊥) → CompletesDecide files (map string_bytes words.now) (S.written sink.old) (S.written sink.new) result }
     ensures tabled { (files : Files) → L.holds library.old ≡ Some files → KeepsTableWord files (map string_bytes words.now) result }
     ensures complete_table { (files : Files) → L.holds library.old ≡ Some files → (Rose (L.faults library.old) (L.faults library.new) → ⊥) → (Rose (S.faults sink.old) (S.faults sink.new) → ⊥) → CompletesTable files (map string_bytes words.now) (S.written sink.old) (S.written sink.new) result }
+    ensures modelled { (files : Files) → L.holds library.old ≡ Some files → KeepsModelWord files (map string_bytes words.now) (S.written sink.old) (S.written sink.new) result }
+    ensures complete_model { (files : Files) → L.holds library.old ≡ Some files → (Rose (L.faults library.old) (L.faults library.new) → ⊥) → (Rose (S.faults sink.old) (S.faults sink.new) → ⊥) → CompletesModel files (map string_bytes words.now) (S.written sink.old) (S.written sink.new) result }
     ensures same { L.holds library.new ≡ L.holds library.old }
     ensures later { L.faults library.old ≤ L.faults library.new }
     ensures faulted { IsFaultedRun (L.faults library.old) (L.faults library.new) (L.failed_at library.old) (L.failed_at library.new) result }
@@ -158,6 +165,10 @@ fn command_answer<R: Wait, L: Library>(
         },
         Verb::Table => match command.positionals.as_slice() {
             [name, file] => table_answer(alloc, command.root.as_ref(), name, file, library),
+            _ => unreachable!(),
+        },
+        Verb::Model => match command.positionals.as_slice() {
+            [name] => model_answer(alloc, command, name, library),
             _ => unreachable!(),
         },
         Verb::Prove => prove_command(rt, alloc, command, library),

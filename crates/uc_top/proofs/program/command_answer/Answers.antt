@@ -1,12 +1,13 @@
 use Rattle.std.proofs.Common.{◌≡◌, [], ◌∷◌, refl, sym, ◌∙◌, subst, arith}
 use Rattle.std.proofs.lemmas.Result.{IfOk-weaker}
 use Rattle.uc_answer.specs.QuestionWords.{AreShort}
-use Rattle.uc_top.specs.Answers.{checks, shows, orders, rewrites, pairs_up, tables, isnt_built}
+use Rattle.uc_top.specs.Answers.{checks, shows, orders, rewrites, pairs_up, tables, models, isnt_built}
 use Rattle.uc_top.specs.Runs.{MayAnswer, is_answer}
 use Rattle.uc_top.proofs.Answering.{one_line, one_name, two_names, not_built, usage_not_done}
 use Rattle.uc_top.proofs.ShortWords.{positionals_short}
 use Rattle.uc_top.specs.Faulting.{fault_opening}
 use Rattle.uc_top.proofs.Faulted.{none_failed}
+use Rattle.uc_top.proofs.VariableWeights.{size_within}
 use Rattle.uc_top.proofs.program.command_answer.Goals as goal
 
 pub returns-in-len2-clause-answers : goal.returns-in-len2-clause-answers
@@ -51,7 +52,7 @@ returns-in-len1-as_slice-2-clause-answers g c words r =
 
 pub returns-in_default : goal.returns-in_default
 returns-in_default g c = record {
-  answers = λ words r. one_line c.usage_answer.result (MayAnswer _ _ _ words) _ _ c.usage_answer.ensures (is_answer (isnt_built r (not_built _ c.in_default.not-Check c.in_default.not-Show c.in_default.not-Order c.in_default.not-Rewrite c.in_default.not-Pairs c.in_default.not-Prove c.in_default.not-Decide c.in_default.not-Table)));
+  answers = λ words r. one_line c.usage_answer.result (MayAnswer _ _ _ words) _ _ c.usage_answer.ensures (is_answer (isnt_built r (not_built _ c.in_default.not-Check c.in_default.not-Show c.in_default.not-Order c.in_default.not-Rewrite c.in_default.not-Pairs c.in_default.not-Prove c.in_default.not-Decide c.in_default.not-Table c.in_default.not-Model)));
   certified = λ v. usage_not_done _ c.usage_answer.result _ c.usage_answer.ensures;
   promise = λ v. absurd (c.in_default.not-Prove v);
   decided = λ v. absurd (c.in_default.not-Decide v);
@@ -82,3 +83,17 @@ returns-in-len2-as_slice-2-clause-answers g c words r =
 
 pub returns-in-len2-as_slice-2-clause-faulted : goal.returns-in-len2-as_slice-2-clause-faulted
 returns-in-len2-as_slice-2-clause-faulted g c = rw c.in-Table.is c.table_answer.ensures.faulted
+
+pub returns-in-len1-as_slice-3-clause-answers : goal.returns-in-len1-as_slice-3-clause-answers
+returns-in-len1-as_slice-3-clause-answers g c words r =
+    let names : c.args.command.now.positionals ≡ c.name-item-then-this-lt2-4.result ∷ [] = sym c.as_slice-in-Model.ensures ∙ one_name c.as_slice-in-Model.result.now c.name-item-then-this-lt2-4.result c.in-len1-as_slice-3.len_at_least c.in-len1-as_slice-3.len_below c.name-item-then-this-lt2-4.is in
+    IfOk-weaker c.model_answer.result _ _ (λ answer a. is_answer (models r c.in-Model.is names a)) c.model_answer.ensures.answers
+
+pub returns-in-len1-as_slice-3-clause-faulted : goal.returns-in-len1-as_slice-3-clause-faulted
+returns-in-len1-as_slice-3-clause-faulted g c = rw c.in-Model.is c.model_answer.ensures.faulted
+
+pub model_answer-requires-clause-some : goal.model_answer-requires-clause-some
+model_answer-requires-clause-some g c = (size_within c.requires.words.0 c.args.command.now c.requires.words.1).0
+
+pub model_answer-requires-clause-most : goal.model_answer-requires-clause-most
+model_answer-requires-clause-most g c = (size_within c.requires.words.0 c.args.command.now c.requires.words.1).1

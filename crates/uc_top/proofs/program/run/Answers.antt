@@ -6,6 +6,7 @@ use Rattle.uc_top.proofs.CheckEnding.{completes_check}
 use Rattle.uc_top.proofs.RewriteCompleting.{rewrite_completes}
 use Rattle.uc_top.proofs.PairsCompleting.{pairs_complete}
 use Rattle.uc_top.proofs.TableCompleting.{table_completes, keeps_table_word}
+use Rattle.uc_top.proofs.ModelCompleting.{model_completes, keeps_model_word}
 use Rattle.uc_top.proofs.ProveCompleting.{prove_completes, keeps_word}
 use Rattle.uc_top.proofs.DecidePromises.{keeps_decide_word}
 use Rattle.uc_top.proofs.DecideCompleting.{decide_completes}
@@ -101,3 +102,15 @@ returns-in-Err-clause-tabled g c = keeps_table_word _ 0 0 _ _ _ _ _ _ (record { 
 
 pub returns-in-Ok-clause-tabled : goal.returns-in-Ok-clause-tabled
 returns-in-Ok-clause-tabled g c = keeps_table_word _ _ _ _ _ _ _ _ _ (record { status = _; text = _; answer = c.in-Ok.ensures.answers; told = c.tell.ensures.told })
+
+pub returns-in-Err-clause-complete_model : goal.returns-in-Err-clause-complete_model
+returns-in-Err-clause-complete_model g c = model_completes _ _ _ _ _ _ _ _ _ (record { status = 7; text = _; answer = wants_memory; told = c.tell_memory_out.ensures.told })
+
+pub returns-in-Ok-clause-complete_model : goal.returns-in-Ok-clause-complete_model
+returns-in-Ok-clause-complete_model g c = model_completes _ _ _ _ _ _ _ _ _ (record { status = _; text = _; answer = c.in-Ok.ensures.answers; told = c.tell.ensures.told })
+
+pub returns-in-Err-clause-modelled : goal.returns-in-Err-clause-modelled
+returns-in-Err-clause-modelled g c = keeps_model_word _ 0 0 _ _ _ _ _ _ (record { status = 7; text = _; answer = wants_memory; told = c.tell_memory_out.ensures.told })
+
+pub returns-in-Ok-clause-modelled : goal.returns-in-Ok-clause-modelled
+returns-in-Ok-clause-modelled g c = keeps_model_word _ _ _ _ _ _ _ _ _ (record { status = _; text = _; answer = c.in-Ok.ensures.answers; told = c.tell.ensures.told })
