@@ -1,11 +1,11 @@
 #!/usr/bin/env python3
 """Searches for a finite model by the plain rule, prefix by prefix, and counts the prefixes that it visits.
 
-    bench/models.py PROBLEM SIZE [MOST]
+    bench/models.py PROBLEM SIZE [MOST [FIRST]]
 
 PROBLEM is a file with a clause a line, as `uc show` prints it. A prefix gives the first cells a value each: cells go by symbol in the order of the
 signature (first occurrence; a constant `least` last where no symbol is one), then by arguments, the first slowest. It is refuted if it has both values of some
-instance of an axiom and they differ, or of a goal and they agree. Visited are, of each size from 1 to SIZE, the nonempty prefixes whose longest proper
+instance of an axiom and they differ, or of a goal and they agree. Visited are, of each size from 1, or FIRST, to SIZE, the nonempty prefixes whose longest proper
 prefix isn't refuted, in lexicographic order, up to the first whole table that isn't refuted. Each prefix is tried anew on every assignment of every clause.
 
 It prints a line a size, `size N visited V`, and last `found VALUES`, `none`, or `spent MOST` where a prefix is due behind the MOSTth.
@@ -62,6 +62,7 @@ def visit(clauses, order, size, prefix, count, most):
 def main():
     path, sizes = sys.argv[1], int(sys.argv[2])
     most = int(sys.argv[3]) if len(sys.argv) > 3 else None
+    first = int(sys.argv[4]) if len(sys.argv) > 4 else 1
     with open(path) as file:
         text = "".join(line for line in file if line.startswith("cnf"))
     problem = read_problem(text)
@@ -71,7 +72,7 @@ def main():
         symbols.append("least")
         arity["least"] = 0
     total, start = 0, time.process_time()
-    for size in range(1, sizes + 1):
+    for size in range(first, sizes + 1):
         order = [(symbol,) + arguments for symbol in symbols for arguments in itertools.product(range(size), repeat=arity[symbol])]
         count = [0]
         try:
@@ -79,6 +80,7 @@ def main():
             found = None if empty else visit(clauses, order, size, [], count, None if most is None else most - total)
         except Spent:
             print(f"spent {most}")
+            total = most
             break
         total += count[0]
         print(f"size {size} visited {count[0]}")
