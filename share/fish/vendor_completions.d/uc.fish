@@ -9,14 +9,16 @@ complete -c uc -n __fish_use_subcommand -f -a order -d 'tells how the order dire
 complete -c uc -n __fish_use_subcommand -f -a rewrite -d 'normalises a term by the axioms, step by step'
 complete -c uc -n __fish_use_subcommand -f -a pairs -d 'prints the critical pairs of the axioms'
 complete -c uc -n __fish_use_subcommand -f -a table -d 'tells whether a finite table is a model: it satisfies the axioms and keeps each goal apart'
-complete -c uc -n '__fish_seen_subcommand_from prove decide check show order rewrite pairs table' -l root -d 'where an included file is looked for after the problem\'s own folder' -x -a '(__fish_complete_directories)'
+complete -c uc -n __fish_use_subcommand -f -a model -d 'searches for a finite table that is a model'
+complete -c uc -n '__fish_seen_subcommand_from prove decide check show order rewrite pairs table model' -l root -d 'where an included file is looked for after the problem\'s own folder' -x -a '(__fish_complete_directories)'
 complete -c uc -n '__fish_seen_subcommand_from prove decide order rewrite pairs' -l order -d 'the Knuth-Bendix order or the lexicographic path order' -x -a 'kbo lpo'
 complete -c uc -n '__fish_seen_subcommand_from prove decide order rewrite pairs' -l precedence -d 'symbols, least first; those not named stand below, by number of arguments and first occurrence' -x
 complete -c uc -n '__fish_seen_subcommand_from prove decide order rewrite pairs' -l weights -d 'weights of symbols under kbo; a symbol not named weighs --w0' -x
 complete -c uc -n '__fish_seen_subcommand_from prove decide order rewrite pairs' -l w0 -d 'weight of a variable under kbo' -x
-complete -c uc -n '__fish_seen_subcommand_from prove decide' -l budget -d 'units of work: pairs joined, goals taken further, equations kept by an audit' -x
+complete -c uc -n '__fish_seen_subcommand_from prove decide model' -l budget -d 'units of work: pairs joined, goals taken further, equations kept by an audit; of model, prefixes visited' -x
 complete -c uc -n '__fish_seen_subcommand_from prove decide' -l pairs -d 'pairs that may wait' -x
 complete -c uc -n '__fish_seen_subcommand_from prove decide' -l workers -d 'workers that search; more than one is answered by the usage line so far' -x
 complete -c uc -n '__fish_seen_subcommand_from decide' -l steps -d 'rewrite steps that one question may take' -x
 complete -c uc -n '__fish_seen_subcommand_from rewrite' -l limit -d 'rewrite steps' -x
+complete -c uc -n '__fish_seen_subcommand_from model' -l size -d 'greatest size of a table' -x
 complete -c uc -n '__fish_seen_subcommand_from prove' -l trace -d 'prints the history of the search after the answer'
