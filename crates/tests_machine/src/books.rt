@@ -8,15 +8,13 @@ ghost use Rattle.uc_book.specs.Answers.{IsSameBook};
 
 use crate::alphabet::Sides;
 use crate::books::settings::{Setting, begin, set_up};
-use crate::books::turns::{
-    commit, end, gets_task, is_put_back, meet, next_done, takes_new_alone, turns,
-};
+use crate::books::turns::{commit, gets_task, is_put_back, next_done, takes_new_alone, turns};
 use std::alloc::{AllocError, Global};
 use std::sync::Wait;
 use std::test::Fail;
 use uc_book::{Book, CommitFault, Drawn, Pass};
 use uc_kbo::Kbo;
-use uc_machine::{Ending, Event, GoalEnd, Happening, Job, Stage, Verdict};
+use uc_machine::{Ending, Event, GoalEnd, Happening, Job, Verdict};
 use uc_order::Order;
 use uc_problem::Encoded;
 use uc_shelf::Shelf;
@@ -26,9 +24,6 @@ const SHORT: Sides = (b"af", b"b");
 
 // f(f(b)) = a
 const LONG: Sides = (b"bff", b"a");
-
-// f(b) = f(a)
-const EVEN: Sides = (b"bf", b"af");
 
 // b = a
 const CONSTANTS: Sides = (b"b", b"a");
@@ -47,133 +42,6 @@ fn goal_rests(goal: u32) -> Happening {
         steps: 0,
         end: GoalEnd::Full,
     }
-}
-
-// The events by which the goal is proved.
-fn proving() -> [Event; 7] {
-    let met = Happening::CommitGoal {
-        goal: 0,
-        steps: 1,
-        end: GoalEnd::Met,
-    };
-    [
-        by(0, Happening::DrawGoal { goal: 0, front: 0 }),
-        by(0, goal_rests(0)),
-        by(0, Happening::DrawJoin { pair: 0, front: 0 }),
-        by(0, Happening::CommitKept { pair: 0, fact: 0 }),
-        by(0, Happening::DrawGoal { goal: 0, front: 1 }),
-        by(0, met),
-        by(0, Happening::Close(Ending::Proved)),
-    ]
-}
-
-// Whether the first goal is at rest, and no other is there.
-fn rests(alloc: Global, book: &Book<Kbo>) -> Result<bool, AllocError> {
-    let stages = book.stages(alloc)?;
-    Ok(stages.as_slice() == [Stage::Settled].as_slice())
-}
-
-// Whether the goal rests after one turn, and is proved after two more.
-fn is_proved<R: Wait>(
-    rt: &R,
-    alloc: Global,
-    at: &Setting,
-    book: &mut Book<Kbo>,
-    pass: &mut Pass,
-) -> Result<bool, Fail>
-    requires problem { book.old.opening.problem ≡ at.now.problem }
-    requires order { book.old.order ≡ at.now.order }
-    requires shelf { book.old.opening.shelf ≡ at.now.shelf }
-    requires pass { pass.old.opening ≡ book.old.opening }
-{
-    turns(rt, alloc, &at.problem, &at.order, &at.shelf, book, pass, 1)?;
-    let rests = rests(alloc, book)?;
-    turns(rt, alloc, &at.problem, &at.order, &at.shelf, book, pass, 2)?;
-    Ok(rests && meet(book, &at.problem, (1, 0)) && pass.commits() == 3)
-}
-
-// Over f(a) = b the ends of the goal f(f(a)) = f(b) meet by one step on the left: it rests at first, and is due again when the
-// axiom is kept.
-#[test]
-fn a_goal_is_proved(rt: HostRuntime) -> Result<(), Fail> {
-    let alloc = rt.alloc();
-    let at = set_up(alloc, &[SHORT], &[(b"aff", b"bf")])?;
-    let (mut book, mut pass) = begin(alloc, &at, 9, 9, 0)?;
-    assert!(rt; is_proved(&rt, alloc, &at, &mut book, &mut pass)?);
-    assert!(rt; book.verdict() == Some(&Verdict::Proved(0)));
-    assert!(rt; book.counted() == 1 && book.front().len() == 1);
-    assert!(rt; book.history() == proving().as_slice());
-    Ok(())
-}
-
-// The events by which the first fact dies and comes back.
-fn killing() -> [Event; 13] {
-    [
-        by(3, Happening::DrawJoin { pair: 0, front: 0 }),
-        by(3, Happening::CommitKept { pair: 0, fact: 0 }),
-        by(3, Happening::DrawMeet { fact: 0, front: 1 }),
-        by(
-            3,
-            Happening::CommitMeet {
-                fact: 0,
-                pairs: 0,
-                kills: 0,
-            },
-        ),
-        by(3, Happening::DrawJoin { pair: 1, front: 1 }),
-        by(3, Happening::CommitKept { pair: 1, fact: 1 }),
-        by(3, Happening::DrawMeet { fact: 1, front: 2 }),
-        by(
-            3,
-            Happening::CommitMeet {
-                fact: 1,
-                pairs: 0,
-                kills: 1,
-            },
-        ),
-        by(3, Happening::DrawJoin { pair: 2, front: 3 }),
-        by(3, Happening::CommitKept { pair: 2, fact: 2 }),
-        by(3, Happening::DrawMeet { fact: 2, front: 4 }),
-        by(
-            3,
-            Happening::CommitMeet {
-                fact: 2,
-                pairs: 0,
-                kills: 0,
-            },
-        ),
-        by(0, Happening::Close(Ending::Saturated)),
-    ]
-}
-
-// Whether the book is saturated after six turns.
-fn is_saturated<R: Wait>(
-    rt: &R,
-    alloc: Global,
-    at: &Setting,
-    book: &mut Book<Kbo>,
-    pass: &mut Pass,
-) -> Result<bool, Fail>
-    requires problem { book.old.opening.problem ≡ at.now.problem }
-    requires order { book.old.order ≡ at.now.order }
-    requires shelf { book.old.opening.shelf ≡ at.now.shelf }
-    requires pass { pass.old.opening ≡ book.old.opening }
-{
-    turns(rt, alloc, &at.problem, &at.order, &at.shelf, book, pass, 6)?;
-    let verdict = end(alloc, &at.order, &at.shelf, book, pass)?;
-    Ok(verdict == Verdict::Saturated && pass.worker() == 3)
-}
-
-// The fact f(b) = f(a) kills f(f(b)) = a, whose overlap with it is an orphan, and which comes back as f(f(a)) = a: pair 2.
-#[test]
-fn a_killed_fact_comes_back(rt: HostRuntime) -> Result<(), Fail> {
-    let alloc = rt.alloc();
-    let at = set_up(alloc, &[LONG, EVEN], &[])?;
-    let (mut book, mut pass) = begin(alloc, &at, 9, 9, 3)?;
-    assert!(rt; is_saturated(&rt, alloc, &at, &mut book, &mut pass)?);
-    assert!(rt; book.counted() == 3 && book.front().len() == 4);
-    assert!(rt; book.history() == killing().as_slice());
-    Ok(())
 }
 
 // The events of a goal that is drawn twice.

@@ -1,13 +1,11 @@
 //! Tests of the public calls of the machine's crates: the ledger, the queue, the shelf, rows, tasks, the final pass, the book
-//! and the extraction of proofs.
+//! and searches by several workers.
 #![tactic(auto)]
 
 #[cfg(test)]
 mod alphabet;
 #[cfg(test)]
 mod books;
-#[cfg(test)]
-mod extraction;
 #[cfg(test)]
 mod fronts;
 #[cfg(test)]

@@ -78,21 +78,33 @@ fn finish(pairs: &mut Pairs, number: u64) -> Result<(), Fail> {
     }
 }
 
-// The lightest pair is drawn, waits again, is drawn again and is Done; then the other one is dropped.
+// Whether the pair of this axiom has this weight and state, and so many pairs wait.
+fn stands(pairs: &Pairs, axiom: u32, weight: u32, state: State, waiting: usize) -> bool {
+    pairs.row(u64::from(axiom)) == Some((Origin::Axiom(axiom), weight, state))
+        && pairs.waiting() == waiting
+}
+
+// The lightest pair is drawn, waits again, is drawn again and is Done.
 #[test]
 fn pairs_are_drawn(rt: HostRuntime) -> Result<(), Fail> {
     let mut pairs = three_pairs(rt.alloc())?;
-    assert!(rt; pairs.count() == 3 && pairs.waiting() == 2);
+    assert!(rt; pairs.count() == 3 && stands(&pairs, 1, 3, State::Waiting, 2));
     let first = hand_out(&mut pairs)?;
-    assert!(rt; first == 1 && pairs.waiting() == 1);
-    assert!(rt; pairs.row(1) == Some((Origin::Axiom(1), 3, State::Out(7))));
+    assert!(rt; first == 1 && stands(&pairs, 1, 3, State::Out(7), 1));
     give_back(&mut pairs, first)?;
-    assert!(rt; pairs.row(1) == Some((Origin::Axiom(1), 3, State::Waiting)));
+    assert!(rt; stands(&pairs, 1, 3, State::Waiting, 2));
     let again = hand_out(&mut pairs)?;
     finish(&mut pairs, again)?;
-    assert!(rt; pairs.row(1) == Some((Origin::Axiom(1), 3, State::Done)));
-    assert!(rt; drop_head(&mut pairs)? == 0 && pairs.waiting() == 0);
-    assert!(rt; pairs.row(0) == Some((Origin::Axiom(0), 5, State::Orphan)));
+    assert!(rt; stands(&pairs, 1, 3, State::Done, 1));
+    Ok(())
+}
+
+// Both pairs that wait are dropped, the lighter one first.
+#[test]
+fn pairs_are_dropped(rt: HostRuntime) -> Result<(), Fail> {
+    let mut pairs = three_pairs(rt.alloc())?;
+    assert!(rt; drop_head(&mut pairs)? == 1 && stands(&pairs, 1, 3, State::Orphan, 1));
+    assert!(rt; drop_head(&mut pairs)? == 0 && stands(&pairs, 0, 5, State::Orphan, 0));
     assert!(rt; pairs.head().is_none() && pairs.row(3).is_none());
     Ok(())
 }

@@ -1,15 +1,11 @@
-//! Tests of the public calls of terms, the outside, clauses, problems, proofs and their checker, systems, words and the choice of
-//! an order. The crate stands above those, so that each of them is proved once.
+//! Tests of the public calls of terms, the outside, clauses, problems, proofs, systems, words and the choice of an order. The
+//! crate stands above those, so that each of them is proved once.
 #![tactic(auto)]
 
-#[cfg(test)]
-mod checking;
 #[cfg(test)]
 mod edge;
 #[cfg(test)]
 mod orders;
-#[cfg(test)]
-mod printed_proofs;
 #[cfg(test)]
 mod problems;
 #[cfg(test)]

@@ -83,12 +83,13 @@ fn parents_of(source: &LineSource) -> (usize, Option<u32>) {
 #[test]
 fn lines_of_a_proof(rt: HostRuntime) -> Result<(), Fail> {
     let lines = lines_of(rt.alloc())?;
-    let lines = lines.as_slice();
-    assert_eq!(rt; lines.len(), 4);
-    assert_eq!(rt; step_at(&lines[2].source, 0), Some((0, true, 2)));
-    assert_eq!(rt; step_at(&lines[2].source, 1), Some((1, false, 0)));
-    assert_eq!(rt; parents_of(&lines[2].source), (2, Some(1)));
-    assert_eq!(rt; parents_of(&lines[3].source), (2, Some(2)));
+    let [_, _, chain, refutation] = lines.as_slice() else {
+        return Err(Fail::from("not four lines"));
+    };
+    let steps = [step_at(&chain.source, 0), step_at(&chain.source, 1)];
+    assert!(rt; steps == [Some((0, true, 2)), Some((1, false, 0))]);
+    let parents = [parents_of(&chain.source), parents_of(&refutation.source)];
+    assert!(rt; parents == [(2, Some(1)), (2, Some(2))]);
     Ok(())
 }
 
@@ -101,14 +102,13 @@ fn last_node(term: &Term) -> Option<Node> {
 #[test]
 fn sides_of_lines(rt: HostRuntime) -> Result<(), Fail> {
     let lines = lines_of(rt.alloc())?;
-    let lines = lines.as_slice();
-    assert_eq!(rt; lines.len(), 4);
-    assert_eq!(rt; lines[0].positive, true);
-    assert_eq!(rt; lines[1].positive, false);
-    assert_eq!(rt; last_node(&lines[2].left), Some(Node::Var(0)));
-    assert_eq!(rt; lines[3].positive, true);
-    assert_eq!(rt; last_node(&lines[3].left), Some(Node::Var(0)));
-    assert_eq!(rt; last_node(&lines[3].right), Some(Node::Var(0)));
+    let [axiom, goal, chain, refutation] = lines.as_slice() else {
+        return Err(Fail::from("not four lines"));
+    };
+    assert!(rt; axiom.positive && !goal.positive && refutation.positive);
+    for term in [&chain.left, &refutation.left, &refutation.right] {
+        assert_eq!(rt; last_node(term), Some(Node::Var(0)));
+    }
     Ok(())
 }
 
@@ -133,59 +133,60 @@ fn frames(rt: HostRuntime) -> Result<(), Fail> {
     Ok(())
 }
 
-// Each refusal of lines, with its place in the whole text.
+// Lines, and why they aren't read, with the place in the whole text.
+const REFUSED: &[(&[u8], Option<ProofFault>)] = &[
+    (b"", None),
+    (b"cnf(p, axiom, a = b, file(f, x)).\n", None),
+    (
+        b"cnf(\"\n",
+        Some(ProofFault::Syntax(Place { line: 3, column: 5 })),
+    ),
+    (
+        b"cnf(p, axiom, a = b, file(f, x))\n",
+        Some(ProofFault::Syntax(Place { line: 4, column: 1 })),
+    ),
+    (
+        b"cnf(p, axiom, a = b, inference(refute, [], [])).\n",
+        Some(ProofFault::Syntax(Place {
+            line: 3,
+            column: 15,
+        })),
+    ),
+    (
+        b"cnf(p, axiom, a = b, inference(chains, [a], [])).\n",
+        Some(ProofFault::UnknownRule(Place {
+            line: 3,
+            column: 32,
+        })),
+    ),
+    (
+        b"cnf(p, plain, a = a, inference(chain, [a, step(q, lr, [], a)], [p, r])).\n",
+        Some(ProofFault::UnknownName(Place {
+            line: 3,
+            column: 48,
+        })),
+    ),
+    (
+        b"cnf(p, plain, a = a, inference(chain, [a], [p, q])).\ncnf(p, axiom, a = b, file(f, x)).\n",
+        Some(ProofFault::RepeatedName(Place { line: 4, column: 5 })),
+    ),
+    (
+        b"cnf(p, plain, a = a, inference(chain, [a], [q])).\ncnf(q, plain, a = a, inference(chain, [a], [p])).\n",
+        None,
+    ),
+    (
+        b"cnf(p, plain, $false, inference(refute, [], [p, Q])).\n",
+        Some(ProofFault::Syntax(Place {
+            line: 3,
+            column: 49,
+        })),
+    ),
+];
+
 #[test]
 fn lines_refused(rt: HostRuntime) -> Result<(), Fail> {
-    let rows: [(&[u8], Option<ProofFault>); 10] = [
-        (b"", None),
-        (b"cnf(p, axiom, a = b, file(f, x)).\n", None),
-        (
-            b"cnf(\"\n",
-            Some(ProofFault::Syntax(Place { line: 3, column: 5 })),
-        ),
-        (
-            b"cnf(p, axiom, a = b, file(f, x))\n",
-            Some(ProofFault::Syntax(Place { line: 4, column: 1 })),
-        ),
-        (
-            b"cnf(p, axiom, a = b, inference(refute, [], [])).\n",
-            Some(ProofFault::Syntax(Place {
-                line: 3,
-                column: 15,
-            })),
-        ),
-        (
-            b"cnf(p, axiom, a = b, inference(chains, [a], [])).\n",
-            Some(ProofFault::UnknownRule(Place {
-                line: 3,
-                column: 32,
-            })),
-        ),
-        (
-            b"cnf(p, plain, a = a, inference(chain, [a, step(q, lr, [], a)], [p, r])).\n",
-            Some(ProofFault::UnknownName(Place {
-                line: 3,
-                column: 48,
-            })),
-        ),
-        (
-            b"cnf(p, plain, a = a, inference(chain, [a], [p, q])).\ncnf(p, axiom, a = b, file(f, x)).\n",
-            Some(ProofFault::RepeatedName(Place { line: 4, column: 5 })),
-        ),
-        (
-            b"cnf(p, plain, a = a, inference(chain, [a], [q])).\ncnf(q, plain, a = a, inference(chain, [a], [p])).\n",
-            None,
-        ),
-        (
-            b"cnf(p, plain, $false, inference(refute, [], [p, Q])).\n",
-            Some(ProofFault::Syntax(Place {
-                line: 3,
-                column: 49,
-            })),
-        ),
-    ];
-    for (lines, wanted) in &rows {
-        assert_eq!(rt; fault_in(rt.alloc(), *lines)?, *wanted);
+    for (lines, wanted) in REFUSED {
+        assert_eq!(rt; fault_in(rt.alloc(), lines)?, *wanted);
     }
     Ok(())
 }
@@ -235,26 +236,38 @@ fn fault_alone(alloc: Global, lines: &[u8]) -> Result<Option<ProofFault>, AllocE
 }
 
 // Lines without a frame; the end of the text counts as a last token.
-#[test]
-fn lines_alone(rt: HostRuntime) -> Result<(), Fail> {
-    let alloc = rt.alloc();
-    assert_eq!(rt; fault_alone(alloc, b"")?, None);
-    assert_eq!(rt; fault_alone(alloc, LINES)?, None);
-    assert_eq!(rt;
-        fault_alone(alloc, b"cnf(p, axiom, a = b, file(f, x))\n")?,
-        Some(ProofFault::Syntax(Place { line: 2, column: 1 }))
-    );
-    assert_eq!(rt;
-        fault_alone(alloc, b"\ncnf(\"\n")?,
-        Some(ProofFault::Syntax(Place { line: 2, column: 5 }))
-    );
-    assert_eq!(rt;
-        fault_alone(alloc, b"cnf(p, plain, $false, inference(refute, [], [q])).")?,
+const ALONE: &[(&[u8], Option<ProofFault>)] = &[
+    (b"", None),
+    (LINES, None),
+    (
+        b"cnf(p, axiom, a = b, file(f, x))\n",
+        Some(ProofFault::Syntax(Place { line: 2, column: 1 })),
+    ),
+    (
+        b"\ncnf(\"\n",
+        Some(ProofFault::Syntax(Place { line: 2, column: 5 })),
+    ),
+    (
+        b"cnf(p, plain, $false, inference(refute, [], [q])).",
         Some(ProofFault::UnknownName(Place {
             line: 1,
-            column: 46
-        }))
-    );
+            column: 46,
+        })),
+    ),
+    (
+        b"cnf(r,plain,$false , inference ( goal",
+        Some(ProofFault::UnknownRule(Place {
+            line: 1,
+            column: 34,
+        })),
+    ),
+];
+
+#[test]
+fn lines_alone(rt: HostRuntime) -> Result<(), Fail> {
+    for (lines, wanted) in ALONE {
+        assert_eq!(rt; fault_alone(rt.alloc(), lines)?, *wanted);
+    }
     Ok(())
 }
 
@@ -308,12 +321,5 @@ fn sources_refused(rt: HostRuntime) -> Result<(), Fail> {
             "{said}"
         );
     }
-    assert_eq!(rt;
-        fault_alone(alloc, b"cnf(r,plain,$false , inference ( goal")?,
-        Some(ProofFault::UnknownRule(Place {
-            line: 1,
-            column: 34
-        }))
-    );
     Ok(())
 }

@@ -100,20 +100,56 @@ fn fault_with(
     Ok(None)
 }
 
-fn syntax(line: u32) -> Option<SystemFault> {
-    Some(SystemFault::Syntax(Place { line, column: 1 }))
-}
+// Syntax at the first byte of a line, by its number.
+const FIRST: Option<SystemFault> = Some(SystemFault::Syntax(Place { line: 1, column: 1 }));
 
-fn limit(line: u32, column: u32) -> Option<SystemFault> {
-    Some(SystemFault::Limit(Place { line, column }))
-}
+const SECOND: Option<SystemFault> = Some(SystemFault::Syntax(Place { line: 2, column: 1 }));
 
-fn version() -> Option<SystemFault> {
-    Some(SystemFault::Version(Place {
-        line: 1,
-        column: 10,
-    }))
-}
+const THIRD: Option<SystemFault> = Some(SystemFault::Syntax(Place { line: 3, column: 1 }));
+
+const FOURTH: Option<SystemFault> = Some(SystemFault::Syntax(Place { line: 4, column: 1 }));
+
+const FIFTH: Option<SystemFault> = Some(SystemFault::Syntax(Place { line: 5, column: 1 }));
+
+const SIXTH: Option<SystemFault> = Some(SystemFault::Syntax(Place { line: 6, column: 1 }));
+
+const SEVENTH: Option<SystemFault> = Some(SystemFault::Syntax(Place { line: 7, column: 1 }));
+
+// The number of the version.
+const VERSION: Option<SystemFault> = Some(SystemFault::Version(Place {
+    line: 1,
+    column: 10,
+}));
+
+// The arity of a symbol, whose name has one byte or five.
+const ARITY: Option<SystemFault> = Some(SystemFault::Limit(Place {
+    line: 4,
+    column: 12,
+}));
+
+const LONG_ARITY: Option<SystemFault> = Some(SystemFault::Limit(Place {
+    line: 4,
+    column: 16,
+}));
+
+// The sides of a fact.
+const LEFT: Option<SystemFault> = Some(SystemFault::Limit(Place {
+    line: 5,
+    column: 16,
+}));
+
+const RIGHT: Option<SystemFault> = Some(SystemFault::Limit(Place {
+    line: 5,
+    column: 24,
+}));
+
+// A text, a piece that stands in it once, what comes of each piece in its place, and these.
+type Rows = (
+    &'static [u8],
+    &'static [u8],
+    Option<SystemFault>,
+    &'static [&'static [u8]],
+);
 
 // Each of the texts is printed as it was read.
 #[test]
@@ -138,235 +174,231 @@ fn said(rt: HostRuntime) -> Result<(), Fail> {
     let alloc = rt.alloc();
     let mut symbols = Symbols::new(alloc);
     let text = read_system(alloc, ROW, &mut symbols)?;
-    assert_eq!(rt; text.system.facts.len(), 1);
-    assert_eq!(rt; variable_weight(&text.spec), 1);
+    assert!(rt; text.system.facts.len() == 1 && variable_weight(&text.spec) == 1);
     Ok(())
 }
 
 // First lines.
-#[test]
-fn first_lines(rt: HostRuntime) -> Result<(), Fail> {
-    let alloc = rt.alloc();
-    for new in [
-        b"% system 9".as_slice(),
-        b"% system 0",
-        b"% system 007",
-        b"% system 4294967298",
-    ] {
-        assert_eq!(rt; fault_with(alloc, ROW, b"% system 1", new)?, version());
-    }
-    for new in [
-        b"% system 01".as_slice(),
-        b"% system 02",
-        b"% system 2",
-        b"% system ",
-        b"% system 1 ",
-        b"% system +3",
-        b"",
-    ] {
-        assert_eq!(rt; fault_with(alloc, ROW, b"% system 1", new)?, syntax(1));
-    }
-    assert_eq!(rt; fault_of(alloc, b"")?, syntax(1));
-    assert_eq!(rt; fault_of(alloc, b"% system 9")?, syntax(1));
-    assert_eq!(rt; fault_of(alloc, b"% system 1\n")?, syntax(2));
-    assert_eq!(rt;
-        fault_with(alloc, LIGHT, b"% system 2", b"% system 1")?,
-        syntax(1)
-    );
-    assert_eq!(rt;
-        fault_with(alloc, PATHS, b"% system 1", b"% system 2")?,
-        syntax(1)
-    );
-    Ok(())
-}
+const FIRST_LINES: &[Rows] = &[
+    (
+        ROW,
+        b"% system 1",
+        VERSION,
+        &[
+            b"% system 9",
+            b"% system 0",
+            b"% system 007",
+            b"% system 4294967298",
+        ],
+    ),
+    (
+        ROW,
+        b"% system 1",
+        FIRST,
+        &[
+            b"% system 01",
+            b"% system 02",
+            b"% system 2",
+            b"% system ",
+            b"% system 1 ",
+            b"% system +3",
+            b"",
+        ],
+    ),
+    (LIGHT, b"% system 2", FIRST, &[b"% system 1"]),
+    (PATHS, b"% system 1", FIRST, &[b"% system 2"]),
+];
 
 // Lines of the order.
-#[test]
-fn orders(rt: HostRuntime) -> Result<(), Fail> {
-    let alloc = rt.alloc();
-    for new in [
-        b"% order kbo 0".as_slice(),
-        b"% order kbo 01",
-        b"% order kbo 1000001",
-        b"% order kbo 4294967297",
-        b"% order kbo",
-        b"% order lpo 1",
-        b"% order rpo",
-    ] {
-        assert_eq!(rt; fault_with(alloc, ROW, b"% order kbo 1", new)?, syntax(2));
-    }
-    assert_eq!(rt;
-        fault_with(alloc, ROW, b"% order kbo 1", b"% order kbo 2")?,
-        syntax(3)
-    );
-    assert_eq!(rt;
-        fault_with(alloc, ROW, b"% order kbo 1", b"% order lpo")?,
-        syntax(3)
-    );
-    assert_eq!(rt;
-        fault_with(alloc, PATHS, b"% order lpo", b"% order kbo 1")?,
-        syntax(3)
-    );
-    Ok(())
-}
+const ORDERS: &[Rows] = &[
+    (
+        ROW,
+        b"% order kbo 1",
+        SECOND,
+        &[
+            b"% order kbo 0",
+            b"% order kbo 01",
+            b"% order kbo 1000001",
+            b"% order kbo 4294967297",
+            b"% order kbo",
+            b"% order lpo 1",
+            b"% order rpo",
+        ],
+    ),
+    (
+        ROW,
+        b"% order kbo 1",
+        THIRD,
+        &[b"% order kbo 2", b"% order lpo"],
+    ),
+    (PATHS, b"% order lpo", THIRD, &[b"% order kbo 1"]),
+];
 
 // Lines of symbols.
-#[test]
-fn symbol_lines(rt: HostRuntime) -> Result<(), Fail> {
-    let alloc = rt.alloc();
-    for new in [
-        b"% symbol f 1".as_slice(),
-        b"% symbol f 1 1 1",
-        b"% symbol f  1 1",
-        b"% symbol f 01 1",
-        b"% symbol f 1 1000001",
-        b"% symbol f 1 4294967297",
-        b"% symbol 'f' 1 1",
-        b"% symbol F 1 1",
-        b"% symbol 'F 1 1",
-        b"% symbol least 0 1",
-        b"% symbol f 256 x",
-        b"% symbol f 2 0",
-        b"% symbol ",
-    ] {
-        assert_eq!(rt; fault_with(alloc, ROW, b"% symbol f 1 1", new)?, syntax(4));
-    }
-    for new in [
-        b"% symbol f 256 1".as_slice(),
-        b"% symbol f 99999999999 9999999",
-    ] {
-        assert_eq!(rt;
-            fault_with(alloc, ROW, b"% symbol f 1 1", new)?,
-            limit(4, 12)
-        );
-    }
-    assert_eq!(rt;
-        fault_with(alloc, ROW, b"% symbol f 1 1", b"% symbol 'F F' 256 1")?,
-        limit(4, 16)
-    );
-    assert_eq!(rt;
-        fault_with(
-            alloc,
-            ROW,
-            b"% symbol f 1 1",
-            b"% symbol f 0 1\n% symbol f 1 1"
-        )?,
-        None
-    );
-    assert_eq!(rt;
-        fault_with(alloc, ROW, b"% symbol f 1 1", b"% symbol g 1 1")?,
-        syntax(5)
-    );
-    Ok(())
-}
+const SYMBOL_LINES: &[Rows] = &[
+    (
+        ROW,
+        b"% symbol f 1 1",
+        FOURTH,
+        &[
+            b"% symbol f 1",
+            b"% symbol f 1 1 1",
+            b"% symbol f  1 1",
+            b"% symbol f 01 1",
+            b"% symbol f 1 1000001",
+            b"% symbol f 1 4294967297",
+            b"% symbol 'f' 1 1",
+            b"% symbol F 1 1",
+            b"% symbol 'F 1 1",
+            b"% symbol least 0 1",
+            b"% symbol f 256 x",
+            b"% symbol f 2 0",
+            b"% symbol ",
+        ],
+    ),
+    (
+        ROW,
+        b"% symbol f 1 1",
+        ARITY,
+        &[b"% symbol f 256 1", b"% symbol f 99999999999 9999999"],
+    ),
+    (
+        ROW,
+        b"% symbol f 1 1",
+        LONG_ARITY,
+        &[b"% symbol 'F F' 256 1"],
+    ),
+    (
+        ROW,
+        b"% symbol f 1 1",
+        None,
+        &[b"% symbol f 0 1\n% symbol f 1 1"],
+    ),
+    (ROW, b"% symbol f 1 1", FIFTH, &[b"% symbol g 1 1"]),
+];
 
 // Symbols of weight 0, and what is wrong with all symbols.
+const WEIGHTS: &[Rows] = &[
+    (
+        LIGHT,
+        b"% symbol i 1 0",
+        FOURTH,
+        &[
+            b"% symbol i 1 0\n% symbol g 1 1",
+            b"% symbol i 1 0\n% symbol g 256 1",
+            b"% symbol i 1 0\n% symbol i 1 0",
+            b"% symbol i 2 0",
+        ],
+    ),
+    (
+        LIGHT,
+        b"% symbol i 1 0",
+        FIFTH,
+        &[
+            b"% symbol i 1 0\n% symbol ",
+            b"% symbol i 1 0\n% symbol g 1 01",
+            b"% symbol i 1 0\n% symbol g 1",
+            b"% symbol i 1 0\n",
+            b"% symbol i 1 1\n% symbol ",
+        ],
+    ),
+    (ROW, b"% symbol f 1 1", FIRST, &[b"% symbol f 1 0"]),
+    (LIGHT, b"% symbol i 1 0", FIRST, &[b"% symbol i 1 1"]),
+    (
+        LIGHT,
+        b"% symbol least 0 1",
+        THIRD,
+        &[b"% symbol least 0 0"],
+    ),
+    (LIGHT, b"% symbol least 0 1\n", FOURTH, &[b""]),
+    (NO_FACTS, b"% symbol least 0 1\n", THIRD, &[b""]),
+];
+
+// Lines of facts.
+const FACTS: &[Rows] = &[
+    (
+        ROW,
+        b"cnf(s1, plain, f(X1) = X1).",
+        FIFTH,
+        &[
+            b"cnf(s1, plain, f(X2) = X1).",
+            b"cnf(s1, plain, f(X) = X).",
+            b"cnf(s1, plain, f( X1) = X1).",
+            b"cnf(s1, plain, f(X1) != X1).",
+            b"cnf(s1, plain, f(X1)).",
+            b"cnf(s1, plain, f(X1) = g).",
+            b"cnf(s1, plain, f(X1,X1) = X1).",
+            b"cnf(s1, plain, f(X1) = X1). ",
+            b"cnf(s2, plain, f(X1) = X1).",
+            b"cnf(s1, axiom, f(X1) = X1).",
+            b"",
+            b"% end ",
+        ],
+    ),
+    (
+        ROW,
+        b"cnf(s1, plain, f(X1) = X1).",
+        None,
+        &[
+            b"cnf(s1, plain, f(X1) = X2).",
+            b"cnf(s1, plain, X1 = f(X1)).",
+            b"cnf(s1, plain, f(X1) = X1).\ncnf(s2, plain, least = f(least)).",
+        ],
+    ),
+];
+
+// The last line, and what stands behind it.
+const ENDS: &[Rows] = &[
+    (
+        ROW,
+        b"% end\n",
+        SIXTH,
+        &[b"% end", b"", b"cnf(s3, plain, least = least).\n"],
+    ),
+    (
+        ROW,
+        b"% end\n",
+        SEVENTH,
+        &[b"% end\n\n", b"% end\nx", b"% end\n% end\n"],
+    ),
+];
+
+// One row a text with a piece in the place of another.
 #[test]
-fn weights(rt: HostRuntime) -> Result<(), Fail> {
-    let alloc = rt.alloc();
-    for new in [
-        b"% symbol i 1 0\n% symbol g 1 1".as_slice(),
-        b"% symbol i 1 0\n% symbol g 256 1",
-        b"% symbol i 1 0\n% symbol i 1 0",
-        b"% symbol i 2 0",
-    ] {
-        assert_eq!(rt;
-            fault_with(alloc, LIGHT, b"% symbol i 1 0", new)?,
-            syntax(4)
-        );
+fn changed(rt: HostRuntime) -> Result<(), Fail> {
+    for tables in [FIRST_LINES, ORDERS, SYMBOL_LINES, WEIGHTS, FACTS, ENDS] {
+        for (text, old, wanted, pieces) in tables {
+            assert_eq!(rt; first_other(rt.alloc(), text, old, *wanted, pieces)?, None);
+        }
     }
-    for new in [
-        b"% symbol i 1 0\n% symbol ".as_slice(),
-        b"% symbol i 1 0\n% symbol g 1 01",
-        b"% symbol i 1 0\n% symbol g 1",
-        b"% symbol i 1 0\n",
-    ] {
-        assert_eq!(rt;
-            fault_with(alloc, LIGHT, b"% symbol i 1 0", new)?,
-            syntax(5)
-        );
-    }
-    assert_eq!(rt;
-        fault_with(alloc, ROW, b"% symbol f 1 1", b"% symbol f 1 0")?,
-        syntax(1)
-    );
-    assert_eq!(rt;
-        fault_with(alloc, LIGHT, b"% symbol i 1 0", b"% symbol i 1 1")?,
-        syntax(1)
-    );
-    assert_eq!(rt;
-        fault_with(
-            alloc,
-            LIGHT,
-            b"% symbol i 1 0",
-            b"% symbol i 1 1\n% symbol "
-        )?,
-        syntax(5)
-    );
-    assert_eq!(rt;
-        fault_with(alloc, LIGHT, b"% symbol least 0 1", b"% symbol least 0 0")?,
-        syntax(3)
-    );
-    assert_eq!(rt;
-        fault_with(alloc, LIGHT, b"% symbol least 0 1\n", b"")?,
-        syntax(4)
-    );
-    assert_eq!(rt;
-        fault_with(alloc, NO_FACTS, b"% symbol least 0 1\n", b"")?,
-        syntax(3)
-    );
     Ok(())
 }
 
-// Lines of facts, and the last line.
-#[test]
-fn facts(rt: HostRuntime) -> Result<(), Fail> {
-    let alloc = rt.alloc();
-    for new in [
-        b"cnf(s1, plain, f(X2) = X1).".as_slice(),
-        b"cnf(s1, plain, f(X) = X).",
-        b"cnf(s1, plain, f( X1) = X1).",
-        b"cnf(s1, plain, f(X1) != X1).",
-        b"cnf(s1, plain, f(X1)).",
-        b"cnf(s1, plain, f(X1) = g).",
-        b"cnf(s1, plain, f(X1,X1) = X1).",
-        b"cnf(s1, plain, f(X1) = X1). ",
-        b"cnf(s2, plain, f(X1) = X1).",
-        b"cnf(s1, axiom, f(X1) = X1).",
-        b"",
-        b"% end ",
-    ] {
-        assert_eq!(rt;
-            fault_with(alloc, ROW, b"cnf(s1, plain, f(X1) = X1).", new)?,
-            syntax(5)
-        );
+// The first of the pieces with which something else comes.
+fn first_other(
+    alloc: Global,
+    text: &[u8],
+    old: &[u8],
+    wanted: Option<SystemFault>,
+    pieces: &[&'static [u8]],
+) -> Result<Option<usize>, AllocError> {
+    for (number, new) in pieces.iter().enumerate() {
+        if fault_with(alloc, text, old, new)? != wanted {
+            return Ok(Some(number));
+        }
     }
-    for new in [
-        b"cnf(s1, plain, f(X1) = X2).".as_slice(),
-        b"cnf(s1, plain, X1 = f(X1)).",
-        b"cnf(s1, plain, f(X1) = X1).\ncnf(s2, plain, least = f(least)).",
-    ] {
-        assert_eq!(rt;
-            fault_with(alloc, ROW, b"cnf(s1, plain, f(X1) = X1).", new)?,
-            None
-        );
-    }
-    Ok(())
+    Ok(None)
 }
 
-// What stands behind the facts.
+// Texts that end too early.
 #[test]
-fn ends(rt: HostRuntime) -> Result<(), Fail> {
-    let alloc = rt.alloc();
-    for new in [
-        b"% end".as_slice(),
-        b"",
-        b"cnf(s3, plain, least = least).\n",
+fn cut_off(rt: HostRuntime) -> Result<(), Fail> {
+    for (text, wanted) in [
+        (b"".as_slice(), FIRST),
+        (b"% system 9", FIRST),
+        (b"% system 1\n", SECOND),
     ] {
-        assert_eq!(rt; fault_with(alloc, ROW, b"% end\n", new)?, syntax(6));
-    }
-    for new in [b"% end\n\n".as_slice(), b"% end\nx", b"% end\n% end\n"] {
-        assert_eq!(rt; fault_with(alloc, ROW, b"% end\n", new)?, syntax(7));
+        assert_eq!(rt; fault_of(rt.alloc(), text)?, wanted);
     }
     Ok(())
 }
@@ -401,24 +433,15 @@ fn fault_between(
 // Terms of 4,096 and of 4,097 nodes.
 #[test]
 fn large_terms(rt: HostRuntime) -> Result<(), Fail> {
-    let alloc = rt.alloc();
-    let most = tower(alloc, 4095)?;
-    let large = tower(alloc, 4096)?;
-    assert_eq!(rt;
-        fault_between(alloc, most.as_bytes(), most.as_bytes())?,
-        None
-    );
-    assert_eq!(rt;
-        fault_between(alloc, large.as_bytes(), b"least")?,
-        limit(5, 16)
-    );
-    assert_eq!(rt;
-        fault_between(alloc, b"least", large.as_bytes())?,
-        limit(5, 24)
-    );
-    assert_eq!(rt;
-        fault_between(alloc, large.as_bytes(), large.as_bytes())?,
-        limit(5, 16)
-    );
+    let most = tower(rt.alloc(), 4095)?;
+    let large = tower(rt.alloc(), 4096)?;
+    for (left, right, wanted) in [
+        (most.as_bytes(), most.as_bytes(), None),
+        (large.as_bytes(), b"least", LEFT),
+        (b"least", large.as_bytes(), RIGHT),
+        (large.as_bytes(), large.as_bytes(), LEFT),
+    ] {
+        assert_eq!(rt; fault_between(rt.alloc(), left, right)?, wanted);
+    }
     Ok(())
 }

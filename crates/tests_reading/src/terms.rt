@@ -44,10 +44,19 @@ fn instances(rt: HostRuntime) -> Result<(), Fail> {
     let term = nested(g)?.apply(g, &for_x(g, constant)?)?;
     let wanted = [Node::App(F, 2), Y, Node::App(F, 2), Node::App(A, 0), Y];
     assert!(rt; term.as_nodes() == wanted.as_slice());
-    // 2^5 leaves of 2^7 - 1 nodes each, with the 2^5 - 1 above them: one less than 2^12, and then nearly twice as many
-    let most = tower(g, 5)?.apply(g, &for_x(g, tower(g, 6)?)?)?;
-    assert_eq!(rt; most.nodes(), 4095);
-    let large = tower(g, 6)?.apply(g, &for_x(g, tower(g, 6)?)?);
+    Ok(())
+}
+
+// A tower of so many levels in the place of each variable of another one.
+fn tower_of_towers(g: Global, outer: usize, inner: usize) -> Result<Term, TermFault> {
+    tower(g, outer)?.apply(g, &for_x(g, tower(g, inner)?)?)
+}
+
+// 2^5 leaves of 2^7 - 1 nodes each, with the 2^5 - 1 above them: one less than 2^12, and then nearly twice as many.
+#[test]
+fn large_instances(rt: HostRuntime) -> Result<(), Fail> {
+    assert!(rt; tower_of_towers(rt.alloc(), 5, 6)?.nodes() == 4095);
+    let large = tower_of_towers(rt.alloc(), 6, 6);
     assert!(rt; matches!(large, Err(TermFault::TooLarge)));
     Ok(())
 }
@@ -55,30 +64,53 @@ fn instances(rt: HostRuntime) -> Result<(), Fail> {
 #[test]
 fn variables(rt: HostRuntime) -> Result<(), Fail> {
     let g = rt.alloc();
-    assert_eq!(rt; nested(g)?.vars(g)?.as_slice(), [9, 0].as_slice());
+    assert!(rt; nested(g)?.vars(g)?.as_slice() == [9, 0].as_slice());
     assert!(rt; Term::app(g, A, &[])?.vars(g)?.is_empty());
     assert!(rt; !nested(g)?.is_ground());
     Ok(())
 }
 
+// Whether the subterm at a place has this written position and these nodes.
+fn is_subterm(
+    g: Global,
+    term: &Term,
+    place: u32,
+    path: &[u32],
+    nodes: &[Node],
+) -> Result<bool, TermFault> {
+    if place >= term.nodes() || term.pos_of(path) != Some(Pos(place)) {
+        return Ok(false);
+    }
+    Ok(term.path(g, Pos(place))?.as_slice() == path && term.at(Pos(place))? == nodes)
+}
+
 // One row a place: the written position, and the nodes of the subterm there.
+const SUBTERMS: &[(u32, &[u32], &[Node])] = &[
+    (1, &[1], &[Y]),
+    (2, &[2], &[Node::App(F, 2), X, Y]),
+    (3, &[2, 1], &[X]),
+    (4, &[2, 2], &[Y]),
+];
+
 #[test]
 fn subterms(rt: HostRuntime) -> Result<(), Fail> {
+    let term = nested(rt.alloc())?;
+    for (place, path, nodes) in SUBTERMS {
+        assert!(rt;
+            is_subterm(rt.alloc(), &term, *place, path, nodes)?,
+            "{place}"
+        );
+    }
+    assert!(rt; term.pos_of(&[3]).is_none());
+    assert!(rt; matches!(term.at(Pos(5)), Err(TermFault::NoSuchPosition)));
+    Ok(())
+}
+
+// X in the place of the second argument.
+#[test]
+fn replaced(rt: HostRuntime) -> Result<(), Fail> {
     let g = rt.alloc();
     let term = nested(g)?;
-    for (place, path, nodes) in [
-        (1, [1].as_slice(), [Y].as_slice()),
-        (2, [2].as_slice(), [Node::App(F, 2), X, Y].as_slice()),
-        (3, [2, 1].as_slice(), [X].as_slice()),
-        (4, [2, 2].as_slice(), [Y].as_slice()),
-    ] {
-        assert_eq!(rt; term.pos_of(path), Some(Pos(place)));
-        assert!(rt; place < term.nodes());
-        assert_eq!(rt; term.path(g, Pos(place))?.as_slice(), path);
-        assert_eq!(rt; term.at(Pos(place))?, nodes);
-    }
-    assert_eq!(rt; term.pos_of(&[3]), None);
-    assert!(rt; matches!(term.at(Pos(5)), Err(TermFault::NoSuchPosition)));
     let placed = term.put(g, Pos(2), &Term::var(g, 0)?)?;
     assert!(rt; placed.as_nodes() == [Node::App(F, 2), Y, X].as_slice());
     assert!(rt; !placed.same(&term) && placed.same(&placed.copy(g)?));

@@ -25,8 +25,8 @@ fn turned(verdict: Cmp) -> Cmp {
     }
 }
 
-// Whether the two terms compare so, and so the other way round.
-fn compare_so<O: Order>(order: &O, s: &Term, t: &Term, want: Cmp) -> bool {
+/// Whether the two terms compare so, and so the other way round.
+pub fn compare_so<O: Order>(order: &O, s: &Term, t: &Term, want: Cmp) -> bool {
     order.compare(s.as_nodes(), t.as_nodes()) == want
         && order.compare(t.as_nodes(), s.as_nodes()) == turned(want)
 }

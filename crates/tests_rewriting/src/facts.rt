@@ -55,10 +55,8 @@ fn copies_a_fact_with_its_chain(rt: HostRuntime) -> Result<(), Fail> {
     let fact = fact(rt.alloc())?;
     let copy = fact.copy(rt.alloc())?;
     assert!(rt; copy.left.same(&fact.left) && copy.right.same(&fact.right));
-    assert!(rt; copy.oriented && copy.origin == Origin::Revived(5));
-    assert_eq!(rt; copy.chain.steps.len(), 2);
-    assert!(rt; are_same(&copy.chain, &fact.chain));
-    assert_eq!(rt; copy.front, 7);
+    assert!(rt; copy.chain.steps.len() == 2 && are_same(&copy.chain, &fact.chain));
+    assert!(rt; copy.oriented && copy.origin == Origin::Revived(5) && copy.front == 7);
     assert!(rt; copy.stops == (Stop::Steps, Stop::Full));
     Ok(())
 }

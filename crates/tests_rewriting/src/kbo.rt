@@ -3,7 +3,7 @@
 ghost use Rattle.std.specs.Prelude.{◌<◌};
 
 use crate::cases::single_classes;
-use crate::comparing::{compared_under, holds, holds_under, verdict};
+use crate::comparing::{compare_so, compared_under, holds, holds_under, verdict};
 use crate::orders::kbo_of;
 use crate::terms::{A, B, E, I, M, pop, push};
 use std::alloc::{AllocError, Global};
@@ -82,9 +82,9 @@ fn compares_by_equal_weights(rt: HostRuntime) -> Result<(), Fail> {
     Ok(())
 }
 
-// The inverse weighs 0 and is the greatest symbol; or variables weigh 2 and two constants are the lightest.
+// The inverse weighs 0 and is the greatest symbol.
 #[test]
-fn compares_by_other_weights(rt: HostRuntime) -> Result<(), Fail> {
+fn compares_by_an_inverse_of_no_weight(rt: HostRuntime) -> Result<(), Fail> {
     let g = rt.alloc();
     let by_inverse = kbo_of(g, INVERSE_LAST, 1, &[1, 1, 1, 1, 0], INVERSE_LAST)?;
     assert!(rt;
@@ -96,9 +96,15 @@ fn compares_by_other_weights(rt: HostRuntime) -> Result<(), Fail> {
     );
     assert!(rt; holds_under(g, &by_inverse, b"X|Y|", b"YiX>XiY?XiX>YiXii?")?);
     assert!(rt; holds_under(g, &by_inverse, b"XY|", b"XiY>XiYi=XiiYi>")?);
+    Ok(())
+}
+
+// Variables weigh 2 and two constants are the lightest.
+#[test]
+fn compares_by_two_light_constants(rt: HostRuntime) -> Result<(), Fail> {
+    let g = rt.alloc();
     let by_constants = kbo_of(g, BY_ARITY, 2, &[3, 2, 2, 1, 5], &[E, B, A, I, M])?;
-    assert!(rt; by_constants.least() == B);
-    assert!(rt; holds(g, &by_constants, b"ab>ea>Xa?eX?aie>")?);
+    assert!(rt; by_constants.least() == B && holds(g, &by_constants, b"ab>ea>Xa?eX?aie>")?);
     Ok(())
 }
 
@@ -120,16 +126,26 @@ fn compares_many_variables(rt: HostRuntime) -> Result<(), Fail> {
     let order = equal_weights(alloc)?;
     let s = product(alloc, 100, u32::MAX)?;
     let less = inverse(alloc, u32::MAX)?;
-    let other = inverse(alloc, 64)?;
     assert!(rt; order.compare(s.as_nodes(), less.as_nodes()) == Cmp::Greater);
     assert!(rt; order.compare(less.as_nodes(), s.as_nodes()) == Cmp::Less);
-    assert!(rt; order.compare(s.as_nodes(), other.as_nodes()) == Cmp::Unknown);
+    assert!(rt; order.compare(s.as_nodes(), inverse(alloc, 64)?.as_nodes()) == Cmp::Unknown);
+    Ok(())
+}
+
+#[test]
+fn compares_many_variables_under_an_order_of_them(rt: HostRuntime) -> Result<(), Fail> {
+    let alloc = rt.alloc();
+    let order = equal_weights(alloc)?;
     let cases = single_classes(alloc, 70)?;
-    let s = product(alloc, 0, 69)?;
+    let greater = product(alloc, 0, 69)?;
     let less = product(alloc, 0, 68)?;
-    assert!(rt; compared_under(&order, &cases, &s, &less) == Some(Cmp::Greater));
-    assert!(rt; compared_under(&order, &cases, &s, &inverse(alloc, 68)?) == Some(Cmp::Greater));
-    assert!(rt; compared_under(&order, &cases, &less, &inverse(alloc, 69)?) == Some(Cmp::Unknown));
+    for (s, t, verdict) in [
+        (&greater, &less, Cmp::Greater),
+        (&greater, &inverse(alloc, 68)?, Cmp::Greater),
+        (&less, &inverse(alloc, 69)?, Cmp::Unknown),
+    ] {
+        assert!(rt; compared_under(&order, &cases, s, t) == Some(verdict));
+    }
     Ok(())
 }
 
@@ -243,15 +259,11 @@ fn compares_far_variables(rt: HostRuntime) -> Result<(), Fail> {
     assert!(rt; holds_within(alloc, &order, &FAR, WITHIN)?);
     let all = comb(alloc, &FAR, false)?;
     for x in FAR {
-        let less = inverse(alloc, x)?;
-        assert!(rt; order.compare(all.as_nodes(), less.as_nodes()) == Cmp::Greater);
-        assert!(rt; order.compare(less.as_nodes(), all.as_nodes()) == Cmp::Less);
-        assert!(rt;
-            order.compare(all.as_nodes(), product(alloc, x, x)?.as_nodes()) == Cmp::Unknown
-        );
+        assert!(rt; compare_so(&order, &all, &inverse(alloc, x)?, Cmp::Greater));
+        assert!(rt; compare_so(&order, &all, &product(alloc, x, x)?, Cmp::Unknown));
     }
     for x in ABSENT {
-        assert!(rt; order.compare(all.as_nodes(), inverse(alloc, x)?.as_nodes()) == Cmp::Unknown);
+        assert!(rt; compare_so(&order, &all, &inverse(alloc, x)?, Cmp::Unknown));
     }
     Ok(())
 }

@@ -124,8 +124,14 @@ fn lists_orders_of_variables(rt: HostRuntime) -> Result<(), Fail> {
         let text = listed(rt.alloc(), vars)?;
         assert!(rt; text.as_slice() == *want);
     }
-    assert_eq!(rt; var_orders(rt.alloc(), &[0, 1, 2, 3])?.len(), 75);
-    assert_eq!(rt; var_orders(rt.alloc(), &[0, 1, 2, 3, 4])?.len(), 541);
+    Ok(())
+}
+
+#[test]
+fn counts_orders_of_variables(rt: HostRuntime) -> Result<(), Fail> {
+    for (vars, count) in [([0, 1, 2, 3].as_slice(), 75), (&[0, 1, 2, 3, 4], 541)] {
+        assert!(rt; var_orders(rt.alloc(), vars)?.len() == count);
+    }
     Ok(())
 }
 
@@ -136,11 +142,9 @@ fn replaces_variables_of_a_class(rt: HostRuntime) -> Result<(), Fail> {
     let cases = read_classes(g, b"Y|ZX|")?;
     let found = represent(g, &cases, &term(g, b"XY7ah")?)?;
     assert!(rt; is_term(g, &found, b"ZY7ah")?);
-    assert_eq!(rt; representative(&cases, 0), 2);
-    assert_eq!(rt; first_of_class(cases.classes(), 1), 1);
-    assert_eq!(rt; class_of(&cases, 1), 0);
-    assert_eq!(rt; class_of(&cases, 0), 1);
-    assert_eq!(rt; class_number(cases.classes(), 7), 2);
+    assert!(rt; representative(&cases, 0) == 2 && first_of_class(cases.classes(), 1) == 1);
+    assert!(rt; class_of(&cases, 1) == 0 && class_of(&cases, 0) == 1);
+    assert!(rt; class_number(cases.classes(), 7) == 2);
     Ok(())
 }
 

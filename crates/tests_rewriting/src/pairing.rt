@@ -10,7 +10,7 @@ use std::test::Fail;
 use uc_fact::Side;
 use uc_lpo::Lpo;
 use uc_pair::{Formation, Formed, Size, overlaps, pair_of};
-use uc_term::{Equation, Sym, Term};
+use uc_term::{Equation, Sym, Term, TermFault};
 
 // Two constants, a binary symbol, two unary ones and one with 24 arguments, the least first.
 const PRECEDENCE: &[Sym] = &[A, B, M, F, G, WIDE];
@@ -134,6 +134,11 @@ fn wide(g: Global, with_pairs: bool) -> Result<Term, Fail> {
     Ok(Term::app(g, WIDE, args.as_slice())?)
 }
 
+fn with_right(g: Global, left: Term, letters: &[u8]) -> Result<Equation, TermFault> {
+    let right = term(g, letters)?;
+    Ok(Equation { left, right })
+}
+
 // Whether all the overlaps are too large.
 fn are_large(g: Global, a: &Equation, b: &Equation, list: &[Formed]) -> Result<bool, Fail>
     requires { All (IsFormedOf a.now b.now) list.now }
@@ -170,16 +175,12 @@ fn large_overlaps(g: Global, a: &Equation, b: &Equation) -> Result<usize, Fail> 
 #[test]
 fn a_unifier_may_be_too_large(rt: HostRuntime) -> Result<(), Fail> {
     let g = rt.alloc();
-    let a = Equation {
-        left: wide(g, true)?,
-        right: term(g, b"a")?,
-    };
-    let b = Equation {
-        left: wide(g, false)?,
-        right: term(g, b"b")?,
-    };
-    assert_eq!(rt; overlaps(g, 1, &a, 2, &b, &order(g)?)?.len(), 0);
-    assert_eq!(rt; large_overlaps(g, &b, &a)?, 1);
+    let (a, b) = (
+        with_right(g, wide(g, true)?, b"a")?,
+        with_right(g, wide(g, false)?, b"b")?,
+    );
+    assert!(rt; overlaps(g, 1, &a, 2, &b, &order(g)?)?.is_empty());
+    assert!(rt; large_overlaps(g, &b, &a)? == 1);
     Ok(())
 }
 
@@ -187,15 +188,12 @@ fn a_unifier_may_be_too_large(rt: HostRuntime) -> Result<(), Fail> {
 #[test]
 fn equal_sides_are_told(rt: HostRuntime) -> Result<(), Fail> {
     let g = rt.alloc();
-    let a = Equation {
-        left: Term::app(g, F, &[Term::var(g, u32::MAX)?])?,
-        right: term(g, b"a")?,
-    };
+    let a = with_right(g, Term::app(g, F, &[Term::var(g, u32::MAX)?])?, b"a")?;
     let b = equation(g, (b"0f", b"a"))?;
     let list = overlaps(g, 1, &a, 0, &b, &order(g)?)?;
-    assert_eq!(rt; list.len(), 1);
-    for formed in list.as_slice() {
-        assert!(rt; formed.size == Size::Same);
-    }
+    let [formed] = list.as_slice() else {
+        return Err(Fail::from("not one overlap"));
+    };
+    assert!(rt; formed.size == Size::Same);
     Ok(())
 }

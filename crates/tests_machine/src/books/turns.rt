@@ -1,18 +1,14 @@
 //! The turns of a worker: a task is drawn and computed, and its result is committed.
 
-ghost use Rattle.std.specs.Prelude.{◌≡◌, IfOk, IfSome, OnOk, IsTrue};
+ghost use Rattle.std.specs.Prelude.{◌≡◌, IfOk, IfSome, OnOk};
 ghost use Rattle.uc_shelf.specs.Fronts.{IsOf};
 ghost use Rattle.uc_task.specs.Jobs.{CanBeDone};
-ghost use Rattle.uc_machine.specs.Finals.{IsFinal};
-ghost use Rattle.uc_machine.specs.Runs.{IsDrained};
-ghost use Rattle.uc_book.specs.Answers.{IsAnEnd, IsRight, IsSameBook};
+ghost use Rattle.uc_book.specs.Answers.{IsRight, IsSameBook};
 
 use std::alloc::{AllocError, Global};
 use std::sync::Wait;
 use std::test::Fail;
 use uc_book::{Book, CommitFault, Done, Drawn, Opened, Pass, Task, copy_job};
-use uc_final::{FinalPasses, final_pass};
-use uc_machine::{Outcome, Verdict};
 use uc_order::Order;
 use uc_problem::Encoded;
 use uc_shelf::Shelf;
@@ -142,96 +138,6 @@ pub fn turns<R: Wait, O: Order>(
         commit(rt, alloc, book, pass, done)?;
     }
     Ok(())
-}
-
-/// Whether the ends of the first goal are equal, with so many steps on the way to the left and to the right one.
-pub fn meet<O: Order>(book: &Book<O>, problem: &Encoded, steps: (usize, usize)) -> bool
-    requires { book.now.opening.problem ≡ problem.now }
-{
-    if problem.goals.len() == 0 {
-        return false;
-    }
-    let (left, right) = book.ends(0);
-    let (left_chain, right_chain) = book.chain(0);
-    left.same(right) && left_chain.steps.len() == steps.0 && right_chain.steps.len() == steps.1
-}
-
-// Whether a draw finds the book drained.
-fn is_drained<O: Order>(
-    alloc: Global,
-    book: &mut Book<O>,
-    pass: &mut Pass,
-) -> Result<bool, AllocError>
-    requires pass { pass.old.opening ≡ book.old.opening }
-    ensures drained { IfOk result (λ is. IsTrue is → IsDrained book.new.state) }
-    ensures book { IsSameBook book.old book.new }
-{
-    match book.draw(alloc, pass) {
-        Ok(Drawn::Drained) => Ok(true),
-        Ok(_) => Ok(false),
-        Err(_) => Err(AllocError),
-    }
-}
-
-// What the final pass over the book answers.
-fn outcome<O: Order>(
-    alloc: Global,
-    order: &O,
-    shelf: &Shelf,
-    book: &Book<O>,
-) -> Result<Outcome, AllocError>
-    requires order { book.now.order ≡ order.now }
-    requires shelf { book.now.opening.shelf ≡ shelf.now }
-    ensures { IfOk result (IsFinal (O.meaning book.now.order) book.now.opening.problem.axioms book.now.state) }
-{
-    let stages = book.stages(alloc)?;
-    let front = book.front();
-    let axioms = book.axioms();
-    let mut passes = FinalPasses::none();
-    let outcome = final_pass(
-        alloc,
-        shelf,
-        front,
-        axioms,
-        stages.as_slice(),
-        order,
-        &mut passes,
-    )?;
-    Ok(outcome)
-}
-
-// Whether nothing is missing.
-fn is_end(outcome: &Outcome) -> bool
-    ensures { IsTrue result → IsAnEnd outcome.now }
-{
-    match outcome {
-        Outcome::Convergent(_) => true,
-        Outcome::Missing(_) => false,
-        Outcome::Large(_) => true,
-        Outcome::GoalUnsettled(_) => true,
-    }
-}
-
-/// Draws from a drained book, and closes it by what its final pass answers.
-pub fn end<O: Order>(
-    alloc: Global,
-    order: &O,
-    shelf: &Shelf,
-    book: &mut Book<O>,
-    pass: &mut Pass,
-) -> Result<Verdict, Fail>
-    requires order { book.old.order ≡ order.now }
-    requires shelf { book.old.opening.shelf ≡ shelf.now }
-    requires pass { pass.old.opening ≡ book.old.opening }
-{
-    if !is_drained(alloc, book, pass)? {
-        return Err(Fail::from("not drained"));
-    }
-    let outcome = outcome(alloc, order, shelf, book)?;
-    if !is_end(&outcome) {
-        return Err(Fail::from("something is missing"));
-    }
-    Ok(book.close(&outcome))
 }
 
 /// Whether a task comes next.
