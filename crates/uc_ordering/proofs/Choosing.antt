@@ -16,7 +16,7 @@ use Rattle.uc_ordering.specs.declared.fault.ChoiceFault.TheVariants.{UnknownSymb
 use Rattle.uc_ordering.specs.Numbers.{number_in, symbol_in, is_bad_in, IsLacking, IsAgain, IsBadAmong}
 use Rattle.uc_ordering.specs.Precedence.{by_arity, is_named, unnamed}
 use Rattle.uc_ordering.specs.Weights.{weight_given, weight_of, is_bad_at, is_bad_for}
-use Rattle.uc_ordering.specs.Choice.{own_symbols, first_again, first_or, first_unknown, first_twice, first_bad, own_precedence, own_weights, heaviest_constant, weighed_names, below_marks, with_behind, spec_of, IsChosen, IsChoiceFault}
+use Rattle.uc_ordering.specs.Choice.{own_symbols, first_again, first_or, first_unknown, first_twice, first_bad, own_precedence, own_weights, heaviest_constant, weighed_names, marks_at, with_behind, spec_of, IsChosen, IsChoiceFault}
 use Rattle.uc_ordering.proofs.Lists.{each_in, in_each}
 use Rattle.uc_ordering.proofs.Signatures.{Signed, found_is}
 use Rattle.uc_ordering.proofs.Named.{find_none-left}
@@ -139,14 +139,14 @@ module _ (table : Table) (signature : Signature) (words : OrderWords) where
       is = e ∙ ap (λ ws. spec_of words.lpo words.w0 ws list) weights_are ∙ ap (spec_of words.lpo words.w0 (own_weights table signature words)) list_is;
     }
 
-    pub marked_chosen : (marks : Fresh) (heavy : ℕ) → heavy ≡ heaviest_constant table signature words → spec ≡ spec_of words.lpo words.w0 (with_behind (below_marks weights) weights (heavy ∷ heavy ∷ words.w0 ∷ [])) (with_behind (below_marks weights) list (marks.yes ∷ marks.no ∷ marks.eq ∷ [])) → IsChosen table signature words (Some marks) spec
+    pub marked_chosen : (marks : Fresh) (heavy : ℕ) → heavy ≡ heaviest_constant table signature words → spec ≡ spec_of words.lpo words.w0 (with_behind (marks_at words.lpo weights) weights (heavy ∷ heavy ∷ words.w0 ∷ [])) (with_behind (marks_at words.lpo weights) list (marks.yes ∷ marks.no ∷ marks.eq ∷ [])) → IsChosen table signature words (Some marks) spec
     marked_chosen marks heavy h e =
         let three : List Sym = marks.yes ∷ marks.no ∷ marks.eq ∷ [] in
         record {
           known = known;
           once = once;
           fit = fit;
-          is = e ∙ ap (λ (n : ℕ). spec_of words.lpo words.w0 (with_behind (below_marks weights) weights (n ∷ n ∷ words.w0 ∷ [])) (with_behind (below_marks weights) list three)) h
-              ∙ ap (λ (ws : List ℕ). spec_of words.lpo words.w0 (with_behind (below_marks ws) ws (heaviest_constant table signature words ∷ heaviest_constant table signature words ∷ words.w0 ∷ [])) (with_behind (below_marks ws) list three)) weights_are
-              ∙ ap (λ (fs : List Sym). spec_of words.lpo words.w0 (with_behind (below_marks (own_weights table signature words)) (own_weights table signature words) (heaviest_constant table signature words ∷ heaviest_constant table signature words ∷ words.w0 ∷ [])) (with_behind (below_marks (own_weights table signature words)) fs three)) list_is;
+          is = e ∙ ap (λ (n : ℕ). spec_of words.lpo words.w0 (with_behind (marks_at words.lpo weights) weights (n ∷ n ∷ words.w0 ∷ [])) (with_behind (marks_at words.lpo weights) list three)) h
+              ∙ ap (λ (ws : List ℕ). spec_of words.lpo words.w0 (with_behind (marks_at words.lpo ws) ws (heaviest_constant table signature words ∷ heaviest_constant table signature words ∷ words.w0 ∷ [])) (with_behind (marks_at words.lpo ws) list three)) weights_are
+              ∙ ap (λ (fs : List Sym). spec_of words.lpo words.w0 (with_behind (marks_at words.lpo (own_weights table signature words)) (own_weights table signature words) (heaviest_constant table signature words ∷ heaviest_constant table signature words ∷ words.w0 ∷ [])) (with_behind (marks_at words.lpo (own_weights table signature words)) fs three)) list_is;
         }

@@ -10,7 +10,7 @@ use Rattle.uc_order.specs.Members.{In, Each}
 use Rattle.uc_order.specs.Precedence.{IsTotalOn}
 use Rattle.uc_order.specs.declared.spec.OrderSpec.{OrderSpec}
 use Rattle.uc_words.specs.declared.command.OrderWords.{OrderWords}
-use Rattle.uc_ordering.specs.Choice.{own_symbols, all_symbols, first_again, first_or, own_precedence, own_weights, heaviest_constant, weighed_names, below_marks, with_behind, spec_of, chosen, IsChosen}
+use Rattle.uc_ordering.specs.Choice.{own_symbols, all_symbols, first_again, first_or, own_precedence, own_weights, heaviest_constant, weighed_names, below_marks, marks_at, with_behind, spec_of, chosen, IsChosen}
 use Rattle.uc_ordering.specs.Weights.{weight_of}
 use Rattle.uc_ordering.specs.Fits.{Fits, IsTotalSpec, AreWeights}
 use Rattle.uc_ordering.specs.Premises.{IsSignature, AreMarks}
@@ -85,8 +85,8 @@ module _ (table : Table) (signature : Signature) (words : OrderWords) (some : 1 
     abbrev pub their : List ℕ
     their = heavy ∷ heavy ∷ words.w0 ∷ []
 
-    all_total : IsTotalOn (signature.symbols ++ three) (with_behind at (own_precedence table signature words) three)
-    all_total = total_with signature.symbols three (own_precedence table signature words) at whole (apart table signature marks m)
+    all_total : (place : ℕ) → IsTotalOn (signature.symbols ++ three) (with_behind place (own_precedence table signature words) three)
+    all_total place = total_with signature.symbols three (own_precedence table signature words) place whole (apart table signature marks m)
 
     all_weighed : AreWeights table words.w0 (with_behind at (own_weights table signature words) their) (with_behind at (own_precedence table signature words) three)
     all_weighed = record {
@@ -96,9 +96,9 @@ module _ (table : Table) (signature : Signature) (words : OrderWords) (some : 1 
       none_bad = none_bad_with table words.w0 some most (weight_of table words.w0 words.weights) marks.yes marks.no marks.eq heavy (yes_arity table signature marks m) (no_arity table signature marks m) (eq_arity table signature marks m) heavy_some heavy_most (own_precedence table signature words) whole.1 each_good;
     }
 
-    encoded : (lpo : Bool) → IsTotalSpec table (signature.symbols ++ three) (spec_of lpo words.w0 (with_behind at (own_weights table signature words) their) (with_behind at (own_precedence table signature words) three))
-    encoded true = all_total
-    encoded false = (all_total, all_weighed)
+    encoded : (lpo : Bool) → IsTotalSpec table (signature.symbols ++ three) (spec_of lpo words.w0 (with_behind (marks_at lpo (own_weights table signature words)) (own_weights table signature words) their) (with_behind (marks_at lpo (own_weights table signature words)) (own_precedence table signature words) three))
+    encoded true = all_total (length (own_weights table signature words))
+    encoded false = (all_total at, all_weighed)
 
   each_more : (fs gs : List Sym) → Each (Has table) fs → Each (Has table) gs → Each (Has table) (fs ++ gs)
   each_more [] gs a b = b

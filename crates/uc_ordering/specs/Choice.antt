@@ -45,6 +45,11 @@ ends_in_zero (w ∷ v ∷ vs) = ends_in_zero (v ∷ vs)
 abbrev pub below_marks : List ℕ → ℕ
 below_marks weights = if ends_in_zero weights then length weights - 1 else length weights
 
+-- The same by the kind of order: a path order has no weights, so none of its symbols weighs 0.
+abbrev pub marks_at : Bool → List ℕ → ℕ
+marks_at true weights = length weights
+marks_at false weights = below_marks weights
+
 -- xs with ys behind the first n
 abbrev pub with_behind : {A : Type 0} → ℕ → List A → List A → List A
 with_behind n xs ys = take n xs ++ ys ++ drop n xs
@@ -78,10 +83,10 @@ module _ (table : Table) (signature : Signature) (words : OrderWords) where
   heaviest_constant = heaviest table words.w0 words.weights signature.symbols
 
   -- The order: of the signature as it is; or with the encoding's symbols, which stand above all others, but below a symbol of
-  -- weight 0, and of which true and false weigh as much as the heaviest constant and eq as much as a variable.
+  -- weight 0 where there is one, and of which true and false weigh as much as the heaviest constant and eq as much as a variable.
   abbrev pub chosen : Option Fresh → OrderSpec
   chosen None = spec_of words.lpo words.w0 own_weights own_precedence
-  chosen (Some marks) = spec_of words.lpo words.w0 (with_behind (below_marks own_weights) own_weights (heaviest_constant ∷ heaviest_constant ∷ words.w0 ∷ [])) (with_behind (below_marks own_weights) own_precedence (marks.yes ∷ marks.no ∷ marks.eq ∷ []))
+  chosen (Some marks) = spec_of words.lpo words.w0 (with_behind (marks_at words.lpo own_weights) own_weights (heaviest_constant ∷ heaviest_constant ∷ words.w0 ∷ [])) (with_behind (marks_at words.lpo own_weights) own_precedence (marks.yes ∷ marks.no ∷ marks.eq ∷ []))
 
   -- the options and the defaults name this order
   pub record IsChosen (fresh : Option Fresh) (spec : OrderSpec) : Type 0 where

@@ -2,7 +2,7 @@
 
 ghost use Rattle.std.specs.Prelude.{◌≡◌, ◌≤◌, ℕ, List, [], ◌∷◌, None, length, find, IfOk, IfErr, IfSome, OnOk};
 ghost use Rattle.uc_term.specs.Table.{Has};
-ghost use Rattle.uc_ordering.specs.Choice.{IsChosen, IsChoiceFault, all_symbols, own_symbols, spec_of, with_behind, below_marks, ends_in_zero};
+ghost use Rattle.uc_ordering.specs.Choice.{IsChosen, IsChoiceFault, all_symbols, own_symbols, spec_of, with_behind, below_marks, marks_at, ends_in_zero};
 ghost use Rattle.uc_ordering.specs.Numbers.{symbol_in, is_bad_in, IsBadAmong};
 ghost use Rattle.uc_ordering.specs.Fits.{Fits};
 ghost use Rattle.uc_ordering.specs.Premises.{IsSignature, AreMarks};
@@ -124,12 +124,24 @@ fn with_marks(
     marks: Fresh,
 ) -> Result<OrderSpec, AllocError>
     requires { length weights.now ≡ length precedence.now }
-    ensures { IfOk result (λ spec. spec ≡ spec_of words.now.lpo words.now.w0 (with_behind (below_marks weights.now) weights.now (heaviest ∷ heaviest ∷ words.now.w0 ∷ [])) (with_behind (below_marks weights.now) precedence.now (marks.yes ∷ marks.no ∷ marks.eq ∷ []))) }
+    ensures { IfOk result (λ spec. spec ≡ spec_of words.now.lpo words.now.w0 (with_behind (marks_at words.now.lpo weights.now) weights.now (heaviest ∷ heaviest ∷ words.now.w0 ∷ [])) (with_behind (marks_at words.now.lpo weights.now) precedence.now (marks.yes ∷ marks.no ∷ marks.eq ∷ []))) }
 {
-    let below = below_marks(weights);
-    let weights = with_behind(alloc, below, weights, &[heaviest, heaviest, words.w0])?;
-    let precedence = with_behind(alloc, below, precedence, &[marks.yes, marks.no, marks.eq])?;
+    let place = marks_at(words.lpo, weights);
+    let weights = with_behind(alloc, place, weights, &[heaviest, heaviest, words.w0])?;
+    let precedence = with_behind(alloc, place, precedence, &[marks.yes, marks.no, marks.eq])?;
     Ok(spec_of(words, weights, precedence))
+}
+
+// How many symbols with these weights stand below the encoding's; in a path order, which has no weights, all do.
+fn marks_at(lpo: bool, weights: &[u32]) -> usize
+    ensures value { result ≡ marks_at lpo weights.now }
+    ensures within { result ≤ length weights.now }
+{
+    if lpo {
+        weights.len()
+    } else {
+        below_marks(weights)
+    }
 }
 
 // How many symbols with these weights stand below the encoding's.
