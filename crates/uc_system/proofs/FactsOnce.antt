@@ -22,22 +22,22 @@ two_bytes n e f = omega arith
 other_line : (k : ℕ) (text line : List ℕ) → line ≡ end_line → line ≡ fact_front k ++ text ++ fact_end → ⊥
 other_line k text line e f = two_bytes (get_or line 0 0) (ap (λ l. get_or l 0 0) e) (ap (λ l. get_or l 0 0) f)
 
-large_is : (k : ℕ) (line : List ℕ) (from : ℕ) → IsLargeLine k line from → (text : List ℕ) × (line ≡ fact_front k ++ text ++ fact_end)
-large_is k line _ (is_large {text = t} e h) = (t, e)
+large_is : (table : Table) (precedence : List Sym) (k : ℕ) (line : List ℕ) (from : ℕ) → IsLargeLine table precedence k line from → (text : List ℕ) × (line ≡ fact_front k ++ text ++ fact_end)
+large_is table precedence k line _ (is_large {text = t} e h) = (t, e)
 
-pub large_line_once : (k : ℕ) (line : List ℕ) (f g : ℕ) → IsLargeLine k line f → IsLargeLine k line g → f ≡ g
-large_line_once k line _ _ (is_large {text = t} {from = a} e h) (is_large {text = u} {from = b} f g) =
+pub large_line_once : (table : Table) (precedence : List Sym) (k : ℕ) (line : List ℕ) (f g : ℕ) → IsLargeLine table precedence k line f → IsLargeLine table precedence k line g → f ≡ g
+large_line_once table precedence k line _ _ (is_large {text = t} {from = a} e h) (is_large {text = u} {from = b} f g) =
     let texts : t ≡ u = between_once k t u (sym e ∙ f) in
-    ap (λ n. length (fact_front k) + n) (large_once u a b (subst (λ x. HasLargeTerm x a) texts h) g)
+    ap (λ n. length (fact_front k) + n) (large_once u a b (subst (λ x. HasLargeTerm x a) texts h.large) g.large)
 
 module _ (table : Table) (precedence : List Sym) (printable : Each (IsPrintableSymbol table) precedence) where
   pub text_of : (k : ℕ) (line : List ℕ) (e : Equation) → IsFactLine table precedence k line e → IsFactText table precedence (equation_text table true e.left e.right) e
   text_of k line e l = record { is = refl; fact = l.fact }
 
-  pub fact_or_large : (k : ℕ) (line : List ℕ) (e : Equation) (from : ℕ) → IsFactLine table precedence k line e → IsLargeLine k line from → ⊥
+  pub fact_or_large : (k : ℕ) (line : List ℕ) (e : Equation) (from : ℕ) → IsFactLine table precedence k line e → IsLargeLine table precedence k line from → ⊥
   fact_or_large k line e _ l (is_large {text = t} {from = a} f h) =
       let texts : t ≡ equation_text table true e.left e.right = between_once k t (equation_text table true e.left e.right) (sym f ∙ l.is) in
-      read_or_large table (equation_text table true e.left e.right) (e.left, e.right) (fact_again table precedence printable (equation_text table true e.left e.right) e (text_of k line e l)) (large_stops (equation_text table true e.left e.right) a (subst (λ x. HasLargeTerm x a) texts h))
+      read_or_large table (equation_text table true e.left e.right) (e.left, e.right) (fact_again table precedence printable (equation_text table true e.left e.right) e (text_of k line e l)) (large_stops (equation_text table true e.left e.right) a (subst (λ x. HasLargeTerm x a) texts h.large))
 
   module _ (d : IsDistinct table) where
     fact_line_once : (k : ℕ) (line : List ℕ) (e g : Equation) → IsFactLine table precedence k line e → IsFactLine table precedence k line g → e ≡ g
@@ -49,12 +49,12 @@ module _ (table : Table) (precedence : List Sym) (printable : Each (IsPrintableS
     FactHere k e c = IsFactLine table precedence k c.line e
 
     abbrev LargeHere : ℕ → ℕ → Cut → Type 0
-    LargeHere k from c = IsLargeLine k c.line from
+    LargeHere k from c = IsLargeLine table precedence k c.line from
 
     facts_once : {earlier : List Equation} {n : ℕ} {text : List ℕ} {o p : Outcome (List Equation)} → FactsAt table precedence earlier n text o → FactsAt table precedence earlier n text p → o ≡ p
     facts_once {earlier} {n} (no_more_facts {c = c} e l) (no_more_facts {c = g} f m) = let cuts : c ≡ g = some_once c g (sym e ∙ f) in ap (λ (x : Cut). gets earlier (n + 1) x.rest) cuts
     facts_once (no_more_facts {c = c} e l) (one_more_fact {c = g} f m y) = absurd (other_line _ _ c.line l (ap (λ (x : Cut). x.line) (some_once c g (sym e ∙ f)) ∙ m.is))
-    facts_once (no_more_facts {c = c} e l) (has_large_term {from = a} {c = g} f m) = absurd (let t = large_is _ g.line a m in other_line _ t.0 c.line l (ap (λ (x : Cut). x.line) (some_once c g (sym e ∙ f)) ∙ t.1))
+    facts_once (no_more_facts {c = c} e l) (has_large_term {from = a} {c = g} f m) = absurd (let t = large_is table precedence _ g.line a m in other_line _ t.0 c.line l (ap (λ (x : Cut). x.line) (some_once c g (sym e ∙ f)) ∙ t.1))
     facts_once (no_more_facts {c = c} e l) (is_no_fact {c = g} f m x y) = absurd (m (ap (λ (x : Cut). x.line) (some_once g c (sym f ∙ e)) ∙ l))
     facts_once (no_more_facts {c = c} e l) (is_no_whole_line f) = absurd (some_or_none _ c e f)
     facts_once (one_more_fact {c = c} e l x) (no_more_facts {c = g} f m) = absurd (other_line _ _ g.line m (ap (λ (x : Cut). x.line) (some_once g c (sym f ∙ e)) ∙ l.is))
@@ -65,9 +65,9 @@ module _ (table : Table) (precedence : List Sym) (printable : Each (IsPrintableS
     facts_once {earlier} (one_more_fact {c = c} {e = a} e l x) (has_large_term {from = b} {c = g} f m) = absurd (fact_or_large (length earlier + 1) c.line a b l (subst (LargeHere (length earlier + 1) b) (some_once g c (sym f ∙ e)) m))
     facts_once {earlier} (one_more_fact {c = c} {e = a} e l x) (is_no_fact {c = g} f m y z) = absurd (y a (subst (FactHere (length earlier + 1) a) (some_once c g (sym e ∙ f)) l))
     facts_once (one_more_fact {c = c} e l x) (is_no_whole_line f) = absurd (some_or_none _ c e f)
-    facts_once (has_large_term {from = a} {c = c} e l) (no_more_facts {c = g} f m) = absurd (let t = large_is _ c.line a l in other_line _ t.0 g.line m (ap (λ (x : Cut). x.line) (some_once g c (sym f ∙ e)) ∙ t.1))
+    facts_once (has_large_term {from = a} {c = c} e l) (no_more_facts {c = g} f m) = absurd (let t = large_is table precedence _ c.line a l in other_line _ t.0 g.line m (ap (λ (x : Cut). x.line) (some_once g c (sym f ∙ e)) ∙ t.1))
     facts_once {earlier} (has_large_term {from = b} {c = c} e l) (one_more_fact {c = g} {e = a} f m y) = absurd (fact_or_large (length earlier + 1) g.line a b m (subst (LargeHere (length earlier + 1) b) (some_once c g (sym e ∙ f)) l))
-    facts_once {earlier} {n} (has_large_term {from = a} {c = c} e l) (has_large_term {from = b} {c = g} f m) = ap (λ x. fails (Limit (place_in n x))) (large_line_once (length earlier + 1) g.line a b (subst (LargeHere (length earlier + 1) a) (some_once c g (sym e ∙ f)) l) m)
+    facts_once {earlier} {n} (has_large_term {from = a} {c = c} e l) (has_large_term {from = b} {c = g} f m) = ap (λ x. fails (Limit (place_in n x))) (large_line_once table precedence (length earlier + 1) g.line a b (subst (LargeHere (length earlier + 1) a) (some_once c g (sym e ∙ f)) l) m)
     facts_once {earlier} (has_large_term {from = a} {c = c} e l) (is_no_fact {c = g} f m y z) = absurd (z a (subst (LargeHere (length earlier + 1) a) (some_once c g (sym e ∙ f)) l))
     facts_once (has_large_term {c = c} e l) (is_no_whole_line f) = absurd (some_or_none _ c e f)
     facts_once (is_no_fact {c = c} e l x y) (no_more_facts {c = g} f m) = absurd (l (ap (λ (x : Cut). x.line) (some_once c g (sym e ∙ f)) ∙ m))

@@ -16,9 +16,10 @@ use Rattle.uc_system.specs.declared.facts.Unread.TheVariants as unread
 use Rattle.uc_system.specs.declared.lines.Cursor.{Cursor}
 use Rattle.uc_system.specs.Lines.{departs, Outcome, gets, fails}
 use Rattle.uc_system.specs.Places.{IsNext}
+use Rattle.uc_system.specs.Spelled.{IsSpelled}
 use Rattle.uc_system.specs.Facts.{end_line, IsFactLine, FactsAt, no_more_facts, one_more_fact, has_large_term, is_no_fact, fact_lines}
 use Rattle.uc_system.specs.Reads.{GivesIn}
-use Rattle.uc_system.specs.Unread.{HasTooManyNodes, cause_of, IsUnread, IsUnreadLine, ReadsFactLine, IsLargeIn, IsCausedBy, IsShort, line_fault}
+use Rattle.uc_system.specs.Unread.{HasTooManyNodes, cause_of, IsUnread, IsUnreadLine, ReadsFactLine, IsLargeIn, IsLargeOr, IsCausedBy, IsShort, line_fault}
 use Rattle.uc_system.proofs.Precedence.{each_map}
 use Rattle.uc_system.proofs.Stays.{printable_stays}
 use Rattle.uc_system.proofs.FactChecks.{refused_no_fact}
@@ -29,10 +30,10 @@ pub known_later : (old new : Table) → Grows old new → (keys : List Sym) → 
 known_later old new g keys all = each_map (IsPrintableSymbol old) (IsPrintableSymbol new) (printable_stays old new g) keys all
 
 -- why a text isn't a fact's
-pub large_unread : (table : Table) (keys : List Sym) (text : List ℕ) (u : Unread) → IsLargeIn text u → IsUnread table keys text u
-large_unread table keys text unread.Departs h = absurd h
-large_unread table keys text (unread.Large from) h = h
-large_unread table keys text unread.NoMemory h = tt
+large_unread : (table : Table) (keys : List Sym) → Each (IsPrintableSymbol table) keys → (text : List ℕ) (fault : ClauseFault) → Refuses equals_alone text fault → (u : Unread) → IsLargeOr table keys text u → IsUnread table keys text u
+large_unread table keys printable text fault r unread.Departs h = (refused_no_fact table keys printable text fault r, λ from l. h l.spelled)
+large_unread table keys printable text fault r (unread.Large from) h = h
+large_unread table keys printable text fault r unread.NoMemory h = tt
 
 no_nodes : NoRoom ≡ TooManyNodes → ⊥
 no_nodes e = cc
@@ -45,13 +46,13 @@ nodes_of_cause text fault (inl r) e = refused_nodes text fault r e
 nodes_of_cause text fault (inr m) e = absurd (no_nodes (ap cause_of (sym m) ∙ e))
 
 pub other_unread : (table : Table) (keys : List Sym) → Each (IsPrintableSymbol table) keys → (text : List ℕ) (fault : ClauseFault) → IsFault (Refuses equals_alone text) fault → cause_of fault ≡ OtherCause → IsUnread table keys text unread.Departs
-other_unread table keys printable text fault (inl r) e = (refused_no_fact table keys printable text fault r, other_no_large table text fault r e)
+other_unread table keys printable text fault (inl r) e = (refused_no_fact table keys printable text fault r, λ from l. other_no_large table text fault r e from l.large)
 other_unread table keys printable text fault (inr m) e = absurd (no_other (ap cause_of (sym m) ∙ e))
 
 -- a fault of a line has a column
 pub short_in_line : (table : Table) (keys : List Sym) (k : ℕ) (line : List ℕ) → length line < 2 ^ 31 → (u : Unread) → IsUnreadLine table keys k line u → IsShort u
 short_in_line table keys k line small unread.Departs h = tt
-short_in_line table keys k line small (unread.Large from) h = omega (arith, large_line_within k line from h)
+short_in_line table keys k line small (unread.Large from) h = omega (arith, large_line_within table keys k line from h)
 short_in_line table keys k line small unread.NoMemory h = tt
 
 -- the line that stands behind these facts
@@ -76,7 +77,17 @@ module _ (keys : List Sym) (bytes : List ℕ) (facts : List Equation) (here next
       refused u other h = refused_by u other (subst (λ n. IsUnreadLine table keys n line u) number h)
 
 -- a text that is refused for this cause
-pub caused_unread : (table : Table) (keys : List Sym) → Each (IsPrintableSymbol table) keys → (text : List ℕ) (fault : ClauseFault) → IsFault (Refuses equals_alone text) fault → (cause : Cause) → cause ≡ cause_of fault → (u : Unread) → IsCausedBy text cause u → IsUnread table keys text u
-caused_unread table keys printable text fault r TooManyNodes e u h = large_unread table keys text u h
+many_unread : (table : Table) (keys : List Sym) → Each (IsPrintableSymbol table) keys → (text : List ℕ) (fault : ClauseFault) → IsFault (Refuses equals_alone text) fault → TooManyNodes ≡ cause_of fault → (u : Unread) → IsLargeOr table keys text u → IsUnread table keys text u
+many_unread table keys printable text fault (inl r) e u h = large_unread table keys printable text fault r u h
+many_unread table keys printable text fault (inr m) e u h = absurd (no_nodes (sym (e ∙ ap cause_of m)))
+
+pub caused_unread : (table : Table) (keys : List Sym) → Each (IsPrintableSymbol table) keys → (text : List ℕ) (fault : ClauseFault) → IsFault (Refuses equals_alone text) fault → (cause : Cause) → cause ≡ cause_of fault → (u : Unread) → IsCausedBy table keys text cause u → IsUnread table keys text u
+caused_unread table keys printable text fault r TooManyNodes e u h = many_unread table keys printable text fault r e u h
 caused_unread table keys printable text fault r NoRoom e u h = subst (IsUnread table keys text) (sym h) tt
 caused_unread table keys printable text fault r OtherCause e u h = subst (IsUnread table keys text) (sym h) (other_unread table keys printable text fault r (sym e))
+
+-- a text with a term that is too large, which is spelled as an equation is printed
+pub large_as_spelled : (table : Table) (keys : List Sym) (text : List ℕ) (u : Unread) → IsLargeIn text u → IsSpelled table keys text → IsLargeOr table keys text u
+large_as_spelled table keys text unread.Departs h s = absurd h
+large_as_spelled table keys text (unread.Large from) h s = record { large = h; spelled = s }
+large_as_spelled table keys text unread.NoMemory h s = tt

@@ -2,6 +2,8 @@
 use Rattle.std.proofs.Common.{◌≡◌, ℕ, ◌+◌, ◌<◌, ◌≤◌, List, length, length-append, refl, sym, ap, ◌∙◌, subst, arith, Some, None, get_or, inl, inr, ◌⊎◌}
 use Rattle.std.specs.Prelude.{slice_get, ◌++◌}
 use Rattle.std.proofs.lemmas.Option.{slice_get_cases}
+use Rattle.uc_term.specs.declared.node.Sym.{Sym}
+use Rattle.uc_term.specs.Table.{Table}
 use Rattle.uc_clause.specs.declared.token.Token.{Token}
 use Rattle.uc_clause.specs.declared.terminal.Terminal.TheVariants as terminal
 use Rattle.uc_clause.specs.declared.grammar.head.Head.TheVariants.{Functor, Neither}
@@ -59,8 +61,8 @@ pub large_within : (text : List ℕ) (from : ℕ) → HasLargeTerm text from →
 large_within text _ (left_is_large {tokens = ts} {token = t} are stops get) = let w = within_text text ts 0 t are get in omega (arith, w.0, w.1)
 large_within text _ (right_is_large {tokens = ts} {token = t} {sign = s} are reads sign stops get) = let w = within_text text ts (s + 1) t are get in omega (arith, w.0, w.1)
 
-pub large_line_within : (k : ℕ) (line : List ℕ) (from : ℕ) → IsLargeLine k line from → from ≤ length line
-large_line_within k line _ (is_large {text = t} {from = a} e h) = omega (arith, ap length e, length-append (fact_front k ++ t) fact_end, length-append (fact_front k) t, large_within t a h)
+pub large_line_within : (table : Table) (precedence : List Sym) (k : ℕ) (line : List ℕ) (from : ℕ) → IsLargeLine table precedence k line from → from ≤ length line
+large_line_within table precedence k line _ (is_large {text = t} {from = a} e h) = omega (arith, ap length e, length-append (fact_front k ++ t) fact_end, length-append (fact_front k) t, large_within t a h.large)
 
 -- a term that is too large begins at the token of this number
 pub record LargeAt (text : List ℕ) (tokens : List Token) (at : ℕ) : Type 0 where

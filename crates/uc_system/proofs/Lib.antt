@@ -9,6 +9,7 @@ pub mod FactTexts
 pub mod FactsOnce
 pub mod SystemOnce
 pub mod Stays
+pub mod Spellings
 pub mod Decimals
 pub mod TextsInLine
 pub mod PrintedFacts

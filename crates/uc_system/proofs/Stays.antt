@@ -11,14 +11,15 @@ use Rattle.uc_clause.specs.Names.{spelling, IsSpellable}
 use Rattle.uc_clause.specs.Printing.{term_text, args_text, rest_text, sign_text}
 use Rattle.uc_clause.specs.Printable.{IsPrintableSymbol}
 use Rattle.uc_clause.proofs.Tables.{symbol_grows}
-use Rattle.uc_order.specs.Members.{In, Each}
+use Rattle.uc_order.specs.Members.{In, in_front, in_rest, Each}
 use Rattle.uc_system.specs.declared.fault.SystemFault.{SystemFault}
 use Rattle.uc_system.specs.declared.header.Header.{Header}
 use Rattle.uc_system.specs.declared.symbols.Ranked.{Ranked}
 use Rattle.uc_system.specs.declared.system.SystemText.{SystemText}
 use Rattle.uc_system.specs.Lines.{departs, Outcome, passed_or, goes_on, fails_first}
 use Rattle.uc_system.specs.Symbols.{symbols_in, SymbolAt, is_no_whole_line, is_no_symbol, has_too_many, is_symbol, SymbolsAt, no_more_symbols, one_more_symbol, fails_in_symbol, has_light, has_constant, are_complete}
-use Rattle.uc_system.specs.Facts.{fact_front, fact_end, IsSide, IsFact, IsFactLine, FactsAt, no_more_facts, one_more_fact, has_large_term, is_no_fact}
+use Rattle.uc_system.specs.Spelled.{spellings, AreSpelled, IsSpelled}
+use Rattle.uc_system.specs.Facts.{fact_front, fact_end, IsSide, IsFact, IsFactLine, IsLargeLine, is_large, FactsAt, no_more_facts, one_more_fact, has_large_term, is_no_fact}
 use Rattle.uc_system.specs.Facts as facts
 use Rattle.uc_system.specs.Unread.{IsFactText}
 use Rattle.uc_system.specs.Reading.{system_body, system_lines, ReadsSystem, reads, goes_further, fails_within}
@@ -70,11 +71,21 @@ module _ (t u : Table) (precedence : List Sym) (a : Agree t u precedence) where
     fact = fact_moves e l.fact;
   }
 
+  spellings_same : (fs : List Sym) → ((f : Sym) → In fs f → name_of t f ≡ name_of u f) → spellings t fs ≡ spellings u fs
+  spellings_same [] h = refl
+  spellings_same (f ∷ fs) h = ap₂ (λ name names. spelling name ∷ names) (h f in_front) (spellings_same fs (λ g i. h g (in_rest i)))
+
+  spelled_moves : (text : List ℕ) → IsSpelled t precedence text → IsSpelled u precedence text
+  spelled_moves text s = record { tokens = s.tokens; are_tokens = s.are_tokens; spelled = subst (λ names. AreSpelled names text s.tokens) (spellings_same precedence a.names) s.spelled }
+
+  pub large_line_moves : (k : ℕ) (line : List ℕ) (from : ℕ) → IsLargeLine t precedence k line from → IsLargeLine u precedence k line from
+  large_line_moves k line _ (is_large {text = x} e h) = is_large e (record { large = h.large; spelled = spelled_moves x h.spelled })
+
 facts_move : (t u : Table) (precedence : List Sym) → Agree t u precedence → {earlier : List Equation} {n : ℕ} {text : List ℕ} {o : Outcome (List Equation)} → FactsAt t precedence earlier n text o → FactsAt u precedence earlier n text o
 facts_move t u precedence a (no_more_facts e l) = no_more_facts e l
 facts_move t u precedence a (one_more_fact e l x) = one_more_fact e (fact_line_moves t u precedence a _ _ _ l) (facts_move t u precedence a x)
-facts_move t u precedence a (has_large_term e l) = has_large_term e l
-facts_move t u precedence a (is_no_fact e l x y) = is_no_fact e l (λ g m. x g (fact_line_moves u t precedence (agree_back t u precedence a) _ _ g m)) y
+facts_move t u precedence a (has_large_term e l) = has_large_term e (large_line_moves t u precedence a _ _ _ l)
+facts_move t u precedence a (is_no_fact e l x y) = is_no_fact e l (λ g m. x g (fact_line_moves u t precedence (agree_back t u precedence a) _ _ g m)) (λ from l. y from (large_line_moves u t precedence (agree_back t u precedence a) _ _ from l))
 facts_move t u precedence a (facts.is_no_whole_line e) = facts.is_no_whole_line e
 
 module _ (old new : Table) (grows : Grows old new) where

@@ -22,6 +22,7 @@ use Rattle.uc_clause.specs.Terms.{Term}
 use Rattle.uc_clause.specs.Printing.{equation_text}
 use Rattle.uc_order.specs.Members.{In}
 use Rattle.uc_system.specs.declared.fault.SystemFault.TheVariants.{Limit}
+use Rattle.uc_system.specs.Spelled.{IsSpelled}
 use Rattle.uc_system.specs.Lines.{Cut, first_line, place_in, departs, Outcome, gets, fails, Rule}
 
 abbrev pub end_line : List ℕ
@@ -68,11 +69,17 @@ pub data HasLargeTerm (text : List ℕ) : ℕ → Type 0 where
   left_is_large : {tokens : List Token} {token : Token} {k : ℕ} → AreTokens text tokens → Term text tokens 0 0 (stop Nodes k) → slice_get tokens 0 ≡ Some token → HasLargeTerm text token.from
   right_is_large : {tokens : List Token} {token : Token} {left : Parse} {sign k : ℕ} → AreTokens text tokens → Term text tokens 0 0 (read left sign) → terminal_at text tokens sign ≡ Equal → Term text tokens 0 (sign + 1) (stop Nodes k) → slice_get tokens (sign + 1) ≡ Some token → HasLargeTerm text token.from
 
--- the line has such a text in an equation's place, and the term begins at this byte of the line
-pub data IsLargeLine (k : ℕ) (line : List ℕ) : ℕ → Type 0 where
-  is_large : {text : List ℕ} {from : ℕ} → line ≡ fact_front k ++ text ++ fact_end → HasLargeTerm text from → IsLargeLine k line (length (fact_front k) + from)
-
 module _ (table : Table) (precedence : List Sym) where
+  -- The text has such a term, and is spelled as an equation of these symbols is printed. What is spelled otherwise departs, since
+  -- its line begins before the term.
+  pub record IsLargeText (text : List ℕ) (from : ℕ) : Type 0 where
+    pub large : HasLargeTerm text from
+    pub spelled : IsSpelled table precedence text
+
+  -- the line has such a text in an equation's place, and the term begins at this byte of the line
+  pub data IsLargeLine (k : ℕ) (line : List ℕ) : ℕ → Type 0 where
+    is_large : {text : List ℕ} {from : ℕ} → line ≡ fact_front k ++ text ++ fact_end → IsLargeText text from → IsLargeLine k line (length (fact_front k) + from)
+
   -- the facts behind these, and the last line
   pub data FactsAt : List Equation → ℕ → List ℕ → Outcome (List Equation) → Type 0 where
     no_more_facts : {earlier : List Equation} {n : ℕ} {text : List ℕ} {c : Cut} → first_line text ≡ Some c → c.line ≡ end_line → FactsAt earlier n text (gets earlier (n + 1) c.rest)

@@ -2,6 +2,7 @@ pub mod Numerals
 pub mod Lines
 pub mod Header
 pub mod Symbols
+pub mod Spelled
 pub mod Facts
 pub mod Reading
 pub mod Printing

@@ -26,7 +26,8 @@ use Rattle.uc_system.specs.declared.facts.Unread.{Unread}
 use Rattle.uc_system.specs.declared.facts.Unread.TheVariants as unread
 use Rattle.uc_system.specs.Lines.{place_in, departs}
 use Rattle.uc_system.specs.Symbols.{is_one_of}
-use Rattle.uc_system.specs.Facts.{IsFact, HasLargeTerm, IsFactLine, IsLargeLine}
+use Rattle.uc_system.specs.Spelled.{IsSpelled}
+use Rattle.uc_system.specs.Facts.{IsFact, HasLargeTerm, IsFactLine, IsLargeText, IsLargeLine}
 
 -- the text is printed so of this equation, which may be a fact
 pub record IsFactText (table : Table) (precedence : List Sym) (text : List ℕ) (e : Equation) : Type 0 where
@@ -47,17 +48,17 @@ IsOneOf is large table (Err u) = IsNoneOf (is table) large u
 module _ (table : Table) (precedence : List Sym) where
   -- why a text isn't so printed of any
   abbrev pub IsUnread : List ℕ → Unread → Type 0
-  IsUnread text = IsNoneOf (IsFactText table precedence text) (HasLargeTerm text)
+  IsUnread text = IsNoneOf (IsFactText table precedence text) (IsLargeText table precedence text)
 
   abbrev pub ReadsFact : List ℕ → Result Equation Unread → Type 0
-  ReadsFact text = IsOneOf (λ t. IsFactText t precedence text) (HasLargeTerm text) table
+  ReadsFact text = IsOneOf (λ t. IsFactText t precedence text) (IsLargeText table precedence text) table
 
   -- the same of the line of the fact of this number
   abbrev pub IsUnreadLine : ℕ → List ℕ → Unread → Type 0
-  IsUnreadLine k line = IsNoneOf (IsFactLine table precedence k line) (IsLargeLine k line)
+  IsUnreadLine k line = IsNoneOf (IsFactLine table precedence k line) (IsLargeLine table precedence k line)
 
   abbrev pub ReadsFactLine : ℕ → List ℕ → Result Equation Unread → Type 0
-  ReadsFactLine k line = IsOneOf (λ t. IsFactLine t precedence k line) (IsLargeLine k line) table
+  ReadsFactLine k line = IsOneOf (λ t. IsFactLine t precedence k line) (IsLargeLine table precedence k line) table
 
   -- whether an equation that is read is a fact
   abbrev pub IsChecked : List ℕ → Result Equation Unread → Type 0
@@ -116,8 +117,15 @@ cause_of (clause.Limit place w) = cause_of_limit w
 cause_of clause.NoMemory = NoRoom
 cause_of other = OtherCause
 
--- what a cause makes of it
-abbrev pub IsCausedBy : List ℕ → Cause → Unread → Type 0
-IsCausedBy text TooManyNodes u = IsLargeIn text u
-IsCausedBy text NoRoom u = u ≡ unread.NoMemory
-IsCausedBy text OtherCause u = u ≡ unread.Departs
+module _ (table : Table) (precedence : List Sym) where
+  -- a text with a term that is too large is spelled otherwise; or the term begins there; or memory is wanted
+  abbrev pub IsLargeOr : List ℕ → Unread → Type 0
+  IsLargeOr text unread.Departs = IsSpelled table precedence text → ⊥
+  IsLargeOr text (unread.Large from) = IsLargeText table precedence text from
+  IsLargeOr text unread.NoMemory = Unit {0}
+
+  -- what a cause makes of it
+  abbrev pub IsCausedBy : List ℕ → Cause → Unread → Type 0
+  IsCausedBy text TooManyNodes u = IsLargeOr text u
+  IsCausedBy text NoRoom u = u ≡ unread.NoMemory
+  IsCausedBy text OtherCause u = u ≡ unread.Departs

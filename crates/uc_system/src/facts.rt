@@ -14,11 +14,12 @@ ghost use Rattle.uc_system.specs.declared.facts.Unread.TheVariants.{NoMemory};
 ghost use Rattle.uc_system.specs.Places.{IsAt};
 ghost use Rattle.uc_system.specs.Facts.{fact_front, fact_end, fact_lines};
 ghost use Rattle.uc_system.specs.Reads.{GivesIn};
-ghost use Rattle.uc_system.specs.Unread.{HasTooManyNodes, cause_of, cause_of_limit, IsUnread, ReadsFact, ReadsFactLine, IsChecked, IsLargeIn, IsCausedBy, is_known, line_fault, further, IsShort, IsBounded};
+ghost use Rattle.uc_system.specs.Unread.{HasTooManyNodes, cause_of, cause_of_limit, IsUnread, ReadsFact, ReadsFactLine, IsChecked, IsLargeIn, IsLargeOr, IsCausedBy, is_known, line_fault, further, IsShort, IsBounded};
 
 use crate::SystemFault;
 use crate::lines::{Cursor, departs, line_at, place_in};
 use crate::pieces::{before, behind};
+use crate::spelled::is_spelled;
 use indexmap::IndexSet;
 use itoa::Buffer;
 use std::alloc::{AllocError, AllocFailed, Global};
@@ -203,20 +204,50 @@ fn why_unread(
     ensures unread { IsUnread symbols.new known.now.keys text.now result }
     ensures grows { Grows symbols.old symbols.new }
 {
-    unread_by(alloc, text, cause_of(&fault), symbols)
+    unread_by(alloc, text, known, cause_of(&fault), symbols)
 }
 
 // Why a text that is refused for this cause isn't one.
-fn unread_by(alloc: Global, text: &[u8], cause: Cause, symbols: &mut Symbols) -> Unread
+fn unread_by(
+    alloc: Global,
+    text: &[u8],
+    known: &IndexSet<Sym>,
+    cause: Cause,
+    symbols: &mut Symbols,
+) -> Unread
     requires small { length text.now < 2 ^ 31 }
+    requires known { Each (IsPrintableSymbol symbols.old) known.now.keys }
     requires refused { cause ≡ TooManyNodes → HasTooManyNodes text.now }
-    ensures caused { IsCausedBy text.now cause result }
+    ensures caused { IsCausedBy symbols.new known.now.keys text.now cause result }
     ensures grows { Grows symbols.old symbols.new }
 {
     match cause {
-        Cause::TooManyNodes => large_in(alloc, text, symbols),
+        Cause::TooManyNodes => {
+            let unread = large_in(alloc, text, symbols);
+            large_or_departs(alloc, text, known, unread, symbols)
+        }
         Cause::NoRoom => Unread::NoMemory,
         Cause::OtherCause => Unread::Departs,
+    }
+}
+
+// Why a text isn't one in which a term is too large: that, or that it is spelled otherwise than an equation is printed.
+fn large_or_departs(
+    alloc: Global,
+    text: &[u8],
+    known: &IndexSet<Sym>,
+    unread: Unread,
+    symbols: &Symbols,
+) -> Unread
+    requires small { length text.now < 2 ^ 31 }
+    requires known { Each (IsPrintableSymbol symbols.now) known.now.keys }
+    requires large { IsLargeIn text.now unread }
+    ensures { IsLargeOr symbols.now known.now.keys text.now result }
+{
+    match is_spelled(alloc, text, known.as_slice(), symbols) {
+        Ok(true) => unread,
+        Ok(false) => Unread::Departs,
+        Err(_) => Unread::NoMemory,
     }
 }
 

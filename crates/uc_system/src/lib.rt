@@ -16,6 +16,7 @@ mod numerals;
 mod pieces;
 mod printing;
 mod reading;
+mod spelled;
 mod symbols;
 mod system;
 

@@ -37,7 +37,7 @@ use uc_term::{Seq, Symbols};
 /// unary and last. A text without a constant is refused behind the symbols' lines. That the first line doesn't say what the
 /// weights are is `Syntax` there, behind what is wrong with the lines up to where that is known; another number in it is
 /// `Version`, at the number. `Limit` stands at an arity over 255, and at the first byte of a term that passes 4,096 nodes
-/// before another token departs.
+/// before another token departs, where the line's tokens are spelled as they are printed and name symbols that have a line.
 ///
 /// Symbols are interned as they come; after a refusal the table may have grown, and only grown.
 pub fn read_system(
