@@ -1,6 +1,6 @@
 //! The replies to questions, and their lines.
 
-ghost use Rattle.std.specs.Prelude.{◌≡◌, ◌<◌, ◌^◌, ◌++◌, codes, decimal, List, length, IfOk};
+ghost use Rattle.std.specs.Prelude.{◌≡◌, ◌<◌, ◌≤◌, ◌^◌, ◌++◌, codes, decimal, List, length, IfOk, OnOk, OnErr};
 ghost use Rattle.std.specs.List.{list_any};
 ghost use Rattle.uc_term.specs.declared.equation.Equation.{Equation as AnyEquation};
 ghost use Rattle.uc_term.specs.Table.{IsOf};
@@ -26,8 +26,19 @@ use uc_term::{Seq, Symbols, Term, Text};
 
 const MOST_FACTS: usize = 2_147_483_648;
 
-/// Returns the replies to questions by a system, each with at most so many steps. A system never has as many facts as it can't
-/// number; for so many memory is wanted.
+// Refuses a system of facts that can't be numbered, and no other; a search keeps at most 10,000,000 of them.
+fn are_few(system: &System) -> Result<(), AllocError>
+    ensures few { OnOk result (length system.now.facts < 2 ^ 31) }
+    ensures refused { OnErr result (2 ^ 31 ≤ length system.now.facts) }
+{
+    if system.facts.len() < MOST_FACTS {
+        Ok(())
+    } else {
+        Err(AllocError)
+    }
+}
+
+/// Returns the replies to questions by a system, each with at most so many steps.
 pub fn replies<O: Order>(
     alloc: Global,
     system: &System,
@@ -39,11 +50,8 @@ pub fn replies<O: Order>(
     // what follows for questions of ground terms, by a system that decides what follows from axioms
     ensures right { IfOk result (λ replies. (axioms : List AnyEquation) → Decides (O.meaning order.now) system.now.facts axioms → AreGroundQuestions (O.meaning order.now) questions.now → AreOfSignature (HasSym (O.meaning order.now)) (O.meaning order.now).arity system.now.facts → AreRight (O.meaning order.now) axioms questions.now replies) }
 {
-    if system.facts.len() < MOST_FACTS {
-        replies_by(alloc, system, order, questions, steps)
-    } else {
-        Err(AllocError)
-    }
+    are_few(system)?;
+    replies_by(alloc, system, order, questions, steps)
 }
 
 // The replies by a system whose facts can be numbered.

@@ -1,6 +1,6 @@
 //! The lines of the verdict of a book: a proof, a system, or the limit that ended the search.
 
-ghost use Rattle.std.specs.Prelude.{◌≡◌, ◌<◌, ◌+◌, ◌^◌, ◌++◌, ℕ, List, [], codes, cond, IfOk, IsTrue};
+ghost use Rattle.std.specs.Prelude.{◌≡◌, ◌<◌, ◌≤◌, ◌+◌, ◌^◌, ◌++◌, ℕ, List, [], codes, cond, IfOk, OnOk, OnErr};
 ghost use Rattle.uc_fact.specs.Live.{equations_of};
 ghost use Rattle.uc_shelf.specs.Entries.{live};
 ghost use Rattle.uc_machine.specs.declared.event.Verdict.TheVariants.{Proved, Saturated};
@@ -147,8 +147,7 @@ fn proved_lines<O: Order>(
     Ok(lines)
 }
 
-/// The text of the proof that the chains of a goal and those of the facts determine. It never has as many lines as can't be
-/// numbered; for so many memory is wanted.
+/// The text of the proof that the chains of a goal and those of the facts determine.
 fn proof_of<O: Order>(
     alloc: Global,
     closed: &Closed,
@@ -163,21 +162,26 @@ fn proof_of<O: Order>(
     let facts = all_facts(alloc, closed.shelf, book.front())?;
     let (left, right) = book.chain(goal);
     let (problem, encoded) = (closed.problem, closed.encoded);
-    if !are_few(encoded.sources.len(), problem.goals.len(), facts.len()) {
-        return Err(AllocError);
-    }
+    are_few(encoded.sources.len(), problem.goals.len(), facts.len())?;
     let made = extract_from(alloc, facts.as_slice(), left, right, problem, encoded, goal)?;
     let files = made.files.as_slice();
     print_proof(alloc, &made.proof, closed.name, files, closed.symbols)
 }
 
-const MOST_PARTS: usize = 1_000_000_000;
+const MOST_LINES: usize = 4_294_967_296;
 
-/// Whether the lines of a proof from so many sources of axioms, goals and facts can be numbered.
-fn are_few(sources: usize, goals: usize, facts: usize) -> bool
-    ensures { IsTrue result → sources + goals + facts + 2 < 2 ^ 32 }
+/// Refuses so many sources of axioms, goals and facts that the lines of a proof from them can't be numbered, and no others. A
+/// problem has at most 10,000 clauses, and a search keeps at most 10,000,000 facts.
+fn are_few(sources: usize, goals: usize, facts: usize) -> Result<(), AllocError>
+    ensures few { OnOk result (sources + goals + facts + 2 < 2 ^ 32) }
+    ensures refused { OnErr result (2 ^ 32 ≤ sources + goals + facts + 2) }
 {
-    sources < MOST_PARTS && goals < MOST_PARTS && facts < MOST_PARTS
+    let parts = sources.saturating_add(goals).saturating_add(facts);
+    if parts.saturating_add(2) < MOST_LINES {
+        Ok(())
+    } else {
+        Err(AllocError)
+    }
 }
 
 /// The lines of a problem that is saturated: its status and the system of the facts that live.
