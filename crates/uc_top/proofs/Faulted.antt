@@ -1,10 +1,9 @@
 -- Failed fetches, from what the calls beneath promise to a run.
-use Rattle.std.proofs.Common.{ℕ, ◌≡◌, ◌≤◌, List, [], ◌∷◌, ◌++◌, append-nil, codes, Option, Some, None, Result, Ok, Err, refl, sym, ◌∙◌, ap, subst, arith}
+use Rattle.std.proofs.Common.{ℕ, ◌≡◌, List, [], ◌∷◌, ◌++◌, append-nil, codes, Option, Some, None, Result, Ok, Err, refl, sym, ◌∙◌, ap, subst, arith}
 use Rattle.std.specs.Result.{IfOk}
 use Rattle.std.specs.Io.KnownBytes.{Appends}
 use Rattle.std.proofs.lemmas.List.{append_cancel_left}
-use Rattle.uc_edge.specs.Faults.{IsCounted, next}
-use Rattle.uc_clause.specs.declared.fault.ClauseFault.TheVariants as clause
+use Rattle.uc_edge.specs.Faults.{IsCounted}
 use Rattle.uc_problem.specs.declared.fault.LoadFault.{LoadFault}
 use Rattle.uc_problem.specs.declared.fault.LoadFault.TheVariants as load
 use Rattle.uc_problem.specs.Fetching.{IsFaultedBy}
@@ -13,8 +12,7 @@ use Rattle.uc_answer.specs.declared.answer.Answer.{Answer}
 use Rattle.uc_answer.specs.Lines.{joined, about_file, load_line}
 use Rattle.uc_answer.specs.Refusals.{load_status}
 use Rattle.uc_answer.specs.StatusLines.{status_line, unloaded_word}
-use Rattle.uc_words.specs.declared.command.Command.{Command}
-use Rattle.uc_top.specs.Faulting.{input_error, fault_opening, TellsFault, no_fetch_failed, one_fetch_failed, AnswersFault, HasFaultStatus, keeps_status, has_fault_status, IsStatusFaulted, IsFaultedRun, no_fetch_fails, one_fetch_fails}
+use Rattle.uc_top.specs.Faulting.{input_error, TellsFault, no_fetch_failed, one_fetch_failed, AnswersFault, HasFaultStatus, keeps_status, has_fault_status, IsStatusFaulted, IsFaultedRun, no_fetch_fails, one_fetch_fails}
 use Rattle.uc_top.specs.Told.{IsTold, told, cut_short, CountsWrites, no_write_fails, one_write_fails}
 
 module _ (before now : ℕ) (old new : List (List ℕ)) where
@@ -72,6 +70,10 @@ module _ (before now : ℕ) (old new : List (List ℕ)) where
   pub no_status : {E : Type 0} (r : Result Answer E) → IsCounted None before now old new → IsStatusFaulted before now old new r
   no_status (Ok answer) k = keeps_status k
   no_status (Err e) k = (None, k)
+
+  pub some_file : {status : ℕ} → HasFaultStatus before now old new status → (file : Option (List ℕ)) × IsCounted file before now old new
+  some_file (keeps_status k) = (None, k)
+  some_file (has_fault_status file k) = (Some file, k)
 
   -- a run that wants memory
   pub wants : {first last result : ℕ} (file : Option (List ℕ)) → IsCounted file before now old new → CountsWrites first last 7 result → IsFaultedRun before now old new result

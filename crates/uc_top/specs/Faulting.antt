@@ -5,6 +5,7 @@ use Rattle.uc_words.specs.declared.command.Command.{Command}
 use Rattle.uc_words.specs.declared.command.Verb.{Verb}
 use Rattle.uc_words.specs.declared.command.Verb.TheVariants as verb
 use Rattle.uc_answer.specs.declared.answer.Answer.{Answer}
+use Rattle.uc_top.specs.declared.output.WholeAnswer.{WholeAnswer}
 use Rattle.uc_answer.specs.Lines.{joined, about_file}
 use Rattle.uc_answer.specs.StatusLines.{status_line}
 
@@ -44,6 +45,10 @@ module _ (before now : ℕ) (old new : List (List ℕ)) where
   abbrev pub IsStatusFaulted : {E : Type 0} → Result Answer E → Type 0
   IsStatusFaulted (Ok answer) = HasFaultStatus answer.status
   IsStatusFaulted (Err e) = (file : Option (List ℕ)) × IsCounted file before now old new
+
+  abbrev pub IsWholeFaulted : {E : Type 0} → Result WholeAnswer E → Type 0
+  IsWholeFaulted (Ok answer) = HasFaultStatus answer.status
+  IsWholeFaulted (Err e) = (file : Option (List ℕ)) × IsCounted file before now old new
 
   -- How a run ends: no fetch failed; or one did and no other, and the status is 5, or 6 or 7, where its line wasn't written.
   pub data IsFaultedRun : ℕ → Type 0 where

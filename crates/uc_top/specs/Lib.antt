@@ -11,6 +11,7 @@ pub mod Told
 pub mod Faulting
 pub mod Answers
 pub mod Runs
+pub mod Given
 pub mod OrderRuns
 pub mod RewriteRuns
 pub mod PairsRuns

@@ -1,6 +1,6 @@
 //! The axioms of a problem.
 
-ghost use Rattle.std.specs.Prelude.{◌≡◌, map, IfOk};
+ghost use Rattle.std.specs.Prelude.{◌≡◌, ◌<◌, ◌≤◌, ◌^◌, length, map, IfOk, OnOk, OnErr};
 ghost use Rattle.uc_check.specs.Clauses.{axioms_of, equation_of};
 ghost use Rattle.uc_problem.specs.declared.problem.Source.TheVariants as source;
 ghost use Rattle.uc_top.specs.DecideTold.{without_goals};
@@ -31,6 +31,20 @@ pub(crate) fn axioms_of(alloc: Global, clauses: &[Sourced]) -> Result<Seq<Equati
         }
     }
     Ok(axioms)
+}
+
+const MOST_AXIOMS: usize = 2_147_483_648;
+
+/// Refuses axioms that can't be numbered, and no others; a problem has at most 10,000 clauses.
+pub(crate) fn are_few(axioms: &[Equation]) -> Result<(), AllocError>
+    ensures few { OnOk result (length axioms.now < 2 ^ 31) }
+    ensures refused { OnErr result (2 ^ 31 ≤ length axioms.now) }
+{
+    if axioms.len() < MOST_AXIOMS {
+        Ok(())
+    } else {
+        Err(AllocError)
+    }
 }
 
 /// The problem as it is, but for its goals.

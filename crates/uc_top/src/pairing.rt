@@ -9,7 +9,7 @@ ghost use Rattle.uc_top.specs.PairsAnswers.{ArePairsFor, IsPaired};
 ghost use Rattle.uc_top.specs.Answers.{PairsAnswers};
 ghost use Rattle.uc_top.specs.Faulting.{AnswersFault};
 
-use crate::axioms::axioms_of;
+use crate::axioms::{are_few, axioms_of};
 use crate::loading::bytes_of;
 use std::alloc::{AllocError, Global};
 use uc_answer::{Answer, DONE, all_pair_lines, choice_answer, load_answer};
@@ -81,7 +81,7 @@ fn paired_answer(
     }
 }
 
-// The answer by this order. A problem never has as many axioms as can't be numbered; for so many memory is wanted.
+// The answer by this order.
 fn lines_answer(
     alloc: Global,
     spec: &OrderSpec,
@@ -94,14 +94,10 @@ fn lines_answer(
 {
     let order = Chosen::new(alloc, spec, symbols, problem.signature.symbols.as_slice())?;
     let axioms = axioms_of(alloc, problem.clauses.as_slice())?;
-    if axioms.len() >= MOST_AXIOMS {
-        return Err(AllocError);
-    }
+    are_few(axioms.as_slice())?;
     let lines = all_pair_lines(alloc, &order, axioms.as_slice(), symbols)?;
     Ok(Answer {
         status: DONE,
         lines,
     })
 }
-
-const MOST_AXIOMS: usize = 2_147_483_648;

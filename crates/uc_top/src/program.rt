@@ -17,15 +17,16 @@ ghost use Rattle.uc_top.specs.ProveRuns.{KeepsCommand, CompletesProve};
 ghost use Rattle.uc_top.specs.DecideRuns.{KeepsDecideCommand, CompletesDecide};
 ghost use Rattle.uc_top.specs.TableRuns.{KeepsTableWord, CompletesTable};
 ghost use Rattle.uc_top.specs.ModelRuns.{KeepsModelWord, CompletesModel};
-ghost use Rattle.uc_top.specs.Faulting.{AnswersFault, IsStatusFaulted, IsFaultedRun, fault_opening, fault_text};
+ghost use Rattle.uc_top.specs.Faulting.{TellsFault, AnswersFault, IsStatusFaulted, IsWholeFaulted, IsFaultedRun, fault_opening, fault_text};
 ghost use Rattle.uc_top.specs.Told.{CountsWrites};
+ghost use Rattle.uc_top.specs.Given.{GivesAnswer};
 ghost use Rattle.uc_top.specs.Headline.{Headline};
 
 use crate::checking::check_answer;
 use crate::deciding::decide_answer;
 use crate::modelling::model_answer;
 use crate::ordering::order_answer;
-use crate::output::{tell, tell_memory_out};
+use crate::output::{WholeAnswer, tell, tell_memory_out, text_of};
 use crate::pairing::pairs_answer;
 use crate::proving::prove_answer;
 use crate::rewriting::rewrite_answer;
@@ -66,7 +67,8 @@ use uc_words::{Command, Verb, WordsFault, read_words};
 /// want of memory.
 ///
 /// At most one fetch fails, and it ends the call with status 5, in which case the text names the file whose fetch failed, or with 6 or
-/// 7, where its line isn't written. At most one write fails, and it ends the call with status 6.
+/// 7, where its line isn't written. Each line of the answer goes to the sink with its line feed in one write, and the rest of it
+/// again where the sink took less. At most one write fails, and it ends the call with status 6.
 pub fn run<R: Threads + Wait + Sync, L: Library, S: Sink, G: Gate + Sync>(
     rt: &R,
     alloc: Global,
@@ -95,11 +97,36 @@ pub fn run<R: Threads + Wait + Sync, L: Library, S: Sink, G: Gate + Sync>(
     ensures named { result ≡ 5 → (command : Command) → Reads (map string_bytes words.now) command → (file : List ℕ) → IsCounted (Some file) (L.faults library.old) (L.faults library.new) (L.failed_at library.old) (L.failed_at library.new) → Appends (S.written sink.old) (S.written sink.new) (fault_text command file) }
     ensures sink_later { S.faults sink.old ≤ S.faults sink.new }
     ensures sink_counted { (status : ℕ) × CountsWrites (S.faults sink.old) (S.faults sink.new) status result }
+    ensures given { GivesAnswer (L.holds library.old) (L.faults library.old) (L.faults library.new) (map string_bytes words.now) (S.written sink.old) (S.written sink.new) (S.faults sink.old) (S.faults sink.new) (S.pieces sink.old) (S.pieces sink.new) result }
 {
-    match answer_of(rt, alloc, words, library) {
+    match whole_answer(rt, alloc, words, library) {
         Ok(answer) => tell(sink, &answer),
         Err(_) => tell_memory_out(sink),
     }
+}
+
+// The answer to the words, its text as one.
+fn whole_answer<R: Wait, L: Library>(
+    rt: &R,
+    alloc: Global,
+    words: &[String],
+    library: &mut L,
+) -> Result<WholeAnswer, AllocError>
+    ensures answers { IfOk result (λ answer. MayAnswer (L.holds library.old) (L.faults library.old) (L.faults library.new) (map string_bytes words.now) answer.status answer.text) }
+    ensures certified { IfOk result (λ answer. answer.status ≡ 0 → (files : Files) → L.holds library.old ≡ Some files → (command : Command) → Reads (map string_bytes words.now) command → command.verb ≡ Check → IsCertified files command) }
+    ensures promise { IfOk result (λ answer. answer.status ≤ 2 → (files : Files) → L.holds library.old ≡ Some files → (command : Command) → Reads (map string_bytes words.now) command → command.verb ≡ Prove → KeepsCommand files command answer.status answer.text) }
+    ensures decided { IfOk result (λ answer. answer.status ≤ 2 → (files : Files) → L.holds library.old ≡ Some files → (command : Command) → Reads (map string_bytes words.now) command → command.verb ≡ Decide → KeepsDecideCommand files command answer.status answer.text) }
+    ensures same { L.holds library.new ≡ L.holds library.old }
+    ensures later { L.faults library.old ≤ L.faults library.new }
+    ensures faulted { IfOk result (λ answer. (command : Command) → Reads (map string_bytes words.now) command → TellsFault (L.faults library.old) (L.faults library.new) (L.failed_at library.old) (L.failed_at library.new) (fault_opening command) answer.status answer.text) }
+    ensures counted { IsWholeFaulted (L.faults library.old) (L.faults library.new) (L.failed_at library.old) (L.failed_at library.new) result }
+{
+    let answer = answer_of(rt, alloc, words, library)?;
+    let text = text_of(alloc, &answer)?;
+    Ok(WholeAnswer {
+        status: answer.status,
+        text,
+    })
 }
 
 // The answer to the words.

@@ -14,7 +14,7 @@ ghost use Rattle.uc_top.specs.RewriteAnswers.{IsNormalFor, IsRewritten};
 ghost use Rattle.uc_top.specs.Answers.{RewriteAnswers};
 ghost use Rattle.uc_top.specs.Faulting.{AnswersFault};
 
-use crate::axioms::axioms_of;
+use crate::axioms::{are_few, axioms_of};
 use crate::loading::bytes_of;
 use std::alloc::{AllocError, Global};
 use uc_answer::{
@@ -26,7 +26,7 @@ use uc_order::OrderSpec;
 use uc_ordering::{Chosen, choose};
 use uc_problem::{Problem, load};
 use uc_rewrite::{Scan, normalise};
-use uc_term::{Equation, Symbols, Term, Text};
+use uc_term::{Symbols, Term, Text};
 use uc_words::Command;
 
 /// The answer to `rewrite` for the problem file of this name and the term that is this word, by the command's order and limit.
@@ -125,26 +125,14 @@ fn normal_answer(
 {
     let order = Chosen::new(alloc, spec, symbols, problem.signature.symbols.as_slice())?;
     let axioms = axioms_of(alloc, problem.clauses.as_slice())?;
-    let scan = scan_of(axioms.as_slice())?;
+    are_few(axioms.as_slice())?;
+    let scan = Scan::new(axioms.as_slice());
     let normal = normalise(alloc, term, &scan, &order, limit)?;
     Ok(Answer {
         status: stop_status(normal.stop),
         lines: chain_lines(alloc, &normal, symbols)?,
     })
 }
-
-// The index of the axioms. A problem never has as many as it can't number; for so many memory is wanted.
-fn scan_of(axioms: &[Equation]) -> Result<Scan<'_>, AllocError>
-    ensures { IfOk result (λ scan. scan.facts.now ≡ axioms.now) }
-{
-    if axioms.len() < MOST_AXIOMS {
-        Ok(Scan::new(axioms))
-    } else {
-        Err(AllocError)
-    }
-}
-
-const MOST_AXIOMS: usize = 2_147_483_648;
 
 fn stop_status(stop: Stop) -> u8
     ensures { result ≡ stop_status stop }

@@ -5,9 +5,9 @@ use Rattle.uc_top.proofs.Answering.{one_line, certified_by}
 use Rattle.uc_top.proofs.ProvedAnswers.{no_promise}
 use Rattle.uc_top.proofs.ProveCompleting.{promised_answers}
 use Rattle.uc_top.proofs.DecidePromises.{decided_answers}
-use Rattle.std.proofs.Common.{◌≡◌, [], ap, subst, refl}
+use Rattle.std.proofs.Common.{refl}
 use Rattle.uc_words.proofs.Only.{only}
-use Rattle.uc_top.specs.Faulting.{AnswersFault, fault_opening}
+use Rattle.uc_top.specs.Faulting.{fault_opening}
 use Rattle.uc_top.proofs.Faulted.{none_failed, status_of, no_status}
 use Rattle.uc_top.proofs.program.answer_of.Goals as goal
 

@@ -74,13 +74,13 @@ pub returns-in-Ok-clause-complete_decide : goal.returns-in-Ok-clause-complete_de
 returns-in-Ok-clause-complete_decide g c = decide_completes _ _ _ _ _ _ _ _ _ (record { status = _; text = _; answer = c.in-Ok.ensures.answers; told = c.tell.ensures.told })
 
 pub returns-in-Ok-clause-faulted : goal.returns-in-Ok-clause-faulted
-returns-in-Ok-clause-faulted g c = tells (g.L.Library.faults c.args.library.now) (g.L.Library.faults c.answer_of.new.library) (g.L.Library.failed_at c.args.library.now) (g.L.Library.failed_at c.answer_of.new.library) c.in-Ok.ensures.counted c.tell.ensures.counted
+returns-in-Ok-clause-faulted g c = tells (g.L.Library.faults c.args.library.now) (g.L.Library.faults c.whole_answer.new.library) (g.L.Library.failed_at c.args.library.now) (g.L.Library.failed_at c.whole_answer.new.library) c.in-Ok.ensures.counted c.tell.ensures.counted
 
 pub returns-in-Err-clause-faulted : goal.returns-in-Err-clause-faulted
-returns-in-Err-clause-faulted g c = wants (g.L.Library.faults c.args.library.now) (g.L.Library.faults c.answer_of.new.library) (g.L.Library.failed_at c.args.library.now) (g.L.Library.failed_at c.answer_of.new.library) c.in-Err.ensures.counted.0 c.in-Err.ensures.counted.1 c.tell_memory_out.ensures.counted
+returns-in-Err-clause-faulted g c = wants (g.L.Library.faults c.args.library.now) (g.L.Library.faults c.whole_answer.new.library) (g.L.Library.failed_at c.args.library.now) (g.L.Library.failed_at c.whole_answer.new.library) c.in-Err.ensures.counted.0 c.in-Err.ensures.counted.1 c.tell_memory_out.ensures.counted
 
 pub returns-in-Ok-clause-named : goal.returns-in-Ok-clause-named
-returns-in-Ok-clause-named g c five command reads file counted = named (g.L.Library.faults c.args.library.now) (g.L.Library.faults c.answer_of.new.library) (g.L.Library.failed_at c.args.library.now) (g.L.Library.failed_at c.answer_of.new.library) file c.tell.ensures.told five (c.in-Ok.ensures.faulted command reads) counted
+returns-in-Ok-clause-named g c five command reads file counted = named (g.L.Library.faults c.args.library.now) (g.L.Library.faults c.whole_answer.new.library) (g.L.Library.failed_at c.args.library.now) (g.L.Library.failed_at c.whole_answer.new.library) file c.tell.ensures.told five (c.in-Ok.ensures.faulted command reads) counted
 
 pub returns-in-Err-clause-named : goal.returns-in-Err-clause-named
 returns-in-Err-clause-named g c five command reads file counted = absurd (never_five c.tell_memory_out.ensures.counted five)
@@ -114,3 +114,9 @@ returns-in-Err-clause-modelled g c = keeps_model_word _ 0 0 _ _ _ _ _ _ (record 
 
 pub returns-in-Ok-clause-modelled : goal.returns-in-Ok-clause-modelled
 returns-in-Ok-clause-modelled g c = keeps_model_word _ _ _ _ _ _ _ _ _ (record { status = _; text = _; answer = c.in-Ok.ensures.answers; told = c.tell.ensures.told })
+
+pub returns-in-Ok-clause-given : goal.returns-in-Ok-clause-given
+returns-in-Ok-clause-given g c = record { status = _; text = _; answer = c.in-Ok.ensures.answers; gives = c.tell.ensures.given }
+
+pub returns-in-Err-clause-given : goal.returns-in-Err-clause-given
+returns-in-Err-clause-given g c = record { status = 7; text = _; answer = wants_memory; gives = c.tell_memory_out.ensures.given }
