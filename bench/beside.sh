@@ -1,9 +1,10 @@
 #!/usr/bin/env bash
-# How fast `prove` searches beside a plain program that makes the same search: bench/beside.sh UC PLAIN [SECONDS]. Both run in turn
-# on eight problems with a budget of 1,000, 5,000 and 20,000 joins, and a line each tells the joins that were made, how many joins
-# and pairs each of them makes a second in processor seconds, its memory in MB, and by how much UC is slower. A run of UC that takes
-# more than SECONDS (300) is left out, and so are the larger budgets of that problem. The joins and pairs are counted in the history
-# that PLAIN tells; `cmp` on small budgets shows that UC tells the same. Wants GNU time. Run it at the top of the repository.
+# How fast `prove` searches beside a plain program that makes the same search: bench/beside.sh UC PLAIN [SECONDS [BUDGET..]]. Both run
+# on eight problems with a budget of 1,000, 5,000 and 20,000 joins, or of BUDGET.., three times in turn, and a line each tells the joins
+# that were made, how many joins and pairs each of them makes a second in processor seconds, its memory in MB, and by how much UC is
+# slower; of the three times the least counts. A run of UC that takes more than SECONDS (300) is left out, and so are the larger budgets
+# of that problem. The joins and pairs are counted in the history that PLAIN tells; `cmp` on small budgets shows that UC tells the same.
+# Wants GNU time. Run it at the top of the repository.
 set -euo pipefail
 cd "$(dirname "$0")/.."
 if [ $# -lt 2 ]; then
@@ -13,6 +14,8 @@ fi
 uc=$1
 plain=$2
 most=${3:-300}
+budgets=("${@:4}")
+[ $# -gt 3 ] || budgets=(1000 5000 20000)
 folder=$(mktemp -d)
 trap 'rm -rf "$folder"' EXIT
 awk -v n=4000 -f bench/ground.awk >"$folder/ground.p"
@@ -36,14 +39,17 @@ counted() {
 }
 printf '%-14s %7s %7s %9s | %9s %9s %5s | %9s %9s %5s | %6s\n' problem budget joins pairs "joins/s" "pairs/s" MB "joins/s" "pairs/s" MB slower
 while read -r name file; do
-    for budget in 1000 5000 20000; do
+    for budget in "${budgets[@]}"; do
         read -r joins pairs < <(counted "$budget" "$file")
-        ours=$(timed 1 "$uc" "$budget" "$file") || { printf '%-14s %7d   more than %s s\n' "$name" "$budget" "$most"; break; }
-        theirs=$(timed 5 "$plain" "$budget" "$file")
-        again=$(timed 1 "$uc" "$budget" "$file")
-        echo "$name $budget $joins $pairs $ours $again $theirs" | awk '{
-            t = $5 < $7 ? $5 : $7; u = $9 > 0 ? $9 : 0.001
-            printf "%-14s %7d %7d %9d | %9.0f %9.0f %5d | %9.0f %9.0f %5d | %6.1f\n", $1, $2, $3, $4, $3 / t, $4 / t, $6, $3 / u, $4 / u, $10, t / u }'
+        rm -f "$folder/ours" "$folder/theirs"
+        for _ in 1 2 3; do
+            timed 1 "$uc" "$budget" "$file" >>"$folder/ours" || break
+            timed 5 "$plain" "$budget" "$file" >>"$folder/theirs"
+        done
+        [ -s "$folder/ours" ] || { printf '%-14s %7d   more than %s s\n' "$name" "$budget" "$most"; break; }
+        echo "$name $budget $joins $pairs $(sort -g "$folder/ours" | head -1) $(sort -g "$folder/theirs" | head -1)" | awk '{
+            t = $5 > 0 ? $5 : 0.001; u = $7 > 0 ? $7 : 0.001
+            printf "%-14s %7d %7d %9d | %9.0f %9.0f %5d | %9.0f %9.0f %5d | %6.1f\n", $1, $2, $3, $4, $3 / t, $4 / t, $6, $3 / u, $4 / u, $8, t / u }'
         [ "$joins" -ge "$((budget * 9 / 10))" ] || break
     done
 done <<END

@@ -17,13 +17,17 @@ phases() {
         share = $1; sub(/%/, "", share); name = $0
         phase = "the rest"
         if (name ~ /uc_kbo|uc_lpo|uc_ordering|uc_order/) phase = "comparing"
-        else if (name ~ /uc_rewrite|uc_unify|uc_fact/) phase = "normalising"
-        else if (name ~ /uc_pair/) phase = "overlaps"
+        else if (name ~ /uc_unify::(unification|closure|sizes|solution)/) phase = "unifying"
+        else if (name ~ /uc_unify|uc_fact/) phase = "matching"
+        else if (name ~ /uc_rewrite/) phase = "normalising"
+        else if (name ~ /uc_pair|uc_task/) phase = "overlaps"
         else if (name ~ /uc_ground/) phase = "ground joinability"
         else if (name ~ /uc_shelf|uc_disc|boxcar/) phase = "fronts"
-        else if (name ~ /uc_book|uc_rows|uc_queue|uc_ledger|uc_machine/) phase = "the book"
+        else if (name ~ /uc_book|uc_rows|uc_queue|uc_ledger|uc_machine|uc_search/) phase = "the book"
+        else if (name ~ /std_alloc|std_heap|malloc|free|realloc|libc::heap/) phase = "memory"
+        else if (name ~ /memmove|memset|memcpy|memcmp/) phase = "copying and clearing"
+        else if (name ~ /uc_term/) phase = "terms"
         sum[phase] += share
-        if (name ~ /uc_shelf::shelf::Front::copy/) sum["of the fronts, copying"] += share
     } END { for (phase in sum) printf "  %5.1f %%  %s\n", sum[phase], phase }' | sort -rn
 }
 runs_of() {
@@ -50,7 +54,7 @@ search() {
     if command -v perf >/dev/null; then
         export -f runs_of
         program=$program perf record -q -F 5000 -o "$folder/perf" bash -c 'runs_of "$@"' _ "$runs" "$@" "examples/$problem" >/dev/null 2>&1 || true
-        perf report -q -i "$folder/perf" --stdio --sort symbol 2>/dev/null | grep '%' | phases
+        perf report -q -i "$folder/perf" --comms "$(basename "$program" | cut -c1-15)" --stdio --sort symbol 2>/dev/null | grep '%' | phases
     fi
 }
 search 20 boolean-double-complement.p

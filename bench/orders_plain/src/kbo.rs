@@ -2,7 +2,7 @@
 
 use crate::node::{Cmp, Node, Sym, end_of_terms};
 
-const COUNTERS: usize = 64;
+const COUNTERS: usize = 32;
 
 #[derive(Clone, Copy)]
 struct Slot {
