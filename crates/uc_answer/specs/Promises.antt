@@ -19,7 +19,7 @@ use Rattle.uc_fact.specs.declared.fact.System.{System}
 use Rattle.uc_machine.specs.declared.event.Verdict.{Verdict}
 use Rattle.uc_machine.specs.State.{State}
 use Rattle.uc_runs.specs.Causes.{Causes}
-use Rattle.uc_search.specs.Searching.{IsSearched}
+use Rattle.uc_worker.specs.Ends.{IsSearchedBy}
 use Rattle.uc_decide.specs.NormalForms.{HasNormalForm, HasOneNormalForm}
 use Rattle.uc_decide.specs.Deciding.{Decides}
 use Rattle.uc_system.specs.Reading.{ReadsSystem}
@@ -81,14 +81,14 @@ pub record IsSettled (table : Table) (name : List ℕ) (problem : Problem) (spec
 
 -- A LIMIT
 
--- the answer names a limit, with its cause
+-- The answer names the limit that ended a search by the command's workers. The verdict came in a state of the run that has its cause.
 pub record IsStopped (table : Table) (command : Command) (name : List ℕ) (problem : Problem) (spec : OrderSpec) (answer : List ℕ) : Type 0 where
   pub encoded : Encoded
   pub encodes : Encodes table problem (Ok encoded)
   pub verdict : Verdict
   pub state : State
-  pub searched : IsSearched (meaning_of table spec) (opening_for command encoded) 0 verdict state
-  pub cause : Causes (meaning_of table spec) (opening_for command encoded) state verdict
+  pub searched : IsSearchedBy (meaning_of table spec) (opening_for command encoded) command.workers verdict state
+  pub cause : Causes (meaning_of table spec) (opening_for command encoded) searched.ended.came.then_ verdict
   pub line : List ℕ
   pub line_is : IsLimitLine command state verdict line
   pub history : List ℕ

@@ -7,7 +7,7 @@ use Rattle.uc_machine.specs.declared.event.GoalEnd.TheVariants as end
 use Rattle.uc_machine.specs.declared.event.Happening.{Happening}
 use Rattle.uc_machine.specs.declared.event.Happening.TheVariants as what
 use Rattle.uc_machine.specs.declared.event.Event.{Event}
-use Rattle.uc_machine.specs.Events.{commits_by}
+use Rattle.uc_worker.specs.Commits.{shares_of}
 use Rattle.uc_answer.specs.Lines.{spaced}
 
 abbrev pub ending_word : Ending → List ℕ
@@ -68,6 +68,11 @@ event_lines number (e ∷ es) = event_line number e ++ event_lines (number + 1) 
 abbrev pub share_text : ℕ → ℕ → List ℕ
 share_text worker commits = codes "% share w" ++ decimal worker ++ spaced (decimal commits) ++ codes "\n"
 
--- the events, from 1 on, and the share of worker 0, who is alone
-abbrev pub trace_text : List Event → List ℕ
-trace_text history = event_lines 1 history ++ share_text 0 (commits_by 0 history)
+-- the lines of the shares of workers, of whom the first has this number
+abbrev pub share_lines : ℕ → List ℕ → List ℕ
+share_lines worker [] = []
+share_lines worker (commits ∷ shares) = share_text worker commits ++ share_lines (worker + 1) shares
+
+-- the events, from 1 on, and the shares of the first n workers, from worker 0 on
+abbrev pub trace_text : ℕ → List Event → List ℕ
+trace_text n history = event_lines 1 history ++ share_lines 0 (shares_of n history)

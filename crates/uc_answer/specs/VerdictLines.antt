@@ -13,7 +13,8 @@ use Rattle.uc_shelf.specs.Entries.{born, live}
 use Rattle.uc_machine.specs.declared.event.Verdict.{Verdict}
 use Rattle.uc_machine.specs.declared.event.Verdict.TheVariants.{Proved, Saturated}
 use Rattle.uc_machine.specs.State.{Opening, State, Target}
-use Rattle.uc_search.specs.Searching.{IsSearched}
+use Rattle.uc_worker.specs.Ends.{IsSearchedBy}
+use Rattle.uc_worker.specs.Hands.{hands_of}
 use Rattle.uc_proof.specs.Extracted.{IsExtracted}
 use Rattle.uc_system.specs.Printing.{system_text}
 use Rattle.uc_words.specs.declared.command.Command.{Command}
@@ -24,9 +25,9 @@ use Rattle.uc_answer.specs.TraceLines.{trace_text}
 use Rattle.uc_answer.specs.StatusLines.{line_for, status_line}
 use Rattle.uc_answer.specs.LimitLines.{IsLimitLine}
 
--- the history, where the command asks for it
+-- the history with the shares of all hands, where the command asks for it
 abbrev pub trace_if : Command → State → List ℕ
-trace_if command s = cond command.trace (trace_text s.history) []
+trace_if command s = cond command.trace (trace_text (hands_of command.workers) s.history) []
 
 -- what a book is opened with for an encoded problem
 abbrev pub opening_for : Command → Encoded → Opening
@@ -37,14 +38,14 @@ verdict_status (Proved goal) = 0
 verdict_status Saturated = 1
 verdict_status other = 2
 
--- Worker 0 searched alone for an encoded problem, by an order for its signature, up to this verdict and state. Symbols are those of
--- this table.
+-- The command's workers searched for an encoded problem, by an order for its signature, up to this verdict and state. Symbols are
+-- those of this table.
 pub record HasEnded (table : Table) (command : Command) (problem : Problem) (encoded : Encoded) (spec : OrderSpec) (v : Verdict) (s : State) : Type 0 where
   pub agrees : Agrees table problem
   pub encodes : Encodes table problem (Ok encoded)
   pub chosen : IsChosen table problem.signature command.order encoded.fresh spec
   pub fits : Fits table encoded.signature.symbols spec
-  pub searched : IsSearched (meaning_of table spec) (opening_for command encoded) 0 v s
+  pub searched : IsSearchedBy (meaning_of table spec) (opening_for command encoded) command.workers v s
 
 -- Symbols are those of this table, and the problem file has this name.
 module _ (table : Table) (command : Command) (name : List ℕ) where

@@ -54,11 +54,15 @@ IsBuilt verb.Table = Unit {0}
 IsBuilt verb.Model = Unit {0}
 IsBuilt other = ⊥
 
--- the commands that are built and search, each by one worker so far
+-- the commands that are built and search, by as many workers as the words ask for
 abbrev pub IsSearching : Verb → Type 0
 IsSearching verb.Prove = Unit {0}
 IsSearching verb.Decide = Unit {0}
 IsSearching other = ⊥
+
+-- where the words name a command that searches, they ask for one worker
+abbrev pub SearchesAlone : List (List ℕ) → Type 0
+SearchesAlone words = (command : Command) → Reads words command → IsSearching command.verb → command.workers ≡ 1
 
 -- Symbols are those of this table.
 module _ (table : Table) where
@@ -115,7 +119,7 @@ module _ (holds : Option Files) (before now : ℕ) where
   abbrev pub PairsAnswers : OrderWords → Option (List ℕ) → List ℕ → ℕ → List ℕ → Type 0
   PairsAnswers order root name = LoadAnswers (λ table. IsPaired table order) root name
 
-  -- the answer to `decide` for the problem file of this name and these questions, by one worker
+  -- the answer to `decide` for the problem file of this name and these questions
   abbrev pub DecideAnswers : Command → List ℕ → List (List ℕ) → ℕ → List ℕ → Type 0
   DecideAnswers command name questions = LoadAnswers (λ table. IsDecided table command name questions) command.root name
 
@@ -132,13 +136,12 @@ module _ (holds : Option Files) (before now : ℕ) where
     pub data Answers : ℕ → List ℕ → Type 0 where
       has_no_reading : ((command : Command) → Reads words command → ⊥) → Answers 4 usage_line
       isnt_built : {command : Command} → Reads words command → (IsBuilt command.verb → ⊥) → Answers 4 usage_line
-      has_many_workers : {command : Command} → Reads words command → IsSearching command.verb → (command.workers ≡ 1 → ⊥) → Answers 4 usage_line
       checks : {command : Command} {name proof : List ℕ} {status : ℕ} {answer : List ℕ} → Reads words command → command.verb ≡ verb.Check → command.positionals ≡ name ∷ proof ∷ [] → CheckAnswers command.root name proof status answer → Answers status answer
       shows : {command : Command} {name : List ℕ} {status : ℕ} {answer : List ℕ} → Reads words command → command.verb ≡ verb.Show → command.positionals ≡ name ∷ [] → ShowAnswers command.root name status answer → Answers status answer
       orders : {command : Command} {name : List ℕ} {status : ℕ} {answer : List ℕ} → Reads words command → command.verb ≡ verb.Order → command.positionals ≡ name ∷ [] → OrderAnswers command.order command.root name status answer → Answers status answer
       rewrites : {command : Command} {name word : List ℕ} {status : ℕ} {answer : List ℕ} → Reads words command → command.verb ≡ verb.Rewrite → command.positionals ≡ name ∷ word ∷ [] → RewriteAnswers command.order command.limit word command.root name status answer → Answers status answer
       pairs_up : {command : Command} {name : List ℕ} {status : ℕ} {answer : List ℕ} → Reads words command → command.verb ≡ verb.Pairs → command.positionals ≡ name ∷ [] → PairsAnswers command.order command.root name status answer → Answers status answer
-      proves : {command : Command} {name : List ℕ} {status : ℕ} {answer : List ℕ} → Reads words command → command.verb ≡ verb.Prove → command.workers ≡ 1 → command.positionals ≡ name ∷ [] → ProveAnswers command name holds before now status answer → Answers status answer
-      decides : {command : Command} {name : List ℕ} {questions : List (List ℕ)} {status : ℕ} {answer : List ℕ} → Reads words command → command.verb ≡ verb.Decide → command.workers ≡ 1 → command.positionals ≡ name ∷ questions → DecideAnswers command name questions status answer → Answers status answer
+      proves : {command : Command} {name : List ℕ} {status : ℕ} {answer : List ℕ} → Reads words command → command.verb ≡ verb.Prove → command.positionals ≡ name ∷ [] → ProveAnswers command name holds before now status answer → Answers status answer
+      decides : {command : Command} {name : List ℕ} {questions : List (List ℕ)} {status : ℕ} {answer : List ℕ} → Reads words command → command.verb ≡ verb.Decide → command.positionals ≡ name ∷ questions → DecideAnswers command name questions status answer → Answers status answer
       tables : {command : Command} {name file : List ℕ} {status : ℕ} {answer : List ℕ} → Reads words command → command.verb ≡ verb.Table → command.positionals ≡ name ∷ file ∷ [] → TableAnswers command.root name file status answer → Answers status answer
       models : {command : Command} {name : List ℕ} {status : ℕ} {answer : List ℕ} → Reads words command → command.verb ≡ verb.Model → command.positionals ≡ name ∷ [] → ModelAnswers command name status answer → Answers status answer

@@ -1,4 +1,4 @@
--- What `decide` answers for a problem and questions, by one worker.
+-- What `decide` answers for a problem and questions.
 use Rattle.std.specs.Prelude.{ℕ, ◌≡◌, List, [], ◌++◌, codes, None}
 use Rattle.uc_term.specs.Tree.{Tree}
 use Rattle.uc_term.specs.Table.{Table}
@@ -10,7 +10,7 @@ use Rattle.uc_shelf.specs.Entries.{live}
 use Rattle.uc_machine.specs.declared.event.Verdict.{Verdict}
 use Rattle.uc_machine.specs.declared.event.Verdict.TheVariants.{Saturated}
 use Rattle.uc_machine.specs.State.{Opening, State}
-use Rattle.uc_search.specs.Searching.{IsSearched}
+use Rattle.uc_worker.specs.Ends.{IsSearchedBy}
 use Rattle.uc_decide.specs.declared.reply.Reply.{Reply}
 use Rattle.uc_words.specs.declared.command.Command.{Command}
 use Rattle.uc_ordering.specs.declared.fault.ChoiceFault.{ChoiceFault}
@@ -42,10 +42,10 @@ facts_of s = numbered (equations_of (live s.entries))
 module _ (table : Table) (command : Command) (name : List ℕ) (words : List (List ℕ)) where
   -- The order is chosen first, for the problem's own signature, in which the symbols of its goals count. Then the words are
   -- read as questions over this signature. Since questions have known symbols alone, they leave the table as it is. Then
-  -- worker 0 searches alone from the axioms. Where their system is saturated, each question has its reply by the facts that
-  -- live; else a limit ended the search.
+  -- the command's workers search from the axioms. Where their system is saturated, each question has its reply by the facts
+  -- that live; else a limit ended the search.
   pub data IsDecided (problem : Problem) : ℕ → List ℕ → Type 0 where
     is_unordered : {why : ChoiceFault} → IsChoiceFault table problem.signature command.order why → (why ≡ choice.NoMemory → ⊥) → IsDecided problem 4 (choice_line why)
     is_no_question : {spec : OrderSpec} {number : ℕ} {why : WordFault} → IsChosen table problem.signature command.order None spec → IsFirstFault table problem.signature.symbols words number why → (why ≡ NoMemory → ⊥) → IsDecided problem 3 (word_line number why)
-    is_answered : {spec : OrderSpec} {questions : List (Tree × Tree)} {s : State} {replies : List Reply} → IsChosen table problem.signature command.order None spec → AreQuestions table problem.signature.symbols words questions → IsSearched (meaning_of table spec) (opening_of_axioms command problem) 0 Saturated s → AreReplies (meaning_of table spec) (facts_of s) command.steps questions replies → IsDecided problem (replies_status replies) (reply_lines table replies)
-    is_out : {spec : OrderSpec} {questions : List (Tree × Tree)} {v : Verdict} {s : State} {line : List ℕ} → IsChosen table problem.signature command.order None spec → AreQuestions table problem.signature.symbols words questions → IsSearched (meaning_of table spec) (opening_of_axioms command problem) 0 v s → IsLimitLine command s v line → IsDecided problem 2 (status_line (codes "ResourceOut") name ++ line)
+    is_answered : {spec : OrderSpec} {questions : List (Tree × Tree)} {s : State} {replies : List Reply} → IsChosen table problem.signature command.order None spec → AreQuestions table problem.signature.symbols words questions → IsSearchedBy (meaning_of table spec) (opening_of_axioms command problem) command.workers Saturated s → AreReplies (meaning_of table spec) (facts_of s) command.steps questions replies → IsDecided problem (replies_status replies) (reply_lines table replies)
+    is_out : {spec : OrderSpec} {questions : List (Tree × Tree)} {v : Verdict} {s : State} {line : List ℕ} → IsChosen table problem.signature command.order None spec → AreQuestions table problem.signature.symbols words questions → IsSearchedBy (meaning_of table spec) (opening_of_axioms command problem) command.workers v s → IsLimitLine command s v line → IsDecided problem 2 (status_line (codes "ResourceOut") name ++ line)

@@ -16,7 +16,7 @@ use Rattle.uc_machine.specs.declared.event.Verdict.{Verdict}
 use Rattle.uc_machine.specs.declared.event.Verdict.TheVariants.{Saturated}
 use Rattle.uc_machine.specs.State.{State}
 use Rattle.uc_runs.specs.Causes.{Causes}
-use Rattle.uc_search.specs.Searching.{IsSearched}
+use Rattle.uc_worker.specs.Ends.{IsSearchedBy}
 use Rattle.uc_decide.specs.declared.reply.Reply.{Reply}
 use Rattle.uc_decide.specs.Deciding.{Decides}
 use Rattle.uc_decide.specs.Asking.{IsVerdict}
@@ -43,7 +43,7 @@ use Rattle.uc_top.specs.Runs.{EndsWith}
 -- came before a normal form.
 pub record IsAnswered (table : Table) (command : Command) (problem : Problem) (spec : OrderSpec) (questions : List (Tree × Tree)) (status : ℕ) (answer : List ℕ) : Type 0 where
   pub state : State
-  pub searched : IsSearched (meaning_of table spec) (opening_of_axioms command problem) 0 Saturated state
+  pub searched : IsSearchedBy (meaning_of table spec) (opening_of_axioms command problem) command.workers Saturated state
   pub decides : Decides (meaning_of table spec) (equations_of (live state.entries)) (axioms_of problem.clauses)
   pub replies : List Reply
   pub are_replies : AreReplies (meaning_of table spec) (facts_of state) command.steps questions replies
@@ -51,12 +51,12 @@ pub record IsAnswered (table : Table) (command : Command) (problem : Problem) (s
   pub status_is : status ≡ replies_status replies
   pub answer_is : answer ≡ reply_lines table replies
 
--- the answer names a limit that ended the search, with its cause
+-- The answer names the limit that ended the search. The verdict came in a state of the run that has its cause.
 pub record IsOut (table : Table) (command : Command) (name : List ℕ) (problem : Problem) (spec : OrderSpec) (status : ℕ) (answer : List ℕ) : Type 0 where
   pub verdict : Verdict
   pub state : State
-  pub searched : IsSearched (meaning_of table spec) (opening_of_axioms command problem) 0 verdict state
-  pub cause : Causes (meaning_of table spec) (opening_of_axioms command problem) state verdict
+  pub searched : IsSearchedBy (meaning_of table spec) (opening_of_axioms command problem) command.workers verdict state
+  pub cause : Causes (meaning_of table spec) (opening_of_axioms command problem) searched.ended.came.then_ verdict
   pub line : List ℕ
   pub line_is : IsLimitLine command state verdict line
   pub status_is : status ≡ 2
@@ -86,14 +86,13 @@ pub record KeepsDecision (files : Files) (command : Command) (name : List ℕ) (
   pub distinct : IsDistinct table
   pub is_decided : IsDecidedBy table files command name words status answer
 
--- So it is where the command is `decide`, with one worker.
+-- So it is where the command is `decide`.
 abbrev pub KeepsDecideCommand : Files → Command → ℕ → List ℕ → Type 0
-KeepsDecideCommand files command status answer = (name : List ℕ) (words : List (List ℕ)) → command.workers ≡ 1 → command.positionals ≡ name ∷ words → KeepsDecision files command name words status answer
+KeepsDecideCommand files command status answer = (name : List ℕ) (words : List (List ℕ)) → command.positionals ≡ name ∷ words → KeepsDecision files command name words status answer
 
--- So it is of a run whose words are those of `decide`, with one worker, and that ends with status 0, 1 or 2: the sink was given
--- such an answer.
+-- So it is of a run whose words are those of `decide`, and that ends with status 0, 1 or 2: the sink was given such an answer.
 abbrev pub KeepsDecideWord : Files → List (List ℕ) → Option (List ℕ) → Option (List ℕ) → ℕ → Type 0
-KeepsDecideWord files all old new result = (command : Command) (name : List ℕ) (words : List (List ℕ)) → Reads all command → command.verb ≡ Decide → command.workers ≡ 1 → command.positionals ≡ name ∷ words → result ≤ 2 → (answer : List ℕ) × KeepsDecision files command name words result answer × Appends old new answer
+KeepsDecideWord files all old new result = (command : Command) (name : List ℕ) (words : List (List ℕ)) → Reads all command → command.verb ≡ Decide → command.positionals ≡ name ∷ words → result ≤ 2 → (answer : List ℕ) × KeepsDecision files command name words result answer × Appends old new answer
 
 -- ONE LINE FOR A QUESTION
 
@@ -114,7 +113,7 @@ pub data EndAnswers (table : Table) (command : Command) (name : List ℕ) (spec 
   tells_replies : {replies : List Reply} → AreReplies (meaning_of table spec) (facts_of s) command.steps questions replies → EndAnswers table command name spec questions s Saturated (replies_status replies) (reply_lines table replies)
   tells_limit : {v : Verdict} {line : List ℕ} → IsLimitLine command s v line → EndAnswers table command name spec questions s v 2 (status_line (codes "ResourceOut") name ++ line)
 
--- The status and the answer are those of the search by worker 0 alone, for the problem of this name that the files have, the order
+-- The status and the answer are those of a search by the command's workers, for the problem of this name that the files have, the order
 -- that the words name for it and the questions that they ask, with the symbols in the table that loading it leaves, whose entries are
 -- all different.
 pub record IsHeldDecision (files : Files) (command : Command) (name : List ℕ) (words : List (List ℕ)) (status : ℕ) (answer : List ℕ) : Type 0 where
@@ -129,7 +128,7 @@ pub record IsHeldDecision (files : Files) (command : Command) (name : List ℕ) 
   pub are_questions : AreQuestions table problem.signature.symbols words questions
   pub verdict : Verdict
   pub state : State
-  pub searched : IsSearched (meaning_of table spec) (opening_of_axioms command problem) 0 verdict state
+  pub searched : IsSearchedBy (meaning_of table spec) (opening_of_axioms command problem) command.workers verdict state
   pub answers : EndAnswers table command name spec questions state verdict status answer
 
 -- How `decide` ends for questions: with this answer, or for want of memory, which is free.
@@ -144,7 +143,7 @@ pub record DecideEnds (table : Table) (files : Files) (command : Command) (name 
   -- one is none
   pub no_question : (number : ℕ) (why : WordFault) → IsFirstFault table problem.signature.symbols words number why → (why ≡ NoMemory → ⊥) → EndsWith 3 (word_line number why) old new result
 
--- Where the words of `decide`, with one worker, name an order for a problem that the files hold, `decide` ends so, with the problem's
+-- Where the words of `decide` name an order for a problem that the files hold, `decide` ends so, with the problem's
 -- symbols in the table that loading it leaves.
 abbrev pub CompletesDecide : Files → List (List ℕ) → Option (List ℕ) → Option (List ℕ) → ℕ → Type 0
-CompletesDecide files all old new result = (command : Command) (name : List ℕ) (words : List (List ℕ)) (table : Table) (problem : Problem) (spec : OrderSpec) → Reads all command → command.verb ≡ Decide → command.workers ≡ 1 → command.positionals ≡ name ∷ words → IsDistinct table → IsLoaded files command.root name table problem → IsChosen table problem.signature command.order None spec → DecideEnds table files command name problem words old new result
+CompletesDecide files all old new result = (command : Command) (name : List ℕ) (words : List (List ℕ)) (table : Table) (problem : Problem) (spec : OrderSpec) → Reads all command → command.verb ≡ Decide → command.positionals ≡ name ∷ words → IsDistinct table → IsLoaded files command.root name table problem → IsChosen table problem.signature command.order None spec → DecideEnds table files command name problem words old new result

@@ -13,7 +13,7 @@ use Rattle.uc_shelf.specs.Entries.{live}
 use Rattle.uc_machine.specs.declared.event.Verdict.{Verdict}
 use Rattle.uc_machine.specs.declared.event.Verdict.TheVariants.{Saturated}
 use Rattle.uc_machine.specs.State.{Opening, State}
-use Rattle.uc_search.specs.Searching.{IsSearched}
+use Rattle.uc_worker.specs.Ends.{IsSearchedBy}
 use Rattle.uc_decide.specs.declared.reply.Reply.{Reply}
 use Rattle.uc_decide.specs.Deciding.{Decides}
 use Rattle.uc_words.specs.declared.command.Command.{Command}
@@ -46,9 +46,9 @@ module _ (table : Table) (m : Meaning) (command : Command) (name : List ℕ) (ax
     tells_replies : {replies : List Reply} → Decides m (equations_of (live s.entries)) axioms → AreReplies m (facts_of s) command.steps questions replies → AreRight m axioms questions replies → TellsEnd s Saturated (replies_status replies) (reply_lines table replies)
     tells_limit : {v : Verdict} {line : List ℕ} → IsLimitLine command s v line → TellsEnd s v 2 (status_line (codes "ResourceOut") name ++ line)
 
-  -- worker 0 searched alone from the opening, and this is told
+  -- the command's workers searched from the opening, and this is told
   pub record IsToldBySearch (o : Opening) (status : ℕ) (answer : List ℕ) : Type 0 where
     pub verdict : Verdict
     pub state : State
-    pub searched : IsSearched m o 0 verdict state
+    pub searched : IsSearchedBy m o command.workers verdict state
     pub told : TellsEnd state verdict status answer

@@ -4,8 +4,8 @@ use Rattle.uc_edge.specs.Files.{Files}
 use Rattle.uc_top.specs.ProveRuns.{KeepsWord}
 use Rattle.uc_top.specs.DecideRuns.{KeepsDecideWord}
 
--- Whatever the words and the files of a library are: where a run of `prove` or of `decide`, by one worker, ends with status 0, 1 or
--- 2, what the sink was given is right.
+-- Whatever the words and the files of a library are, and in whatever order the workers come to the book: where a run of `prove` or of
+-- `decide` ends with status 0, 1 or 2, what the sink was given is right.
 --
 -- * `prove`, by its status: a proof, which, read back, derives a goal of the problem from its axioms by instances and replacement
 --   of equals; a system, read back, under which every ground term has exactly one normal form, two terms share it exactly if

@@ -1,4 +1,4 @@
--- What `prove` answers for a problem, by one worker.
+-- What `prove` answers for a problem.
 use Rattle.std.specs.Prelude.{ℕ, ◌≡◌, List, [], ◌++◌, codes, slice_get, Option, Some, Ok, Err}
 use Rattle.uc_term.specs.Table.{Table, IsDistinct}
 use Rattle.uc_edge.specs.Files.{Files}
@@ -16,7 +16,7 @@ use Rattle.uc_problem.specs.Filling.{WhereTold, AddsMarks}
 use Rattle.uc_order.specs.declared.spec.OrderSpec.{OrderSpec}
 use Rattle.uc_machine.specs.declared.event.Verdict.{Verdict}
 use Rattle.uc_machine.specs.State.{State}
-use Rattle.uc_search.specs.Searching.{IsSearched}
+use Rattle.uc_worker.specs.Ends.{IsSearchedBy}
 use Rattle.uc_words.specs.declared.command.Command.{Command}
 use Rattle.uc_ordering.specs.declared.fault.ChoiceFault.{ChoiceFault}
 use Rattle.uc_ordering.specs.declared.fault.ChoiceFault.TheVariants.{NoMemory}
@@ -31,13 +31,13 @@ use Rattle.uc_top.specs.Loaded.{IsLoaded}
 
 -- Symbols are those of this table, and the problem file has this name.
 module _ (table : Table) (command : Command) (name : List ℕ) where
-  -- A goal is too large to be encoded; or the order is refused; or worker 0 searches alone by the order that the words and the
-  -- defaults name for the encoded problem, and the answer is that for its book's verdict. Where no goal is too large,
+  -- A goal is too large to be encoded; or the order is refused; or the command's workers search by the order that the words and
+  -- the defaults name for the encoded problem, and the answer is that for their book's verdict. Where no goal is too large,
   -- encoding makes the table of the one that loading left.
   pub data IsProveAnswer (loaded : Table) (problem : Problem) : ℕ → List ℕ → Type 0 where
     has_large_goal : {number : ℕ} {goal : Sourced} → Encodes table problem (Err (GoalTooLarge number)) → slice_get problem.clauses number ≡ Some goal → IsProveAnswer loaded problem 3 (status_line (codes "InputError") name ++ large_line goal)
     is_unordered : {encoded : Encoded} {why : ChoiceFault} → AddsMarks loaded table encoded.fresh → Encodes table problem (Ok encoded) → IsChoiceFault table problem.signature command.order why → (why ≡ NoMemory → ⊥) → IsProveAnswer loaded problem 4 (choice_line why)
-    is_searched : {encoded : Encoded} {spec : OrderSpec} {v : Verdict} {s : State} {text : List ℕ} → AddsMarks loaded table encoded.fresh → Encodes table problem (Ok encoded) → IsChosen table problem.signature command.order encoded.fresh spec → IsSearched (meaning_of table spec) (opening_for command encoded) 0 v s → VerdictAnswers table command name problem encoded spec s v text → IsProveAnswer loaded problem (verdict_status v) (text ++ trace_if command s)
+    is_searched : {encoded : Encoded} {spec : OrderSpec} {v : Verdict} {s : State} {text : List ℕ} → AddsMarks loaded table encoded.fresh → Encodes table problem (Ok encoded) → IsChosen table problem.signature command.order encoded.fresh spec → IsSearchedBy (meaning_of table spec) (opening_for command encoded) command.workers v s → VerdictAnswers table command name problem encoded spec s v text → IsProveAnswer loaded problem (verdict_status v) (text ++ trace_if command s)
 
 -- The library's files are these, where it tells them, and its count of faults was and is this.
 module _ (command : Command) (name : List ℕ) (holds : Option Files) (before now : ℕ) where

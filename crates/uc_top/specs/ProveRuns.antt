@@ -11,7 +11,7 @@ use Rattle.uc_problem.specs.Encodes.{Encodes}
 use Rattle.uc_order.specs.declared.spec.OrderSpec.{OrderSpec}
 use Rattle.uc_machine.specs.declared.event.Verdict.{Verdict}
 use Rattle.uc_machine.specs.State.{State}
-use Rattle.uc_search.specs.Searching.{IsSearched}
+use Rattle.uc_worker.specs.Ends.{IsSearchedBy}
 use Rattle.uc_words.specs.declared.command.Command.{Command}
 use Rattle.uc_words.specs.declared.command.Verb.TheVariants.{Prove}
 use Rattle.uc_words.specs.Reads.{Reads}
@@ -37,18 +37,17 @@ pub record KeepsPromise (files : Files) (command : Command) (name : List ℕ) (s
   pub is_kept : IsKept table files command name status answer
   pub adds : AddsMarks is_kept.loaded table is_kept.keeps.fresh
 
--- So it is where the command is `prove`, with one worker.
+-- So it is where the command is `prove`.
 abbrev pub KeepsCommand : Files → Command → ℕ → List ℕ → Type 0
-KeepsCommand files command status answer = (name : List ℕ) → command.workers ≡ 1 → command.positionals ≡ name ∷ [] → KeepsPromise files command name status answer
+KeepsCommand files command status answer = (name : List ℕ) → command.positionals ≡ name ∷ [] → KeepsPromise files command name status answer
 
--- So it is of a run whose words are those of `prove`, with one worker, and that ends with status 0, 1 or 2: the sink was given
--- such an answer.
+-- So it is of a run whose words are those of `prove`, and that ends with status 0, 1 or 2: the sink was given such an answer.
 abbrev pub KeepsWord : Files → List (List ℕ) → Option (List ℕ) → Option (List ℕ) → ℕ → Type 0
-KeepsWord files words old new result = (command : Command) (name : List ℕ) → Reads words command → command.verb ≡ Prove → command.workers ≡ 1 → command.positionals ≡ name ∷ [] → result ≤ 2 → (answer : List ℕ) × KeepsPromise files command name result answer × Appends old new answer
+KeepsWord files words old new result = (command : Command) (name : List ℕ) → Reads words command → command.verb ≡ Prove → command.positionals ≡ name ∷ [] → result ≤ 2 → (answer : List ℕ) × KeepsPromise files command name result answer × Appends old new answer
 
 -- COMPLETENESS
 
--- The status and the answer are those of the search by worker 0 alone, for the problem of this name that the files have and the
+-- The status and the answer are those of a search by the command's workers, for the problem of this name that the files have and the
 -- order that the words name for it, with the symbols in the table that loading and encoding it leave, whose entries are all
 -- different.
 pub record IsHeldAnswer (files : Files) (command : Command) (name : List ℕ) (status : ℕ) (answer : List ℕ) : Type 0 where
@@ -65,7 +64,7 @@ pub record IsHeldAnswer (files : Files) (command : Command) (name : List ℕ) (s
   pub chosen : IsChosen table problem.signature command.order encoded.fresh spec
   pub verdict : Verdict
   pub state : State
-  pub searched : IsSearched (meaning_of table spec) (opening_for command encoded) 0 verdict state
+  pub searched : IsSearchedBy (meaning_of table spec) (opening_for command encoded) command.workers verdict state
   pub text : List ℕ
   pub answers : VerdictAnswers table command name problem encoded spec state verdict text
   pub status_is : status ≡ verdict_status verdict
@@ -76,8 +75,8 @@ pub data ProveEnds (files : Files) (command : Command) (name : List ℕ) (old ne
   tells_verdict : {status : ℕ} {answer : List ℕ} → IsHeldAnswer files command name status answer → Appends old new answer → ProveEnds files command name old new status
   lacks_memory : Appends old new memory_line → ProveEnds files command name old new 7
 
--- Where the words of `prove`, with one worker, name an order for a problem that the files hold, none of whose goals is too large to
+-- Where the words of `prove` name an order for a problem that the files hold, none of whose goals is too large to
 -- be encoded, `prove` ends so: with a proof, a system, or a limit. The problem's symbols stand in the table that loading and encoding
 -- it leave.
 abbrev pub CompletesProve : Files → List (List ℕ) → Option (List ℕ) → Option (List ℕ) → ℕ → Type 0
-CompletesProve files words old new result = (command : Command) (name : List ℕ) (loaded table : Table) (problem : Problem) (encoded : Encoded) (spec : OrderSpec) → Reads words command → command.verb ≡ Prove → command.workers ≡ 1 → command.positionals ≡ name ∷ [] → IsDistinct table → IsLoaded files command.root name loaded problem → AddsMarks loaded table encoded.fresh → Encodes table problem (Ok encoded) → IsChosen table problem.signature command.order encoded.fresh spec → ProveEnds files command name old new result
+CompletesProve files words old new result = (command : Command) (name : List ℕ) (loaded table : Table) (problem : Problem) (encoded : Encoded) (spec : OrderSpec) → Reads words command → command.verb ≡ Prove → command.positionals ≡ name ∷ [] → IsDistinct table → IsLoaded files command.root name loaded problem → AddsMarks loaded table encoded.fresh → Encodes table problem (Ok encoded) → IsChosen table problem.signature command.order encoded.fresh spec → ProveEnds files command name old new result

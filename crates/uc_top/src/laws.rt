@@ -12,30 +12,30 @@ ghost use Rattle.uc_ordering.specs.Choice.{all_symbols};
 ghost use Rattle.uc_ordering.specs.Fits.{Fits};
 ghost use Rattle.uc_search.specs.Bounds.{rounds_in, IsBounded};
 ghost use Rattle.uc_answer.specs.VerdictLines.{opening_for};
-ghost use Rattle.uc_top.specs.Answers.{Answers};
+ghost use Rattle.uc_top.specs.Answers.{Answers, SearchesAlone};
 ghost use Rattle.uc_top.specs.Runs.{IsRun, IsSettledStatus};
 ghost use Rattle.uc_top.specs.ProveRuns.{IsHeldAnswer};
 ghost use Rattle.uc_top.specs.DecideAnswers.{opening_of_axioms};
 ghost use Rattle.uc_top.specs.DecideRuns.{IsHeldDecision, KeepsDecision, Tells};
 
 /// Words and the files of a library have at most one status and one text for an answer, whatever the command is, but where a fetch
-/// failed. So `Answers` says exactly where each answer comes.
+/// failed, or where the words ask for several workers. So `Answers` says exactly where each answer comes.
 pub fn one_answer()
-    ensures answer { (files : Files) (before now again later : ℕ) (words : List (List ℕ)) (s t : ℕ) (a b : List ℕ) → (Rose before now → ⊥) → (Rose again later → ⊥) → Answers (Some files) before now words s a → Answers (Some files) again later words t b → (s ≡ t) × (a ≡ b) }
-    ensures unless_read_fault { (files : Files) (before now again later : ℕ) (words : List (List ℕ)) (s t : ℕ) (a b : List ℕ) → (s ≡ 5 → ⊥) → (t ≡ 5 → ⊥) → Answers (Some files) before now words s a → Answers (Some files) again later words t b → (s ≡ t) × (a ≡ b) }
+    ensures answer { (files : Files) (before now again later : ℕ) (words : List (List ℕ)) (s t : ℕ) (a b : List ℕ) → SearchesAlone words → (Rose before now → ⊥) → (Rose again later → ⊥) → Answers (Some files) before now words s a → Answers (Some files) again later words t b → (s ≡ t) × (a ≡ b) }
+    ensures unless_read_fault { (files : Files) (before now again later : ℕ) (words : List (List ℕ)) (s t : ℕ) (a b : List ℕ) → SearchesAlone words → (s ≡ 5 → ⊥) → (t ≡ 5 → ⊥) → Answers (Some files) before now words s a → Answers (Some files) again later words t b → (s ≡ t) × (a ≡ b) }
 {}
 
 /// Two runs of one command line over the same files, whatever the command is, that end with another status than 5, 6 and 7, have
-/// one status and tell one text.
+/// one status and tell one text, where a command that searches has one worker.
 pub fn one_run()
-    ensures { (files : Files) (words : List (List ℕ)) (before now again later : ℕ) (old new first last : Option (List ℕ)) (write_before write_now write_again write_later : ℕ) (r q : ℕ) → IsSettledStatus r → IsSettledStatus q → (x : IsRun (Some files) before now words old new write_before write_now r) (y : IsRun (Some files) again later words first last write_again write_later q) → (r ≡ q) × (x.text ≡ y.text) × Appends old new x.text × Appends first last y.text }
+    ensures { (files : Files) (words : List (List ℕ)) (before now again later : ℕ) (old new first last : Option (List ℕ)) (write_before write_now write_again write_later : ℕ) (r q : ℕ) → SearchesAlone words → IsSettledStatus r → IsSettledStatus q → (x : IsRun (Some files) before now words old new write_before write_now r) (y : IsRun (Some files) again later words first last write_again write_later q) → (r ≡ q) × (x.text ≡ y.text) × Appends old new x.text × Appends first last y.text }
 {}
 
-/// The search that `prove` or `decide` tells of is one function of the words and the files: it has one verdict and one state, with
-/// one history. Of `decide` the words for the root, the order, the budget and the limit on pairs alone count, and not the questions.
+/// The search by one worker that `prove` or `decide` tells of is one function of the words and the files: it has one verdict and one
+/// state, with one history. Of `decide` the words for the root, the order, the budget and the limit on pairs alone count, and not the questions.
 pub fn one_history()
-    ensures prove { (files : Files) (words : List (List ℕ)) (command : Command) (name : List ℕ) (s t : ℕ) (a b : List ℕ) (x : IsHeldAnswer files command name s a) (y : IsHeldAnswer files command name t b) → Reads words command → (x.verdict ≡ y.verdict) × (x.state ≡ y.state) }
-    ensures decide { (files : Files) (words : List (List ℕ)) (k l : Command) (name : List ℕ) (asked others : List (List ℕ)) (s t : ℕ) (a b : List ℕ) (x : IsHeldDecision files k name asked s a) (y : IsHeldDecision files l name others t b) → Reads words k → k.root ≡ l.root → k.order ≡ l.order → k.budget ≡ l.budget → k.pairs ≡ l.pairs → (x.verdict ≡ y.verdict) × (x.state ≡ y.state) }
+    ensures prove { (files : Files) (words : List (List ℕ)) (command : Command) (name : List ℕ) (s t : ℕ) (a b : List ℕ) (x : IsHeldAnswer files command name s a) (y : IsHeldAnswer files command name t b) → Reads words command → command.workers ≡ 1 → (x.verdict ≡ y.verdict) × (x.state ≡ y.state) }
+    ensures decide { (files : Files) (words : List (List ℕ)) (k l : Command) (name : List ℕ) (asked others : List (List ℕ)) (s t : ℕ) (a b : List ℕ) (x : IsHeldDecision files k name asked s a) (y : IsHeldDecision files l name others t b) → Reads words k → k.workers ≡ 1 → l.workers ≡ 1 → k.root ≡ l.root → k.order ≡ l.order → k.budget ≡ l.budget → k.pairs ≡ l.pairs → (x.verdict ≡ y.verdict) × (x.state ≡ y.state) }
 {}
 
 /// The order that the words of `prove` name is one of exactly the encoded problem's symbols: the problem's own, its fresh constant
@@ -45,19 +45,19 @@ pub fn chosen_order_fits()
 {}
 
 /// Two runs of `decide` for one problem by one order that both say of a question whether its equation follows print the same line for
-/// it, whatever words named the order, whatever else is asked, and whatever the limits are. Of the problem its axioms count, and the
+/// it, whatever words named the order, whatever else is asked, and whatever the limits and the numbers of workers are. Of the problem its axioms count, and the
 /// symbols that loading it makes of its files, whichever these are: two commands with one name, root and library have one problem.
 pub fn one_line()
     ensures problem { (files others : Files) (words : List (List ℕ)) (k l : Command) (name another : List ℕ) (asked questions : List (List ℕ)) (s t : ℕ) (a b : List ℕ) (x : KeepsDecision files k name asked s a) (y : KeepsDecision others l another questions t b) (i j : ℕ) (sides : Tree × Tree) (line other : List ℕ) → Reads words k → x.table ≡ y.table → axioms_of x.is_decided.problem.clauses ≡ axioms_of y.is_decided.problem.clauses → x.is_decided.decided.spec ≡ y.is_decided.decided.spec → slice_get x.is_decided.decided.questions i ≡ Some sides → slice_get y.is_decided.decided.questions j ≡ Some sides → Tells x i line → Tells y j other → line ≡ other }
     ensures file { (files : Files) (words : List (List ℕ)) (k l : Command) (name : List ℕ) (asked others : List (List ℕ)) (s t : ℕ) (a b : List ℕ) (x : KeepsDecision files k name asked s a) (y : KeepsDecision files l name others t b) (i j : ℕ) (sides : Tree × Tree) (line other : List ℕ) → Reads words k → k.root ≡ l.root → x.is_decided.decided.spec ≡ y.is_decided.decided.spec → slice_get x.is_decided.decided.questions i ≡ Some sides → slice_get y.is_decided.decided.questions j ≡ Some sides → Tells x i line → Tells y j other → line ≡ other }
 {}
 
-/// The search that `prove` or `decide` tells of is short. With the budget `B` and `g` goals, those of the encoded problem, it draws
+/// The search by one worker that `prove` or `decide` tells of is short. With the budget `B` and `g` goals, those of the encoded problem, it draws
 /// at most `g * (2B + 1) + 2B` tasks and keeps at most `B` audits, and it makes at most `B + 1` rounds, each with at most one final
 /// pass. `decide` searches without goals.
 pub fn searches_are_short()
-    ensures prove { (files : Files) (command : Command) (name : List ℕ) (s : ℕ) (a : List ℕ) (x : IsHeldAnswer files command name s a) → IsBounded (opening_for command x.encoded) x.state }
-    ensures prove_rounds { (files : Files) (command : Command) (name : List ℕ) (s : ℕ) (a : List ℕ) (x : IsHeldAnswer files command name s a) → rounds_in x.searched.searches ≤ command.budget + 1 }
-    ensures decide { (files : Files) (command : Command) (name : List ℕ) (asked : List (List ℕ)) (s : ℕ) (a : List ℕ) (x : IsHeldDecision files command name asked s a) → IsBounded (opening_of_axioms command x.problem) x.state }
-    ensures decide_rounds { (files : Files) (command : Command) (name : List ℕ) (asked : List (List ℕ)) (s : ℕ) (a : List ℕ) (x : IsHeldDecision files command name asked s a) → rounds_in x.searched.searches ≤ command.budget + 1 }
+    ensures prove { (files : Files) (command : Command) (name : List ℕ) (s : ℕ) (a : List ℕ) (x : IsHeldAnswer files command name s a) → command.workers ≡ 1 → IsBounded (opening_for command x.encoded) x.state }
+    ensures prove_rounds { (files : Files) (command : Command) (name : List ℕ) (s : ℕ) (a : List ℕ) (x : IsHeldAnswer files command name s a) → (one : command.workers ≡ 1) → rounds_in (x.searched.alone one).searches ≤ command.budget + 1 }
+    ensures decide { (files : Files) (command : Command) (name : List ℕ) (asked : List (List ℕ)) (s : ℕ) (a : List ℕ) (x : IsHeldDecision files command name asked s a) → command.workers ≡ 1 → IsBounded (opening_of_axioms command x.problem) x.state }
+    ensures decide_rounds { (files : Files) (command : Command) (name : List ℕ) (asked : List (List ℕ)) (s : ℕ) (a : List ℕ) (x : IsHeldDecision files command name asked s a) → (one : command.workers ≡ 1) → rounds_in (x.searched.alone one).searches ≤ command.budget + 1 }
 {}
