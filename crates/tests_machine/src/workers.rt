@@ -160,7 +160,7 @@ fn two_workers_meet(rt: HostRuntime) -> Result<(), Fail> {
     let alloc = rt.alloc();
     let at = set_up(alloc, AXIOMS, &[])?;
     let gate = Meeting::new();
-    let (book, shares) = search(
+    let searched = search(
         &rt,
         alloc,
         &at.problem,
@@ -172,8 +172,9 @@ fn two_workers_meet(rt: HostRuntime) -> Result<(), Fail> {
         &gate,
     )?;
     assert!(rt; gate.met.load(Ordering::SeqCst));
-    assert!(rt; book.verdict() == Some(&Verdict::Saturated));
-    let history = book.history();
+    assert!(rt; searched.verdict == Verdict::Saturated);
+    let history = searched.book.history();
+    let shares = searched.shares.as_slice();
     assert!(rt; history.len() > 2 && are_two_draws(&history[0], &history[1]));
     assert!(rt; !history.iter().any(|event| is_reclaim(event)));
     assert!(rt; shares.len() == 3 && shares[0] == 0 && shares[1] > 0 && shares[2] > 0);
@@ -187,9 +188,9 @@ fn two_workers_compute(rt: HostRuntime) -> Result<(), Fail> {
     let at = set_up(alloc, AXIOMS, &[])?;
     let gate = Meeting::new();
     let order = Watched::new(order(alloc)?);
-    let (book, _) = search(&rt, alloc, &at.problem, &order, &at.shelf, 99, 99, 2, &gate)?;
+    let searched = search(&rt, alloc, &at.problem, &order, &at.shelf, 99, 99, 2, &gate)?;
     assert!(rt; order.met.load(Ordering::SeqCst));
-    assert!(rt; book.verdict() == Some(&Verdict::Saturated));
+    assert!(rt; searched.verdict == Verdict::Saturated);
     Ok(())
 }
 
@@ -233,7 +234,7 @@ fn one_worker_is_alone(rt: HostRuntime) -> Result<(), Fail> {
     let alloc = rt.alloc();
     let at = set_up(alloc, AXIOMS, &[GOAL])?;
     let gate = Meeting::new();
-    let (book, shares) = search(
+    let searched = search(
         &rt,
         alloc,
         &at.problem,
@@ -245,8 +246,8 @@ fn one_worker_is_alone(rt: HostRuntime) -> Result<(), Fail> {
         &gate,
     )?;
     assert!(rt; gate.came.load(Ordering::SeqCst) == 0);
-    assert!(rt; book.history() == alone().as_slice());
-    assert!(rt; shares.as_slice() == [6].as_slice());
+    assert!(rt; searched.book.history() == alone().as_slice());
+    assert!(rt; searched.shares.as_slice() == [6].as_slice());
     Ok(())
 }
 
@@ -262,7 +263,7 @@ fn come_to<R: Threads + Wait + Sync>(
     requires { (0 < workers) × (workers ≤ 64) }
 {
     let at = set_up(alloc, axioms, goals)?;
-    let (book, _) = search(
+    let searched = search(
         rt,
         alloc,
         &at.problem,
@@ -273,7 +274,7 @@ fn come_to<R: Threads + Wait + Sync>(
         workers,
         &NoGate,
     )?;
-    Ok(book.verdict() == Some(&verdict))
+    Ok(searched.verdict == verdict)
 }
 
 // Whether so many workers prove the goal, and come to an end without it.

@@ -4,3 +4,5 @@ pub mod Kept
 pub mod Enrolling
 pub mod Starting
 pub mod Ending
+pub mod OneWorker
+pub mod AfterVerdict

@@ -114,7 +114,7 @@ module _ (m : Meaning) (o : Opening) (w v : ℕ) (apart : v ≢ w) where
   works_others s _ no_turn = refl
   works_others s x (one_more_turn {u = u} a t) = turn_others u x t ∙ works_others s u a
 
-  until_others : (s : State) (r : Reply) (u : State) → WorksUntil m o w s r u → commits_by v u.history ≡ commits_by v s.history
+  pub until_others : (s : State) (r : Reply) (u : State) → WorksUntil m o w s r u → commits_by v u.history ≡ commits_by v s.history
   until_others s r u a = draw_commits o w a.last r u a.draws v ∙ works_others s a.last a.works
 
   alone_others : (s : State) (why : Ended) (u : State) → EndsAlone m o w s why u → commits_by v u.history ≡ commits_by v s.history

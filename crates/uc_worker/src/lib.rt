@@ -6,6 +6,7 @@ mod counting;
 mod held;
 mod laws;
 mod naming;
+mod searched;
 mod searching;
 mod working;
 
@@ -13,6 +14,7 @@ pub use counting::shares;
 pub use held::{Hand, Held};
 pub use laws::one_worker_ends;
 pub use naming::{NamesOrder, Naming};
-pub use searching::{rounds, search};
+pub use searched::{Searched, search};
+pub use searching::rounds;
 pub use uc_search::Ended;
 pub use working::work;

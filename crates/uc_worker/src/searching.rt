@@ -234,10 +234,9 @@ fn search_as<
     Ok((held.into_book(), shares))
 }
 
-/// Searches with some workers, from the start of the book to its verdict, whatever the order in which they come to the book. One
-/// worker does all in this thread; of more, each has a thread of its own, and worker 0 ends each round in this thread. The shares
-/// are the commits of each worker, from worker 0 on.
-pub fn search<'a, O: Order + Sync, G: Gate + Sync, R: Threads + Wait + Sync>(
+/// The rounds of some workers, from the start of the book to its verdict. The shares are the commits of each hand, from that of
+/// worker 0 on.
+pub(crate) fn search_together<'a, O: Order + Sync, G: Gate + Sync, R: Threads + Wait + Sync>(
     rt: &R,
     alloc: Global,
     problem: &'a Encoded,
