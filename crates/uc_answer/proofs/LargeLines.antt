@@ -18,11 +18,12 @@ use Rattle.uc_machine.specs.declared.event.Verdict.{Verdict}
 use Rattle.uc_machine.specs.declared.event.Verdict.TheVariants.{BudgetOut, PairsOut, LargeOverlap, LargeGoal}
 use Rattle.uc_machine.specs.State.{Opening, State}
 use Rattle.uc_shelf.specs.Entries.{born}
-use Rattle.uc_runs.specs.Causes.{Causes, overlap_is_large}
+use Rattle.uc_runs.specs.Causes.{Causes, CausesIfLimit, overlap_is_large}
 use Rattle.uc_runs.specs.Large.{IsLargeOverlap}
 use Rattle.uc_runs.proofs.LargeOverlaps.{large_of_live}
-use Rattle.uc_search.specs.Searching.{IsSearched}
-use Rattle.uc_search.proofs.Caused.{searched_told}
+use Rattle.uc_runs.specs.Later.{Later}
+use Rattle.uc_worker.specs.Ends.{IsSearchedBy}
+use Rattle.uc_worker.proofs.AfterVerdict.{nothing_comes}
 use Rattle.uc_words.specs.declared.command.Command.{Command}
 use Rattle.uc_answer.specs.LimitLines.{budget_line, pairs_line, overlap_line, goal_line, IsLimitLine, budget_is_spent, limit_is_passed, pair_is_large, step_is_large}
 
@@ -36,14 +37,19 @@ from_side : (n : ℕ) (s : Side) (e : Equation) → (read_from n s e).from ≡ s
 from_side n Left e = refl
 from_side n Right e = refl
 
--- A search by worker 0, by whatever order and from whatever opening.
+-- A search by so many workers, by whatever order and from whatever opening.
 module _ (m : Meaning) (o : Opening) (s : State) where
-  large_in : (x : Overlap) → Causes m o s (LargeOverlap x) → IsLargeOverlap s.entries x
-  large_in x (overlap_is_large {drained = d} reaches drained final is) = rw is (large_of_live m o.axioms d x final)
+  -- where the verdict came, no task was out, so nothing came after it
+  large_later : (x : Overlap) (v : Verdict) (t : State) → Causes m o t (LargeOverlap x) → t.verdict ≡ Some v → Later m o t s → IsLargeOverlap s.entries x
+  large_later x v t (overlap_is_large {drained = d} reaches drained final is) e later =
+      let same : s ≡ t = nothing_comes v m o t s e (ap (λ (z : State). z.out) is ∙ drained.none_out) later in
+      rw (same ∙ is) (large_of_live m o.axioms d x final)
 
   -- the overlap that it names as too large is one of its facts, and is too large
-  pub searched_large : (v : Verdict) → IsSearched m o 0 v s → (x : Overlap) → v ≡ LargeOverlap x → IsLargeOverlap s.entries x
-  searched_large v h x is = large_in x (searched_told m o 0 (omega arith) (LargeOverlap x) s (subst (λ (w : Verdict). IsSearched m o 0 w s) is h))
+  pub searched_large : {n : ℕ} (v : Verdict) → IsSearchedBy m o n v s → (x : Overlap) → v ≡ LargeOverlap x → IsLargeOverlap s.entries x
+  searched_large v h x is =
+      let c = h.ended.came in
+      large_later x h.ended.verdict c.then_ (subst (CausesIfLimit m o c.then_) (h.verdict ∙ is) c.cause) c.verdict c.later
 
 module _ (s : State) (x : Overlap) (large : IsLargeOverlap s.entries x) (facts : List Fact) (are : facts ≡ born s.entries) where
   fact_is : slice_get facts x.outer ≡ Some large.outer

@@ -1,5 +1,5 @@
 -- What the answer for a verdict keeps.
-use Rattle.std.proofs.Common.{ℕ, ◌≡◌, List, [], ◌++◌, codes, refl, sym, ap, ◌∙◌, arith, append_assoc}
+use Rattle.std.proofs.Common.{ℕ, ◌≡◌, List, [], ◌++◌, codes, refl, sym, ap, ◌∙◌, arith, append_assoc, subst}
 use Rattle.std.proofs.lemmas.List.{append-nil}
 use Rattle.uc_term.specs.Table.{Table}
 use Rattle.uc_order.specs.declared.spec.OrderSpec.{OrderSpec}
@@ -10,7 +10,6 @@ use Rattle.uc_machine.specs.declared.event.Verdict.{Verdict}
 use Rattle.uc_machine.specs.declared.event.Verdict.TheVariants.{Proved, Saturated, BudgetOut, PairsOut, LargeOverlap, LargeGoal}
 use Rattle.uc_machine.specs.State.{Opening, State}
 use Rattle.uc_runs.specs.Causes.{Causes, CausesIfLimit}
-use Rattle.uc_search.proofs.Caused.{searched_told}
 use Rattle.uc_words.specs.declared.command.Command.{Command}
 use Rattle.uc_ordering.specs.Meaning.{meaning_of}
 use Rattle.uc_answer.specs.StatusLines.{status_line, line_for}
@@ -88,13 +87,13 @@ module _ (table : Table) (command : Command) (name : List ℕ) (problem : Proble
       stopped = λ z. absurd (omega (arith, z));
     }
 
-    cause_for : (m : Meaning) (o : Opening) (v : Verdict) → verdict_status v ≡ 2 → CausesIfLimit m o s v → Causes m o s v
-    cause_for m o (Proved goal) e h = absurd (omega (arith, e))
-    cause_for m o Saturated e h = absurd (omega (arith, e))
-    cause_for m o (BudgetOut counted) e h = h
-    cause_for m o (PairsOut waiting new) e h = h
-    cause_for m o (LargeOverlap x) e h = h
-    cause_for m o (LargeGoal goal) e h = h
+    cause_for : (m : Meaning) (o : Opening) (t : State) (v : Verdict) → verdict_status v ≡ 2 → CausesIfLimit m o t v → Causes m o t v
+    cause_for m o t (Proved goal) e h = absurd (omega (arith, e))
+    cause_for m o t Saturated e h = absurd (omega (arith, e))
+    cause_for m o t (BudgetOut counted) e h = h
+    cause_for m o t (PairsOut waiting new) e h = h
+    cause_for m o t (LargeOverlap x) e h = h
+    cause_for m o t (LargeGoal goal) e h = h
 
     pub stopped_keeps : (v : Verdict) (line answer : List ℕ) → verdict_status v ≡ 2 → HasEnded table command problem encoded spec v s → IsLimitLine command s v line → answer ≡ status_line (codes "ResourceOut") name ++ line → Keeps table command name problem (verdict_status v) answer
     stopped_keeps v line answer two h is e = record {
@@ -110,7 +109,7 @@ module _ (table : Table) (command : Command) (name : List ℕ) (problem : Proble
         verdict = v;
         state = s;
         searched = h.searched;
-        cause = cause_for (meaning_of table spec) (opening_for command encoded) v two (searched_told (meaning_of table spec) (opening_for command encoded) 0 (omega arith) v s h.searched);
+        cause = cause_for (meaning_of table spec) (opening_for command encoded) h.searched.ended.came.then_ v two (subst (CausesIfLimit (meaning_of table spec) (opening_for command encoded) h.searched.ended.came.then_) h.searched.verdict h.searched.ended.came.cause);
         line = line;
         line_is = is;
         history = [];

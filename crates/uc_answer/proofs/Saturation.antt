@@ -18,8 +18,7 @@ use Rattle.uc_runs.proofs.OverRuns.{facts_stay_over}
 use Rattle.uc_runs.proofs.ProvedGoals.{proved}
 use Rattle.uc_runs.proofs.Replaying.{chains_replay}
 use Rattle.uc_runs.proofs.Saturating.{saturated}
-use Rattle.uc_search.specs.Searching.{IsSearched}
-use Rattle.uc_search.proofs.Rests.{searched_rests, search_verdict}
+use Rattle.uc_worker.specs.Ends.{IsSearchedBy}
 use Rattle.uc_final.proofs.Decided.{convergent_decides}
 use Rattle.uc_decide.specs.Deciding.{Decides}
 
@@ -31,12 +30,12 @@ none_over m (x ∷ es) none number e at = absurd (let bad : x ∷ es ≡ [] = no
 pub opens_without : (m : Meaning) (o : Opening) → AreOfSignature (HasSym m) m.arity o.axioms → o.goals ≡ [] → OpensOver m o
 opens_without m o over none = record { axioms = over; goals = none_over m o.goals none }
 
-module _ (m : Meaning) (o : Opening) (v : Verdict) (s : State) (searched : IsSearched m o 0 v s) where
+module _ (m : Meaning) (o : Opening) {workers : ℕ} (v : Verdict) (s : State) (searched : IsSearchedBy m o workers v s) where
   pub searched_reaches : Reaches m o s
-  searched_reaches = (searched_rests m o 0 (omega arith) v s searched).reaches
+  searched_reaches = searched.ended.run.reaches
 
   pub searched_verdict : s.verdict ≡ Some v
-  searched_verdict = search_verdict m o 0 searched.start v s searched.searches
+  searched_verdict = searched.ended.stands ∙ ap Some searched.verdict
 
   has_none : (es : List Equation) (n : ℕ) (e : Equation) → slice_get es n ≡ Some e → es ≡ [] → ⊥
   has_none [] n e at none = absurd cc
@@ -48,7 +47,7 @@ module _ (m : Meaning) (o : Opening) (v : Verdict) (s : State) (searched : IsSea
       let p : IsProved o s goal = proved m o goal s searched_reaches (searched_verdict ∙ ap Some is) in
       has_none o.goals goal p.equation p.equation_is none
 
-module _ (m : Meaning) (laws : Laws m) (o : Opening) (opens : OpensOver m o) (s : State) (searched : IsSearched m o 0 Saturated s) where
+module _ (m : Meaning) (laws : Laws m) (o : Opening) (opens : OpensOver m o) {workers : ℕ} (s : State) (searched : IsSearchedBy m o workers Saturated s) where
   abbrev facts : List Equation
   facts = equations_of (live s.entries)
 

@@ -3,9 +3,8 @@ use Rattle.std.proofs.Common.{ℕ, ◌+◌, ◌≡◌, ◌<◌, ◌≤◌, List,
 use Rattle.std.specs.Result.{IfOk, OnOk}
 use Rattle.std.proofs.lemmas.List.{drop_more, drop_all, append-nil}
 use Rattle.uc_machine.specs.declared.event.Event.{Event}
-use Rattle.uc_machine.specs.Events.{commits_by}
 use Rattle.uc_answer.specs.Lines.{joined}
-use Rattle.uc_answer.specs.TraceLines.{event_line, event_lines, share_text, trace_text}
+use Rattle.uc_answer.specs.TraceLines.{event_line, event_lines, share_text, share_lines}
 use Rattle.uc_answer.proofs.DirectedLines.{joined_one}
 
 pub told_so : {T E : Type 0} (P : Type 0) (r : Result T E) → IfOk r (λ _. P) → OnOk r P
@@ -30,6 +29,16 @@ module _ (history : List Event) where
   pub all_events_told : (number : ℕ) (lines : List (List ℕ)) → length history ≤ number → BegunTrace number lines → joined lines ≡ event_lines 1 history
   all_events_told number lines h begun = sym (append-nil (joined lines)) ∙ ap (λ es. joined lines ++ event_lines (number + 1) es) (sym (drop_all number history h)) ∙ begun
 
-  pub trace_told : (number : ℕ) (lines : List (List ℕ)) (share : List ℕ) (worker commits : ℕ) → length history ≤ number → BegunTrace number lines → share ≡ share_text worker commits → worker ≡ 0 → commits ≡ commits_by 0 history → joined (lines ++ share ∷ []) ≡ trace_text history
-  trace_told number lines share worker commits h begun e w c =
-      joined_one lines share ∙ ap (λ t. joined lines ++ t) (e ∙ ap (λ n. share_text n commits) w ∙ ap (share_text 0) c) ∙ ap (λ t. t ++ share_text 0 (commits_by 0 history)) (all_events_told number lines h begun)
+module _ (shares : List ℕ) where
+  -- behind these lines those of the shares that are left are the lines of all
+  abbrev pub BegunShares : ℕ → List (List ℕ) → Type 0
+  BegunShares worker lines = joined lines ++ share_lines worker (drop worker shares) ≡ share_lines 0 shares
+
+  pub one_more_share : (worker : ℕ) (lines : List (List ℕ)) (d commits : ℕ) (line : List ℕ) → worker < length shares → commits ≡ get_or shares worker d → line ≡ share_text worker commits → BegunShares worker lines → BegunShares (worker + 1) (lines ++ line ∷ [])
+  one_more_share worker lines d commits line h at is begun =
+      let rest = share_lines (worker + 1) (drop (worker + 1) shares) in
+      let here : drop worker shares ≡ commits ∷ drop (worker + 1) shares = drop_more shares worker d h ∙ ap (λ x. x ∷ drop (worker + 1) shares) (sym at) in
+      ap (λ t. t ++ rest) (joined_one lines line) ∙ append_assoc (joined lines) line rest ∙ ap (λ t. joined lines ++ (t ++ rest)) is ∙ ap (λ es. joined lines ++ share_lines worker es) (sym here) ∙ begun
+
+  pub all_shares_told : (worker : ℕ) (lines : List (List ℕ)) → length shares ≤ worker → BegunShares worker lines → joined lines ≡ share_lines 0 shares
+  all_shares_told worker lines h begun = sym (append-nil (joined lines)) ∙ ap (λ es. joined lines ++ share_lines worker es) (sym (drop_all worker shares h)) ∙ begun

@@ -1,15 +1,13 @@
 //! The lines of a book's history.
 
 ghost use Rattle.std.specs.Prelude.{◌≡◌, ◌++◌, decimal, IfOk, OnOk};
-ghost use Rattle.uc_machine.specs.Events.{commits_by};
 ghost use Rattle.uc_machine.specs.declared.event.Happening.TheVariants.{CommitMeet};
 ghost use Rattle.uc_answer.specs.Lines.{joined};
-ghost use Rattle.uc_answer.specs.TraceLines.{named, draw_text, goal_text, event_text, event_line, share_text, trace_text, end_word, ending_word};
+ghost use Rattle.uc_answer.specs.TraceLines.{named, draw_text, goal_text, event_text, event_line, event_lines, share_text, share_lines, end_word, ending_word};
 
 use crate::chaining::write_number;
 use itoa::Buffer;
 use std::alloc::{AllocError, Global};
-use uc_book::Pass;
 use uc_machine::{Ending, Event, GoalEnd, Happening};
 use uc_term::{Seq, Text};
 
@@ -21,21 +19,38 @@ pub(crate) fn write_count(out: &mut Text, number: u64) -> Result<(), AllocError>
     out.extend(buffer.format(number).as_bytes())
 }
 
-/// The lines of the events, and of how many commits the worker made.
+/// The lines of the events, and of how many commits each worker made, from worker 0 on.
 pub(crate) fn trace_lines(
     alloc: Global,
     history: &[Event],
-    pass: &Pass,
+    shares: &[u64],
 ) -> Result<Seq<Text>, AllocError>
-    requires worker { pass.now.worker ≡ 0 }
-    requires count { pass.now.commits ≡ commits_by 0 history.now }
-    ensures { IfOk result (λ lines. joined lines ≡ trace_text history.now) }
+    ensures { IfOk result (λ lines. joined lines ≡ event_lines 1 history.now ++ share_lines 0 shares.now) }
+{
+    let mut lines = event_lines(alloc, history)?;
+    lines.append(share_lines(alloc, shares)?)?;
+    Ok(lines)
+}
+
+/// The lines of the events.
+fn event_lines(alloc: Global, history: &[Event]) -> Result<Seq<Text>, AllocError>
+    ensures { IfOk result (λ lines. joined lines ≡ event_lines 1 history.now) }
 {
     let mut lines = Seq::new(alloc);
     for (number, event) in history.iter().enumerate() {
         lines.push(event_line(alloc, number as u64 + 1, *event)?)?;
     }
-    lines.push(share_line(alloc, pass.worker(), pass.commits())?)?;
+    Ok(lines)
+}
+
+/// The lines of how many commits each worker made.
+fn share_lines(alloc: Global, shares: &[u64]) -> Result<Seq<Text>, AllocError>
+    ensures { IfOk result (λ lines. joined lines ≡ share_lines 0 shares.now) }
+{
+    let mut lines = Seq::new(alloc);
+    for (worker, commits) in shares.iter().enumerate() {
+        lines.push(share_line(alloc, worker as u64, *commits)?)?;
+    }
     Ok(lines)
 }
 
@@ -54,11 +69,11 @@ fn event_line(alloc: Global, number: u64, event: Event) -> Result<Text, AllocErr
 }
 
 /// How many commits a worker made.
-fn share_line(alloc: Global, worker: u32, commits: u64) -> Result<Text, AllocError>
+fn share_line(alloc: Global, worker: u64, commits: u64) -> Result<Text, AllocError>
     ensures { IfOk result (λ text. text ≡ share_text worker commits) }
 {
     let mut line = Text::from_bytes(alloc, b"% share w")?;
-    write_number(&mut line, worker)?;
+    write_count(&mut line, worker)?;
     line.extend(b" ")?;
     write_count(&mut line, commits)?;
     line.extend(b"\n")?;

@@ -1,16 +1,16 @@
 //! The lines of the verdict of a book: a proof, a system, or the limit that ended the search.
 
-ghost use Rattle.std.specs.Prelude.{◌≡◌, ◌<◌, ◌≤◌, ◌+◌, ◌^◌, ◌++◌, ℕ, List, [], codes, cond, IfOk, OnOk, OnErr};
+ghost use Rattle.std.specs.Prelude.{◌≡◌, ◌<◌, ◌≤◌, ◌+◌, ◌^◌, ◌++◌, ℕ, List, codes, IfOk, OnOk, OnErr};
 ghost use Rattle.uc_fact.specs.Live.{equations_of};
 ghost use Rattle.uc_shelf.specs.Entries.{live};
 ghost use Rattle.uc_machine.specs.declared.event.Verdict.TheVariants.{Proved, Saturated};
-ghost use Rattle.uc_search.specs.Working.{CountsCommits};
+ghost use Rattle.uc_worker.specs.Commits.{shares_of};
+ghost use Rattle.uc_worker.specs.Hands.{hands_of};
 ghost use Rattle.uc_system.specs.Printing.{system_text};
 ghost use Rattle.uc_answer.specs.Lines.{joined};
 ghost use Rattle.uc_answer.specs.PrintableProblems.{CanBePrinted};
 ghost use Rattle.uc_answer.specs.StatusLines.{status_line};
 ghost use Rattle.uc_answer.specs.VerdictLines.{verdict_status, trace_if, saturation_text, IsProofText, VerdictAnswers, HasEnded};
-ghost use Rattle.uc_answer.specs.TraceLines.{trace_text};
 ghost use Rattle.uc_answer.specs.Promises.{Certifies, Settles, Keeps};
 
 use crate::answer::{Answer, DONE, NO, STOPPED};
@@ -18,7 +18,7 @@ use crate::limit_lines::out_lines;
 use crate::szs::{line_for, status_line};
 use crate::trace_lines::trace_lines;
 use std::alloc::{AllocError, Global};
-use uc_book::{Book, Pass};
+use uc_book::Book;
 use uc_machine::Verdict;
 use uc_order::{Order, OrderSpec};
 use uc_problem::{Encoded, Problem};
@@ -43,19 +43,19 @@ pub struct Closed<'a> {
     pub shelf: &'a Shelf,
 }
 
-/// Returns the answer of `prove` for a book with this verdict, with the book's history where it is asked for.
+/// Returns the answer of `prove` for a book with this verdict, with the book's history and the shares of its workers where they are
+/// asked for.
 pub fn verdict_answer<O: Order>(
     alloc: Global,
     closed: &Closed,
     book: &Book<O>,
-    pass: &Pass,
+    shares: &[u64],
     verdict: Verdict,
 ) -> Result<Answer, AllocError>
     requires shelf { book.now.opening.shelf ≡ closed.now.shelf.now }
     requires problem { book.now.opening.problem ≡ closed.now.encoded.now }
     requires ended { HasEnded closed.now.symbols.now closed.now.command.now closed.now.problem.now closed.now.encoded.now closed.now.spec.now verdict book.now.state }
-    requires worker { pass.now.worker ≡ 0 }
-    requires count { CountsCommits pass.now book.now.state }
+    requires shares { shares.now ≡ shares_of (hands_of closed.now.command.now.workers) book.now.state.history }
     ensures status { IfOk result (λ answer. answer.status ≡ verdict_status verdict) }
     ensures answers { IfOk result (λ answer. (text : List ℕ) × VerdictAnswers closed.now.symbols.now closed.now.command.now closed.now.name.now closed.now.problem.now closed.now.encoded.now closed.now.spec.now book.now.state verdict text × (joined answer.lines ≡ text ++ trace_if closed.now.command.now book.now.state)) }
     ensures promise { IfOk result (λ answer. CanBePrinted closed.now.symbols.now closed.now.name.now closed.now.problem.now → Keeps closed.now.symbols.now closed.now.command.now closed.now.name.now closed.now.problem.now (verdict_status verdict) (joined answer.lines)) }
@@ -63,27 +63,26 @@ pub fn verdict_answer<O: Order>(
     let lines = verdict_lines(alloc, closed, book, verdict)?;
     Ok(Answer {
         status: verdict_status(verdict),
-        lines: traced(alloc, closed.command.trace, lines, book, pass)?,
+        lines: traced(alloc, closed.command, lines, book, shares)?,
     })
 }
 
 /// The lines, with the book's history behind them where it is asked for.
 fn traced<O: Order>(
     alloc: Global,
-    trace: bool,
+    command: &Command,
     lines: Seq<Text>,
     book: &Book<O>,
-    pass: &Pass,
+    shares: &[u64],
 ) -> Result<Seq<Text>, AllocError>
-    requires worker { pass.now.worker ≡ 0 }
-    requires count { CountsCommits pass.now book.now.state }
-    ensures { IfOk result (λ all. joined all ≡ joined lines ++ cond trace (trace_text book.now.state.history) []) }
+    requires shares { shares.now ≡ shares_of (hands_of command.now.workers) book.now.state.history }
+    ensures { IfOk result (λ all. joined all ≡ joined lines ++ trace_if command.now book.now.state) }
 {
-    if !trace {
+    if !command.trace {
         return Ok(lines);
     }
     let mut all = lines;
-    all.append(trace_lines(alloc, book.history(), pass)?)?;
+    all.append(trace_lines(alloc, book.history(), shares)?)?;
     Ok(all)
 }
 

@@ -7,20 +7,18 @@ use Rattle.uc_words.specs.declared.command.Verb.TheVariants as verb
 use Rattle.uc_words.specs.Reads.{Reads}
 use Rattle.uc_words.proofs.Only.{only}
 use Rattle.uc_answer.specs.Lines.{usage_line}
-use Rattle.uc_top.specs.Answers.{IsBuilt, IsSearching, CheckAnswers, ShowAnswers, OrderAnswers, RewriteAnswers, PairsAnswers, DecideAnswers, TableAnswers, ModelAnswers, Answers, has_no_reading, isnt_built, has_many_workers, checks, shows, orders, rewrites, pairs_up, proves, decides, tables, models}
+use Rattle.uc_top.specs.Answers.{IsBuilt, CheckAnswers, ShowAnswers, OrderAnswers, RewriteAnswers, PairsAnswers, DecideAnswers, TableAnswers, ModelAnswers, Answers, has_no_reading, isnt_built, checks, shows, orders, rewrites, pairs_up, proves, decides, tables, models}
 use Rattle.uc_top.specs.ProveAnswers.{ProveAnswers}
 
 module _ (holds : Option Files) (before now : ℕ) where
   abbrev pub IsUsage : ℕ → List ℕ → Type 0
   IsUsage status text = (status ≡ 4) × (text ≡ usage_line)
 
-  -- `prove` by one worker; by more it has no reading yet
   abbrev pub OfProve : Command → ℕ → List ℕ → Type 0
-  OfProve k status text = ((k.workers ≡ 1 → ⊥) × IsUsage status text) ⊎ ((k.workers ≡ 1) × (name : List ℕ) × (k.positionals ≡ name ∷ []) × ProveAnswers k name holds before now status text)
+  OfProve k status text = (name : List ℕ) × (k.positionals ≡ name ∷ []) × ProveAnswers k name holds before now status text
 
-  -- so too `decide`
   abbrev pub OfDecide : Command → ℕ → List ℕ → Type 0
-  OfDecide k status text = ((k.workers ≡ 1 → ⊥) × IsUsage status text) ⊎ ((k.workers ≡ 1) × (name : List ℕ) × (questions : List (List ℕ)) × (k.positionals ≡ name ∷ questions) × DecideAnswers holds before now k name questions status text)
+  OfDecide k status text = (name : List ℕ) × (questions : List (List ℕ)) × (k.positionals ≡ name ∷ questions) × DecideAnswers holds before now k name questions status text
 
   -- the command's answer
   abbrev pub Of : Verb → Command → ℕ → List ℕ → Type 0
@@ -47,19 +45,6 @@ module _ (holds : Option Files) (before now : ℕ) where
   not_of verb.Table k n = absurd (n tt)
   not_of verb.Model k n = absurd (n tt)
 
-  -- a command that searches, by more workers than one
-  of_many : (v : Verb) (k : Command) → IsSearching v → (k.workers ≡ 1 → ⊥) → Of v k 4 usage_line
-  of_many verb.Check k s n = absurd s
-  of_many verb.Show k s n = absurd s
-  of_many verb.Order k s n = absurd s
-  of_many verb.Prove k s n = inl (n, (refl, refl))
-  of_many verb.Decide k s n = inl (n, (refl, refl))
-  of_many verb.Rewrite k s n = absurd s
-  of_many verb.Pairs k s n = absurd s
-  of_many verb.Gen k s n = absurd s
-  of_many verb.Table k s n = absurd s
-  of_many verb.Model k s n = absurd s
-
   module _ (words : List (List ℕ)) where
     -- the answer of a command that the words are, which is the only one
     of_other : {command other : Command} (v : Verb) (status : ℕ) (text : List ℕ) → Reads words command → Reads words other → other.verb ≡ v → Of v other status text → Of command.verb command status text
@@ -68,16 +53,15 @@ module _ (holds : Option Files) (before now : ℕ) where
     pub of_command : {command : Command} {status : ℕ} {text : List ℕ} → Reads words command → Answers holds before now words status text → Of command.verb command status text
     of_command {command} x (has_no_reading n) = absurd (n command x)
     of_command x (isnt_built {command = other} y n) = of_other other.verb 4 usage_line x y refl (not_of other.verb other n)
-    of_command x (has_many_workers {command = other} y v n) = of_other other.verb 4 usage_line x y refl (of_many other.verb other v n)
     of_command {status = status} {text = text} x (checks {name = name} {proof = proof} y v p a) = of_other verb.Check status text x y v (name, proof, p, a)
     of_command {status = status} {text = text} x (shows {name = name} y v p a) = of_other verb.Show status text x y v (name, p, a)
     of_command {status = status} {text = text} x (orders {name = name} y v p a) = of_other verb.Order status text x y v (name, p, a)
     of_command {status = status} {text = text} x (rewrites {name = name} {word = word} y v p a) = of_other verb.Rewrite status text x y v (name, word, p, a)
     of_command {status = status} {text = text} x (pairs_up {name = name} y v p a) = of_other verb.Pairs status text x y v (name, p, a)
-    of_command {status = status} {text = text} x (proves {name = name} y v w p a) = of_other verb.Prove status text x y v (inr (w, name, p, a))
+    of_command {status = status} {text = text} x (proves {name = name} y v p a) = of_other verb.Prove status text x y v (name, p, a)
     of_command {status = status} {text = text} x (tables {name = name} {file = file} y v p a) = of_other verb.Table status text x y v (name, file, p, a)
     of_command {status = status} {text = text} x (models {name = name} y v p a) = of_other verb.Model status text x y v (name, p, a)
-    of_command {status = status} {text = text} x (decides {name = name} {questions = questions} y v w p a) = of_other verb.Decide status text x y v (inr (w, name, questions, p, a))
+    of_command {status = status} {text = text} x (decides {name = name} {questions = questions} y v p a) = of_other verb.Decide status text x y v (name, questions, p, a)
 
     -- the same by the command's verb
     pub of_verb : {command : Command} {status : ℕ} {text : List ℕ} (v : Verb) → command.verb ≡ v → Reads words command → Answers holds before now words status text → Of v command status text
@@ -87,13 +71,12 @@ module _ (holds : Option Files) (before now : ℕ) where
     pub read_or_not : (status : ℕ) (text : List ℕ) → Answers holds before now words status text → ((command : Command) × Reads words command) ⊎ (((command : Command) → Reads words command → ⊥) × IsUsage status text)
     read_or_not status text (has_no_reading n) = inr (n, (refl, refl))
     read_or_not status text (isnt_built {command = other} y n) = inl (other, y)
-    read_or_not status text (has_many_workers {command = other} y v n) = inl (other, y)
     read_or_not status text (checks {command = other} y v p a) = inl (other, y)
     read_or_not status text (shows {command = other} y v p a) = inl (other, y)
     read_or_not status text (orders {command = other} y v p a) = inl (other, y)
     read_or_not status text (rewrites {command = other} y v p a) = inl (other, y)
     read_or_not status text (pairs_up {command = other} y v p a) = inl (other, y)
-    read_or_not status text (proves {command = other} y v w p a) = inl (other, y)
-    read_or_not status text (decides {command = other} y v w p a) = inl (other, y)
+    read_or_not status text (proves {command = other} y v p a) = inl (other, y)
+    read_or_not status text (decides {command = other} y v p a) = inl (other, y)
     read_or_not status text (tables {command = other} y v p a) = inl (other, y)
     read_or_not status text (models {command = other} y v p a) = inl (other, y)

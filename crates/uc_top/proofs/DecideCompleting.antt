@@ -1,5 +1,5 @@
 -- How `decide` ends.
-use Rattle.std.proofs.Common.{inl, inr, ℕ, ◌≡◌, List, ◌∷◌, Option, Some, None, sym, ◌∙◌, subst}
+use Rattle.std.proofs.Common.{ℕ, ◌≡◌, List, ◌∷◌, Option, Some, None, sym, ◌∙◌, subst}
 use Rattle.std.specs.Io.KnownBytes.{Appends}
 use Rattle.uc_term.specs.Tree.{Tree}
 use Rattle.uc_term.specs.Table.{Table, IsDistinct}
@@ -76,14 +76,13 @@ module _ (table : Table) (distinct : IsDistinct table) (files : Files) (command 
 
 module _ (files : Files) (before now : ℕ) (well : Rose before now → ⊥) (all : List (List ℕ)) (old new : Option (List ℕ)) where
   whole : {status result : ℕ} {text : List ℕ} → MayAnswer (Some files) before now all status text → Appends old new text → result ≡ status → CompletesDecide files all old new result
-  whole wants_memory written e command name words table problem spec reads is_decide one names distinct held chosen = subst (DecideEnds table files command name problem words old new) (sym e) (record { asked = λ questions q. lacks_memory written; no_question = λ number why f some. tells_want written })
-  whole {status} {result} {text} (is_answer a) written e command name words table problem spec reads is_decide one names distinct held chosen = go (of_verb (Some files) before now all verb.Decide is_decide reads a)
+  whole wants_memory written e command name words table problem spec reads is_decide names distinct held chosen = subst (DecideEnds table files command name problem words old new) (sym e) (record { asked = λ questions q. lacks_memory written; no_question = λ number why f some. tells_want written })
+  whole {status} {result} {text} (is_answer a) written e command name words table problem spec reads is_decide names distinct held chosen = go (of_verb (Some files) before now all verb.Decide is_decide reads a)
     where
       go : OfDecide (Some files) before now command status text → DecideEnds table files command name problem words old new result
-      go (inl many) = absurd (many.0 one)
-      go (inr p) =
-          let names_are : p.1 ∷ p.2 ≡ name ∷ words = sym p.3 ∙ names in
-          let answer : DecideAnswers (Some files) before now command name words status text = subst (λ n. DecideAnswers (Some files) before now command n words status text) (head_name names_are) (subst (λ ws. DecideAnswers (Some files) before now command p.1 ws status text) (tail_names names_are) p.4) in
+      go p =
+          let names_are : p.0 ∷ p.1 ≡ name ∷ words = sym p.2 ∙ names in
+          let answer : DecideAnswers (Some files) before now command name words status text = subst (λ n. DecideAnswers (Some files) before now command n words status text) (head_name names_are) (subst (λ ws. DecideAnswers (Some files) before now command p.0 ws status text) (tail_names names_are) p.3) in
           let decided = answers_for files command.root name table distinct problem held (λ t. IsDecided t command name words) before now (λ five rose. well rose) answer in
           record {
             asked = λ questions q. asked_ends table distinct files command name words problem held spec chosen questions q decided written e;

@@ -12,6 +12,7 @@ use Rattle.uc_machine.specs.declared.event.Verdict.{Verdict}
 use Rattle.uc_machine.specs.declared.event.Verdict.TheVariants.{Saturated}
 use Rattle.uc_machine.specs.State.{State}
 use Rattle.uc_search.specs.Searching.{IsSearched}
+use Rattle.uc_worker.specs.Ends.{IsSearchedBy}
 use Rattle.uc_words.specs.declared.command.Command.{Command}
 use Rattle.uc_ordering.specs.Choice.{IsChosen}
 use Rattle.uc_ordering.specs.Meaning.{meaning_of}
@@ -30,7 +31,7 @@ use Rattle.uc_top.specs.DecideAnswers.{opening_of_axioms, facts_of, IsDecided, i
 use Rattle.uc_top.proofs.OrderedAnswers.{is_signature}
 use Rattle.uc_top.proofs.SearchLaws.{OneSearch}
 
-module _ (one_search : OneSearch) (table : Table) (distinct : IsDistinct table) (command : Command) (some : 1 ≤ command.order.w0) (most : command.order.w0 ≤ 1000000) (name : List ℕ) (words : List (List ℕ)) where
+module _ (one_search : OneSearch) (table : Table) (distinct : IsDistinct table) (command : Command) (some : 1 ≤ command.order.w0) (most : command.order.w0 ≤ 1000000) (alone : command.workers ≡ 1) (name : List ℕ) (words : List (List ℕ)) where
   module _ (problem : Problem) (agrees : Agrees table problem) where
     has : HasAll table problem.signature.symbols
     has = signature_has table problem agrees
@@ -43,10 +44,10 @@ module _ (one_search : OneSearch) (table : Table) (distinct : IsDistinct table) 
       orders = order_once table problem.signature command.order None other spec k c
 
       -- the searches by the one order and by the other are one
-      searches : (v w : Verdict) (s t : State) → IsSearched (meaning_of table spec) (opening_of_axioms command problem) 0 v s → IsSearched (meaning_of table other) (opening_of_axioms command problem) 0 w t → (v ≡ w) × (s ≡ t)
-      searches v w s t x y = one_search (meaning_of table spec) (laws spec c) (opening_of_axioms command problem) 0 v w s t x (subst (λ (o : OrderSpec). IsSearched (meaning_of table o) (opening_of_axioms command problem) 0 w t) orders y)
+      searches : (v w : Verdict) (s t : State) → IsSearchedBy (meaning_of table spec) (opening_of_axioms command problem) command.workers v s → IsSearchedBy (meaning_of table other) (opening_of_axioms command problem) command.workers w t → (v ≡ w) × (s ≡ t)
+      searches v w s t x y = one_search (meaning_of table spec) (laws spec c) (opening_of_axioms command problem) 0 v w s t (x.alone alone) (subst (λ (o : OrderSpec). IsSearched (meaning_of table o) (opening_of_axioms command problem) 0 w t) orders (y.alone alone))
 
-      answered_or_out : (v : Verdict) (s t : State) (line : List ℕ) → IsSearched (meaning_of table spec) (opening_of_axioms command problem) 0 Saturated s → IsSearched (meaning_of table other) (opening_of_axioms command problem) 0 v t → IsLimitLine command t v line → ⊥
+      answered_or_out : (v : Verdict) (s t : State) (line : List ℕ) → IsSearchedBy (meaning_of table spec) (opening_of_axioms command problem) command.workers Saturated s → IsSearchedBy (meaning_of table other) (opening_of_axioms command problem) command.workers v t → IsLimitLine command t v line → ⊥
       answered_or_out v s t line x y l = isnt_saturated command t (subst (λ (u : Verdict). IsLimitLine command t u line) (sym (searches Saturated v s t x y).0) l)
 
     pub decided_once : {s t : ℕ} {a b : List ℕ} → IsDecided table command name words problem s a → IsDecided table command name words problem t b → (s ≡ t) × (a ≡ b)

@@ -19,10 +19,8 @@ use Rattle.uc_problem.specs.Filling.{WhereTold, IsFilled}
 use Rattle.uc_machine.specs.declared.event.Verdict.{Verdict}
 use Rattle.uc_machine.specs.declared.event.Verdict.TheVariants.{Saturated}
 use Rattle.uc_machine.specs.State.{Opening, State}
-use Rattle.uc_machine.specs.Runs.{Starts}
-use Rattle.uc_search.specs.Searching.{Searches, IsSearched}
+use Rattle.uc_worker.specs.Ends.{IsSearchedBy}
 use Rattle.uc_runs.specs.Causes.{Causes, CausesIfLimit}
-use Rattle.uc_search.proofs.Caused.{searched_told}
 use Rattle.uc_decide.specs.declared.reply.Reply.{Reply}
 use Rattle.uc_decide.specs.declared.reply.Reply.TheVariants.{Equal, Different, Spent, Grown}
 use Rattle.uc_decide.specs.Asking.{IsRight}
@@ -87,16 +85,13 @@ module _ (table : Table) (m : Meaning) (command : Command) (name : List ℕ) (ax
 
   -- THE SEARCH
 
-  pub told_by : (o : Opening) (v : Verdict) (s : State) (r : Result Answer AllocError) → IsSearched m o 0 v s → IfOk r (λ answer. TellsEnd table m command name axioms questions s v answer.status (joined answer.lines)) → IfOk r (λ answer. IsToldBySearch table m command name axioms questions o answer.status (joined answer.lines))
+  pub told_by : (o : Opening) (v : Verdict) (s : State) (r : Result Answer AllocError) → IsSearchedBy m o command.workers v s → IfOk r (λ answer. TellsEnd table m command name axioms questions s v answer.status (joined answer.lines)) → IfOk r (λ answer. IsToldBySearch table m command name axioms questions o answer.status (joined answer.lines))
   told_by o v s (Ok answer) searched told = record { verdict = v; state = s; searched = searched; told = told }
   told_by o v s (Err fault) searched told = tt
 
 -- a verdict without a goal is a limit, where it isn't Saturated
-pub limit_status : (m : Meaning) (o : Opening) (v : Verdict) (s : State) → IsSearched m o 0 v s → o.goals ≡ [] → (v ≡ Saturated → ⊥) → verdict_status v ≡ 2
+pub limit_status : (m : Meaning) (o : Opening) {workers : ℕ} (v : Verdict) (s : State) → IsSearchedBy m o workers v s → o.goals ≡ [] → (v ≡ Saturated → ⊥) → verdict_status v ≡ 2
 limit_status m o v s searched none n = out_status v (none_proved m o v s searched none) n
-
-pub searched_from : (m n : Meaning) (o p : Opening) (w : ℕ) (start s : State) (v : Verdict) → m ≡ n → o ≡ p → w ≡ 0 → Starts o start → Searches m o w start v s → IsSearched n p 0 v s
-searched_from m n o p w start s v is_m is_o is_w starts searches = record { start = start; starts = rw is_o at starts; searches = rw (is_m, is_o, is_w) at searches }
 
 -- AN ORDER
 
@@ -148,17 +143,17 @@ module _ (table : Table) (command : Command) (name : List ℕ) (words : List (Li
     abbrev Told : State → Verdict → ℕ → List ℕ → Type 0
     Told = TellsEnd table m command name (axioms_of problem.clauses) questions
 
-    answer_of : (s : State) (v : Verdict) (status : ℕ) (answer : List ℕ) → IsSearched m o 0 v s → Told s v status answer → IsDecided table command name words problem status answer
+    answer_of : (s : State) (v : Verdict) (status : ℕ) (answer : List ℕ) → IsSearchedBy m o command.workers v s → Told s v status answer → IsDecided table command name words problem status answer
     answer_of s _ _ _ searched (tells_replies d replies right) = is_answered chosen are searched replies
     answer_of s v _ _ searched (tells_limit is) = is_out chosen are searched is
 
-    cause_of : (s : State) (v : Verdict) (line : List ℕ) → IsLimitLine command s v line → CausesIfLimit m o s v → Causes m o s v
-    cause_of s _ _ budget_is_spent h = h
-    cause_of s _ _ limit_is_passed h = h
-    cause_of s _ _ (pair_is_large outer path at place) h = h
-    cause_of s _ _ step_is_large h = h
+    cause_of : (s t : State) (v : Verdict) (line : List ℕ) → IsLimitLine command s v line → CausesIfLimit m o t v → Causes m o t v
+    cause_of s t _ _ budget_is_spent h = h
+    cause_of s t _ _ limit_is_passed h = h
+    cause_of s t _ _ (pair_is_large outer path at place) h = h
+    cause_of s t _ _ step_is_large h = h
 
-    promise_of : (s : State) (v : Verdict) (status : ℕ) (answer : List ℕ) → IsSearched m o 0 v s → Told s v status answer → IsAnswered table command problem spec questions status answer ⊎ IsOut table command name problem spec status answer
+    promise_of : (s : State) (v : Verdict) (status : ℕ) (answer : List ℕ) → IsSearchedBy m o command.workers v s → Told s v status answer → IsAnswered table command problem spec questions status answer ⊎ IsOut table command name problem spec status answer
     promise_of s _ _ _ searched (tells_replies {replies = replies} d a right) = inl (record {
       state = s;
       searched = searched;
@@ -173,7 +168,7 @@ module _ (table : Table) (command : Command) (name : List ℕ) (words : List (Li
       verdict = v;
       state = s;
       searched = searched;
-      cause = cause_of s v line is (searched_told m o 0 (omega arith) v s searched);
+      cause = cause_of s searched.ended.came.then_ v line is (subst (CausesIfLimit m o searched.ended.came.then_) searched.verdict searched.ended.came.cause);
       line = line;
       line_is = is;
       status_is = refl;

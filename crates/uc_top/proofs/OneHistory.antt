@@ -1,4 +1,4 @@
--- The search that answers words is one: it has one verdict and one state, with its history.
+-- The search by one worker that answers words is one: it has one verdict and one state, with its history.
 use Rattle.std.proofs.Common.{ℕ, ◌≡◌, ◌≤◌, List, [], None, Ok, sym, ap₂, subst}
 use Rattle.uc_term.specs.Table.{Table, IsDistinct}
 use Rattle.uc_edge.specs.Files.{Files}
@@ -33,7 +33,7 @@ use Rattle.uc_top.proofs.ProveOnce.{chosen_fits}
 use Rattle.uc_top.proofs.SearchLaws.{OneSearch}
 use Rattle.uc_top.proofs.EncodedTables.{marks_grow}
 
-module _ (one_search : OneSearch) (files : Files) (command : Command) (some : 1 ≤ command.order.w0) (most : command.order.w0 ≤ 1000000) (name : List ℕ) where
+module _ (one_search : OneSearch) (files : Files) (command : Command) (some : 1 ≤ command.order.w0) (most : command.order.w0 ≤ 1000000) (alone : command.workers ≡ 1) (name : List ℕ) where
   -- by one table, problem and encoding
   encoded_search : (table : Table) → IsDistinct table → (problem : Problem) → Agrees table problem → (e f : Encoded) (spec named : OrderSpec) (v w : Verdict) (s t : State) → Encodes table problem (Ok e) → Encodes table problem (Ok f) → IsChosen table problem.signature command.order e.fresh spec → IsChosen table problem.signature command.order f.fresh named → IsSearched (meaning_of table spec) (opening_for command e) 0 v s → IsSearched (meaning_of table named) (opening_for command f) 0 w t → (v ≡ w) × (s ≡ t)
   encoded_search table distinct problem agrees e f spec named v w s t d g c k x y =
@@ -53,8 +53,8 @@ module _ (one_search : OneSearch) (files : Files) (command : Command) (some : 1 
       (subst (λ (p : Problem). Encodes x.table p (Ok y.encoded)) problems (subst (λ t. Encodes t y.problem (Ok y.encoded)) tables y.encodes))
       x.chosen
       (subst (λ (p : Problem). IsChosen x.table p.signature command.order y.encoded.fresh y.spec) problems (subst (λ t. IsChosen t y.problem.signature command.order y.encoded.fresh y.spec) tables y.chosen))
-      x.searched
-      (subst (λ t. IsSearched (meaning_of t y.spec) (opening_for command y.encoded) 0 y.verdict y.state) tables y.searched)
+      (x.searched.alone alone)
+      (subst (λ t. IsSearched (meaning_of t y.spec) (opening_for command y.encoded) 0 y.verdict y.state) tables (y.searched.alone alone))
 
   -- by one table and problem
   plain_search : (table : Table) (problem : Problem) → Agrees table problem → (spec named : OrderSpec) (v w : Verdict) (s t : State) → IsChosen table problem.signature command.order None spec → IsChosen table problem.signature command.order None named → IsSearched (meaning_of table spec) (opening_of_axioms command problem) 0 v s → IsSearched (meaning_of table named) (opening_of_axioms command problem) 0 w t → (v ≡ w) × (s ≡ t)
@@ -63,7 +63,7 @@ module _ (one_search : OneSearch) (files : Files) (command : Command) (some : 1 
       one_search (meaning_of table spec) (spec_laws table problem.signature.symbols spec (fits table problem.signature command.order some most (is_signature table problem agrees) None spec c tt)) (opening_of_axioms command problem) 0 v w s t x (subst (λ (o : OrderSpec). IsSearched (meaning_of table o) (opening_of_axioms command problem) 0 w t) orders y)
 
 -- whatever is asked, and whatever the words are that don't count
-module _ (one_search : OneSearch) (files : Files) (k l : Command) (some : 1 ≤ k.order.w0) (most : k.order.w0 ≤ 1000000) (name : List ℕ) (roots : k.root ≡ l.root) (orders : k.order ≡ l.order) (budgets : k.budget ≡ l.budget) (limits : k.pairs ≡ l.pairs) where
+module _ (one_search : OneSearch) (files : Files) (k l : Command) (some : 1 ≤ k.order.w0) (most : k.order.w0 ≤ 1000000) (alone : k.workers ≡ 1) (alone_too : l.workers ≡ 1) (name : List ℕ) (roots : k.root ≡ l.root) (orders : k.order ≡ l.order) (budgets : k.budget ≡ l.budget) (limits : k.pairs ≡ l.pairs) where
   same_opening : (problem : Problem) → opening_of_axioms l problem ≡ opening_of_axioms k problem
   same_opening problem = ap₂ (λ (b p : ℕ). record { axioms = axioms_of problem.clauses; goals = []; budget = b; limit = p }) (sym budgets) (sym limits)
 
@@ -71,10 +71,10 @@ module _ (one_search : OneSearch) (files : Files) (k l : Command) (some : 1 ≤ 
   decided_history x y =
       let filled = subst (λ r. IsFilled files r name [] y.table y.problem) (sym roots) y.filled in
       let chosen = subst (λ (o : OrderWords). IsChosen y.table y.problem.signature o None y.spec) (sym orders) y.chosen in
-      let searched = subst (λ (o : Opening). IsSearched (meaning_of y.table y.spec) o 0 y.verdict y.state) (same_opening y.problem) y.searched in
+      let searched = subst (λ (o : Opening). IsSearched (meaning_of y.table y.spec) o 0 y.verdict y.state) (same_opening y.problem) (y.searched.alone alone_too) in
       let tables : y.table ≡ x.table = sym (filled_once files k.root name [] x.table y.table x.distinct y.distinct x.problem y.problem x.filled filled) in
       let problems : y.problem ≡ x.problem = sym (filled_problem_once files k.root name [] x.table y.table x.distinct y.distinct x.problem y.problem x.filled filled) in
-      plain_search one_search files k some most name x.table x.problem x.holds.agrees x.spec y.spec x.verdict y.verdict x.state y.state x.chosen
+      plain_search one_search files k some most alone name x.table x.problem x.holds.agrees x.spec y.spec x.verdict y.verdict x.state y.state x.chosen
       (subst (λ (p : Problem). IsChosen x.table p.signature k.order None y.spec) problems (subst (λ t. IsChosen t y.problem.signature k.order None y.spec) tables chosen))
-      x.searched
+      (x.searched.alone alone)
       (subst (λ (p : Problem). IsSearched (meaning_of x.table y.spec) (opening_of_axioms k p) 0 y.verdict y.state) problems (subst (λ t. IsSearched (meaning_of t y.spec) (opening_of_axioms k y.problem) 0 y.verdict y.state) tables searched))

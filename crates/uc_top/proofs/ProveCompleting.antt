@@ -1,5 +1,5 @@
 -- How `prove` ends.
-use Rattle.std.proofs.Common.{inl, inr, ℕ, ◌≡◌, ◌≤◌, List, [], Option, Some, Result, Ok, Err, refl, sym, ap, ◌∙◌, subst, arith}
+use Rattle.std.proofs.Common.{ℕ, ◌≡◌, ◌≤◌, List, [], Option, Some, Result, Ok, Err, refl, sym, ap, ◌∙◌, subst, arith}
 use Rattle.std.specs.Result.{IfOk}
 use Rattle.std.specs.declared.alloc.AllocError.{AllocError}
 use Rattle.std.specs.Io.KnownBytes.{Appends}
@@ -75,13 +75,12 @@ module _ (files : Files) (loaded table : Table) (distinct : IsDistinct table) (c
 
 module _ (files : Files) (before now : ℕ) (well : Rose before now → ⊥) (words : List (List ℕ)) (old new : Option (List ℕ)) where
   whole : {status result : ℕ} {text : List ℕ} → MayAnswer (Some files) before now words status text → Appends old new text → result ≡ status → CompletesProve files words old new result
-  whole wants_memory written e command name loaded table problem encoded spec reads is_prove one names distinct held adds encodes is_chosen = rw e (lacks_memory written)
-  whole {status} {result} {text} (is_answer a) written e command name loaded table problem encoded spec reads is_prove one names distinct held adds encodes is_chosen = go (of_verb (Some files) before now words verb.Prove is_prove reads a)
+  whole wants_memory written e command name loaded table problem encoded spec reads is_prove names distinct held adds encodes is_chosen = rw e (lacks_memory written)
+  whole {status} {result} {text} (is_answer a) written e command name loaded table problem encoded spec reads is_prove names distinct held adds encodes is_chosen = go (of_verb (Some files) before now words verb.Prove is_prove reads a)
     where
       go : OfProve (Some files) before now command status text → ProveEnds files command name old new result
-      go (inl many) = absurd (many.0 one)
-      go (inr p) =
-          let answer : ProveAnswers command name (Some files) before now status text = subst (λ n. ProveAnswers command n (Some files) before now status text) (only_name (sym p.2 ∙ names)) p.3 in
+      go p =
+          let answer : ProveAnswers command name (Some files) before now status text = subst (λ n. ProveAnswers command n (Some files) before now status text) (only_name (sym p.1 ∙ names)) p.2 in
           rw e (tells_verdict (prove_ends files loaded table distinct command name problem encoded spec held adds encodes is_chosen before now well answer) written)
 
 pub prove_completes : (holds : Option Files) (before now : ℕ) (words : List (List ℕ)) (old new : Option (List ℕ)) (write_before write_now result : ℕ) → IsRun holds before now words old new write_before write_now result → (files : Files) → holds ≡ Some files → (Rose before now → ⊥) → (Rose write_before write_now → ⊥) → CompletesProve files words old new result
@@ -94,8 +93,8 @@ prove_completes holds before now words old new write_before write_now result run
 
 -- a run that tells an answer that keeps its promise keeps its word
 pub keeps_word : (files : Files) (words : List (List ℕ)) (old new : Option (List ℕ)) (before now : ℕ) (text : List ℕ) (status result : ℕ) → IsTold old new before now text status result → (status ≤ 2 → (command : Command) → Reads words command → command.verb ≡ verb.Prove → KeepsCommand files command status text) → KeepsWord files words old new result
-keeps_word files words old new before now text status _ (told written) keeps command name reads is_prove one names few = (text, keeps few command reads is_prove name one names, written)
-keeps_word files words old new before now text status _ (cut_short short part rose) keeps command name reads is_prove one names few = absurd (omega (arith, few))
+keeps_word files words old new before now text status _ (told written) keeps command name reads is_prove names few = (text, keeps few command reads is_prove name names, written)
+keeps_word files words old new before now text status _ (cut_short short part rose) keeps command name reads is_prove names few = absurd (omega (arith, few))
 
 -- words have one command, so what is kept for it is kept for the words
 pub promised_by : (files : Files) (words : List (List ℕ)) (command : Command) (status : ℕ) (text : List ℕ) → Reads words command → (command.verb ≡ verb.Prove → KeepsCommand files command status text) → (other : Command) → Reads words other → other.verb ≡ verb.Prove → KeepsCommand files other status text

@@ -49,7 +49,7 @@ marks_for table problem (Some marks) m = (m.2.eq, m.2.yes, m.2.no)
 pub chosen_fits : (table : Table) (command : Command) (problem : Problem) (encoded : Encoded) (spec : OrderSpec) → 1 ≤ command.order.w0 → command.order.w0 ≤ 1000000 → Agrees table problem → Encodes table problem (Ok encoded) → IsChosen table problem.signature command.order encoded.fresh spec → Fits table (all_symbols problem.signature encoded.fresh) spec
 chosen_fits table command problem encoded spec some most agrees e c = fits table problem.signature command.order some most (is_signature table problem agrees) encoded.fresh spec c (marks_for table problem encoded.fresh e.0)
 
-module _ (one_search : OneSearch) (table : Table) (distinct : IsDistinct table) (command : Command) (some : 1 ≤ command.order.w0) (most : command.order.w0 ≤ 1000000) (name : List ℕ) where
+module _ (one_search : OneSearch) (table : Table) (distinct : IsDistinct table) (command : Command) (some : 1 ≤ command.order.w0) (most : command.order.w0 ≤ 1000000) (alone : command.workers ≡ 1) (name : List ℕ) where
   module _ (problem : Problem) (agrees : Agrees table problem) where
     laws : (encoded : Encoded) (spec : OrderSpec) → Encodes table problem (Ok encoded) → IsChosen table problem.signature command.order encoded.fresh spec → Laws (meaning_of table spec)
     laws encoded spec e c = spec_laws table (all_symbols problem.signature encoded.fresh) spec (chosen_fits table command problem encoded spec some most agrees e c)
@@ -68,8 +68,8 @@ module _ (one_search : OneSearch) (table : Table) (distinct : IsDistinct table) 
     prove_once (is_searched {encoded = encoded} {spec = spec} {v = v} {s = s} {text = text} i e c x a) (is_searched {encoded = other} {spec = named} {v = w} {s = t} {text = told} j d k y b) =
         let same : other ≡ encoded = encoding_once table problem distinct other encoded d e in
         let orders : named ≡ spec = order_once table problem.signature command.order encoded.fresh named spec (subst (λ (f : Encoded). IsChosen table problem.signature command.order f.fresh named) same k) c in
-        let there = subst (λ (o : OrderSpec). IsSearched (meaning_of table o) (opening_for command encoded) 0 w t) orders (subst (λ (f : Encoded). IsSearched (meaning_of table named) (opening_for command f) 0 w t) same y) in
-        let once = one_search (meaning_of table spec) (laws encoded spec e c) (opening_for command encoded) 0 v w s t x there in
+        let there = subst (λ (o : OrderSpec). IsSearched (meaning_of table o) (opening_for command encoded) 0 w t) orders (subst (λ (f : Encoded). IsSearched (meaning_of table named) (opening_for command f) 0 w t) same (y.alone alone)) in
+        let once = one_search (meaning_of table spec) (laws encoded spec e c) (opening_for command encoded) 0 v w s t (x.alone alone) there in
         let by_encoding = subst (λ (f : Encoded). VerdictAnswers table command name problem f named t w told) same b in
         let by_order = subst (λ (o : OrderSpec). VerdictAnswers table command name problem encoded o t w told) orders by_encoding in
         let by_verdict = subst (λ (u : Verdict). VerdictAnswers table command name problem encoded spec t u told) (sym once.0) by_order in
@@ -77,12 +77,12 @@ module _ (one_search : OneSearch) (table : Table) (distinct : IsDistinct table) 
         (ap verdict_status once.0, ap₂ (λ l u. l ++ trace_if command u) (verdict_once table command name problem agrees encoded e spec s a by_state) once.1)
 
 -- Two encodings make one table of the one that loading leaves.
-module _ (one_search : OneSearch) (command : Command) (some : 1 ≤ command.order.w0) (most : command.order.w0 ≤ 1000000) (name : List ℕ) where
+module _ (one_search : OneSearch) (command : Command) (some : 1 ≤ command.order.w0) (most : command.order.w0 ≤ 1000000) (alone : command.workers ≡ 1) (name : List ℕ) where
   module _ (loaded table other : Table) (distinct : IsDistinct table) (apart : IsDistinct other) (problem : Problem) (has : HasAll loaded problem.signature.symbols) (agrees : Agrees table problem) where
     in_one : (fresh again : Option Fresh) {s t : ℕ} {a b : List ℕ} → AddsMarks loaded table fresh → Marks table problem (Ok fresh) → AddsMarks loaded other again → Marks other problem (Ok again) → IsProveAnswer table command name loaded problem s a → IsProveAnswer other command name loaded problem t b → (s ≡ t) × (a ≡ b)
     in_one fresh again {t = t} {b = b} i m j n x y =
         let same : other ≡ table = marks_add_once problem loaded other table apart distinct has again fresh j i n m in
-        prove_once one_search table distinct command some most name problem agrees x (subst (λ (u : Table). IsProveAnswer u command name loaded problem t b) same y)
+        prove_once one_search table distinct command some most alone name problem agrees x (subst (λ (u : Table). IsProveAnswer u command name loaded problem t b) same y)
 
     prove_alike : {s t : ℕ} {a b : List ℕ} → IsProveAnswer table command name loaded problem s a → IsProveAnswer other command name loaded problem t b → (s ≡ t) × (a ≡ b)
     prove_alike (has_large_goal {number = number} m g) (has_large_goal {number = place} n h) =

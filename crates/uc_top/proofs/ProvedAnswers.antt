@@ -28,10 +28,8 @@ use Rattle.uc_problem.proofs.Later.{Grows-refl}
 use Rattle.uc_order.specs.declared.spec.OrderSpec.{OrderSpec}
 use Rattle.uc_order.specs.Laws.{Meaning}
 use Rattle.uc_machine.specs.declared.event.Verdict.{Verdict}
-use Rattle.uc_machine.specs.Events.{commits_by}
 use Rattle.uc_machine.specs.State.{Opening, State}
-use Rattle.uc_machine.specs.Runs.{Starts, axioms_wait, too_many_axioms}
-use Rattle.uc_search.specs.Searching.{Searches}
+use Rattle.uc_worker.specs.Ends.{IsSearchedBy}
 use Rattle.uc_words.specs.declared.command.Command.{Command}
 use Rattle.uc_ordering.specs.declared.fault.ChoiceFault.{ChoiceFault}
 use Rattle.uc_ordering.specs.declared.fault.ChoiceFault.TheVariants.{NoMemory}
@@ -170,16 +168,11 @@ module _ (table : Table) (command : Command) (name : List ℕ) (problem : Proble
     searched_promises (Ok answer) e k = λ few can. rw e (k can)
     searched_promises (Err fault) e k = tt
 
-    pub ended : (start : State) (m : Meaning) (o : Opening) (w : ℕ) → Agrees table problem → Encodes table problem (Ok encoded) → IsChosen table problem.signature command.order encoded.fresh spec → Fits table encoded.signature.symbols spec → m ≡ meaning_of table spec → o ≡ opening_for command encoded → w ≡ 0 → Starts o start → Searches m o w start v s → HasEnded table command problem encoded spec v s
-    ended start m o w agrees encodes is_chosen fits is_m is_o is_w starts searches = record {
+    pub ended : (m : Meaning) (o : Opening) → Agrees table problem → Encodes table problem (Ok encoded) → IsChosen table problem.signature command.order encoded.fresh spec → Fits table encoded.signature.symbols spec → m ≡ meaning_of table spec → o ≡ opening_for command encoded → IsSearchedBy m o command.workers v s → HasEnded table command problem encoded spec v s
+    ended m o agrees encodes is_chosen fits is_m is_o searched_so = record {
       agrees = agrees;
       encodes = encodes;
       chosen = is_chosen;
       fits = fits;
-      searched = record { start = start; starts = rw is_o at starts; searches = rw (is_m, is_o, is_w) at searches };
+      searched = rw (is_m, is_o) at searched_so;
     }
-
--- a book that has just been opened has no commits, and no task is out
-pub starts_fresh : (o : Opening) (s : State) (w : ℕ) → Starts o s → (0 ≡ commits_by w s.history) × (s.out ≡ [])
-starts_fresh o s w (axioms_wait le) = (refl, refl)
-starts_fresh o s w (too_many_axioms lt) = (refl, refl)

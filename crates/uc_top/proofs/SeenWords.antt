@@ -140,3 +140,6 @@ budget_within words command r = (limited_within 0 10000000 command.budget 100000
 
 pub pairs_within : (words : List (List ℕ)) (command : Command) → Reads words command → command.pairs ≤ 8000000
 pairs_within words command r = (limited_within 1 8000000 command.pairs 1000000 (omega arith) (omega arith) (value key.Pairs r.said.1.given) r.is.pairs).1
+
+pub workers_within : (words : List (List ℕ)) (command : Command) → Reads words command → (1 ≤ command.workers) × (command.workers ≤ 64)
+workers_within words command r = limited_within 1 64 command.workers 1 (omega arith) (omega arith) (value key.Workers r.said.1.given) r.is.workers

@@ -11,7 +11,7 @@ ghost use Rattle.uc_fact.specs.Live.{numbered};
 ghost use Rattle.uc_decide.specs.declared.reply.Reply.{Reply as AnyReply};
 ghost use Rattle.uc_decide.specs.Deciding.{Decides};
 ghost use Rattle.uc_book.specs.Openings.{opening_of};
-ghost use Rattle.uc_search.specs.Searching.{IsSearched};
+ghost use Rattle.uc_worker.specs.Ends.{IsSearchedBy};
 ghost use Rattle.uc_ordering.specs.Fits.{Fits};
 ghost use Rattle.uc_ordering.specs.Meaning.{meaning_of};
 ghost use Rattle.uc_answer.specs.Lines.{joined};
@@ -29,36 +29,41 @@ use crate::axioms::without_goals;
 use crate::loading::bytes_of;
 use std::alloc::{AllocError, Global};
 use std::sync::Wait;
+use std::thread::Threads;
 use uc_answer::{
     Answer, Question, STOPPED, choice_answer, load_answer, out_lines, read_questions, replies,
     replies_status, reply_lines, word_answer,
 };
 use uc_book::Book;
-use uc_edge::Library;
+use uc_edge::{Gate, Library};
 use uc_fact::System;
 use uc_machine::Verdict;
 use uc_order::{Order, OrderSpec};
 use uc_ordering::{Chosen, choose};
 use uc_problem::{Encoded, Problem, load};
-use uc_search::{live_system, search_alone};
+use uc_search::live_system;
 use uc_shelf::Shelf;
 use uc_term::{Symbols, Text};
 use uc_words::Command;
+use uc_worker::search;
 
 /// The answer to `decide` for the problem file of this name and the questions that are these words, by the command's order,
-/// budget, limit on pairs and steps, with one worker.
-pub(crate) fn decide_answer<R: Wait, L: Library>(
+/// budget, limit on pairs, workers and steps.
+pub(crate) fn decide_answer<R: Threads + Wait + Sync, L: Library, G: Gate + Sync>(
     rt: &R,
     alloc: Global,
     command: &Command,
     name: &Text,
     words: &[Text],
     library: &mut L,
+    gate: &G,
 ) -> Result<Answer, AllocError>
     requires w0_some { 1 ≤ command.now.order.w0 }
     requires w0_most { command.now.order.w0 ≤ 1000000 }
     requires budget { command.now.budget ≤ 10000000 }
     requires pairs { command.now.pairs ≤ 8000000 }
+    requires some_workers { 1 ≤ command.now.workers }
+    requires few_workers { command.now.workers ≤ 64 }
     requires short { AreShort words.now }
     ensures answers { IfOk result (λ answer. DecideAnswers (L.holds library.old) (L.faults library.old) (L.faults library.new) command.now name.now words.now answer.status (joined answer.lines)) }
     ensures promise { IfOk result (λ answer. answer.status ≤ 2 → (files : Files) → L.holds library.old ≡ Some files → KeepsDecision files command.now name.now words.now answer.status (joined answer.lines)) }
@@ -68,11 +73,11 @@ pub(crate) fn decide_answer<R: Wait, L: Library>(
 {
     let mut symbols = Symbols::new(alloc);
     let name = name.as_bytes();
-    load_and_decide(rt, alloc, command, name, words, &mut symbols, library)
+    load_and_decide(rt, alloc, command, name, words, &mut symbols, library, gate)
 }
 
 /// The answer, with a table for the symbols.
-fn load_and_decide<R: Wait, L: Library>(
+fn load_and_decide<R: Threads + Wait + Sync, L: Library, G: Gate + Sync>(
     rt: &R,
     alloc: Global,
     command: &Command,
@@ -80,11 +85,14 @@ fn load_and_decide<R: Wait, L: Library>(
     words: &[Text],
     symbols: &mut Symbols,
     library: &mut L,
+    gate: &G,
 ) -> Result<Answer, AllocError>
     requires w0_some { 1 ≤ command.now.order.w0 }
     requires w0_most { command.now.order.w0 ≤ 1000000 }
     requires budget { command.now.budget ≤ 10000000 }
     requires pairs { command.now.pairs ≤ 8000000 }
+    requires some_workers { 1 ≤ command.now.workers }
+    requires few_workers { command.now.workers ≤ 64 }
     requires short { AreShort words.now }
     requires empty { symbols.old ≡ [] }
     ensures answers { IfOk result (λ answer. DecideAnswers (L.holds library.old) (L.faults library.old) (L.faults library.new) command.now name.now words.now answer.status (joined answer.lines)) }
@@ -100,14 +108,14 @@ fn load_and_decide<R: Wait, L: Library>(
         name,
         symbols,
     ) {
-        Ok(problem) => asked_answer(rt, alloc, command, name, words, &problem, symbols),
+        Ok(problem) => asked_answer(rt, alloc, command, name, words, &problem, symbols, gate),
         Err(fault) => load_answer(alloc, &fault),
     }
 }
 
 /// The answer for a problem that is loaded. The order is chosen before the questions are read, since what is wrong with it is told
 /// first.
-fn asked_answer<R: Wait>(
+fn asked_answer<R: Threads + Wait + Sync, G: Gate + Sync>(
     rt: &R,
     alloc: Global,
     command: &Command,
@@ -115,12 +123,15 @@ fn asked_answer<R: Wait>(
     words: &[Text],
     problem: &Problem,
     symbols: &mut Symbols,
+    gate: &G,
 ) -> Result<Answer, AllocError>
     requires agrees { Agrees symbols.old problem.now }
     requires w0_some { 1 ≤ command.now.order.w0 }
     requires w0_most { command.now.order.w0 ≤ 1000000 }
     requires budget { command.now.budget ≤ 10000000 }
     requires pairs { command.now.pairs ≤ 8000000 }
+    requires some_workers { 1 ≤ command.now.workers }
+    requires few_workers { command.now.workers ≤ 64 }
     requires short { AreShort words.now }
     ensures answers { IfOk result (λ answer. IsDecided symbols.old command.now name.now words.now problem.now answer.status (joined answer.lines)) }
     ensures promise { IfOk result (λ answer. answer.status ≤ 2 → Decided symbols.old command.now name.now words.now problem.now answer.status (joined answer.lines)) }
@@ -130,7 +141,9 @@ fn asked_answer<R: Wait>(
         Ok(spec) => match read_questions(alloc, words, known, symbols) {
             Ok(asked) => {
                 let questions = asked.as_slice();
-                searched_answer(rt, alloc, command, name, problem, questions, &spec, symbols)
+                searched_answer(
+                    rt, alloc, command, name, problem, questions, &spec, symbols, gate,
+                )
             }
             Err(misread) => word_answer(alloc, misread.number, &misread.fault),
         },
@@ -139,7 +152,7 @@ fn asked_answer<R: Wait>(
 }
 
 /// The answer by this order: the search from the problem's axioms, and what it tells of the questions.
-fn searched_answer<R: Wait>(
+fn searched_answer<R: Threads + Wait + Sync, G: Gate + Sync>(
     rt: &R,
     alloc: Global,
     command: &Command,
@@ -148,12 +161,15 @@ fn searched_answer<R: Wait>(
     questions: &[Question],
     spec: &OrderSpec,
     symbols: &Symbols,
+    gate: &G,
 ) -> Result<Answer, AllocError>
     requires agrees { Agrees symbols.now problem.now }
     requires fits { Fits symbols.now problem.now.signature.symbols spec.now }
     requires ground { AreGroundQuestions (meaning_of symbols.now spec.now) questions.now }
     requires budget { command.now.budget ≤ 10000000 }
     requires pairs { command.now.pairs ≤ 8000000 }
+    requires some_workers { 1 ≤ command.now.workers }
+    requires few_workers { command.now.workers ≤ 64 }
     ensures { IfOk result (λ answer. IsToldBySearch symbols.now (meaning_of symbols.now spec.now) command.now name.now (axioms_of problem.now.clauses) questions.now (opening_of_axioms command.now problem.now) answer.status (joined answer.lines)) }
 {
     let encoded = without_goals(alloc, problem)?;
@@ -165,7 +181,7 @@ fn searched_answer<R: Wait>(
         questions,
         symbols,
     };
-    told_answer(rt, alloc, &asked, &encoded, &order, &shelf)
+    told_answer(rt, alloc, &asked, &encoded, &order, &shelf, gate)
 }
 
 /// Questions of a command about the problem of this name, and the symbols.
@@ -178,13 +194,14 @@ struct Asked<'a> {
 }
 
 /// The answer of a search from these axioms, without goals, by this order.
-fn told_answer<R: Wait, O: Order>(
+fn told_answer<R: Threads + Wait + Sync, O: Order + Sync, G: Gate + Sync>(
     rt: &R,
     alloc: Global,
     asked: &Asked,
     encoded: &Encoded,
     order: &O,
     shelf: &Shelf,
+    gate: &G,
 ) -> Result<Answer, AllocError>
     requires no_goals { encoded.now.goals ≡ [] }
     requires over { AreOfSignature (HasSym (O.meaning order.now)) (O.meaning order.now).arity encoded.now.axioms }
@@ -192,13 +209,23 @@ fn told_answer<R: Wait, O: Order>(
     requires of_table { AreGroundOfTable asked.now.symbols.now (O.meaning order.now) }
     requires budget { asked.now.command.now.budget ≤ 10000000 }
     requires pairs { asked.now.command.now.pairs ≤ 8000000 }
+    requires some_workers { 1 ≤ asked.now.command.now.workers }
+    requires few_workers { asked.now.command.now.workers ≤ 64 }
     ensures { IfOk result (λ answer. IsToldBySearch asked.now.symbols.now (O.meaning order.now) asked.now.command.now asked.now.name.now encoded.now.axioms asked.now.questions.now (opening_for asked.now.command.now encoded.now) answer.status (joined answer.lines)) }
 {
-    let (budget, pairs) = (asked.command.budget, asked.command.pairs);
-    let mut book = Book::start(alloc, encoded, order, shelf, budget, pairs)?;
-    let mut pass = book.enroll(alloc, 0)?;
-    let verdict = search_alone(rt, alloc, &mut book, shelf, encoded, order, &mut pass)?;
-    closed_answer(alloc, asked, order, shelf, &book, verdict)
+    let command = asked.command;
+    let searched = search(
+        rt,
+        alloc,
+        encoded,
+        order,
+        shelf,
+        command.budget,
+        command.pairs,
+        command.workers,
+        gate,
+    )?;
+    closed_answer(alloc, asked, order, shelf, &searched.book, searched.verdict)
 }
 
 /// The answer of a book without goals that has this verdict.
@@ -215,7 +242,7 @@ fn closed_answer<O: Order>(
     requires over { AreOfSignature (HasSym (O.meaning order.now)) (O.meaning order.now).arity book.now.opening.problem.axioms }
     requires ground { AreGroundQuestions (O.meaning order.now) asked.now.questions.now }
     requires of_table { AreGroundOfTable asked.now.symbols.now (O.meaning order.now) }
-    requires searched { IsSearched (O.meaning order.now) (opening_of book.now.opening) 0 verdict book.now.state }
+    requires searched { IsSearchedBy (O.meaning order.now) (opening_of book.now.opening) asked.now.command.now.workers verdict book.now.state }
     ensures { IfOk result (λ answer. TellsEnd asked.now.symbols.now (O.meaning order.now) asked.now.command.now asked.now.name.now book.now.opening.problem.axioms asked.now.questions.now book.now.state verdict answer.status (joined answer.lines)) }
 {
     match verdict {

@@ -1,6 +1,6 @@
 //! The program.
 
-ghost use Rattle.std.specs.Prelude.{◌≡◌, ◌≤◌, ℕ, List, true, IfOk, IsTrue, IsFalse, Some, map, string_bytes, length};
+ghost use Rattle.std.specs.Prelude.{◌≡◌, ◌≤◌, ℕ, List, true, IfOk, Some, map, string_bytes, length};
 ghost use Rattle.uc_edge.specs.Files.{Files};
 ghost use Rattle.std.specs.Io.KnownBytes.{Appends};
 ghost use Rattle.uc_edge.specs.Faults.{Rose, IsCounted};
@@ -50,32 +50,35 @@ use uc_words::{Command, Verb, WordsFault, read_words};
 /// where the word is a term over the problem's signature that the axioms normalise by that order, and 2 where the limit or the
 /// largest size ends it, with the term and each step told; 4 where the order is refused; else 3. For `pairs` it is 0 where the
 /// problem is there and the words name an order for it, and each critical pair of its axioms is told on a line of its own; 4
-/// where the order is refused; else 3. For `prove`, with one worker, it is 0 where the text has a proof of the problem, each
-/// line of it right and the last one a refutation of a goal; 1 where it has a system by which each ground term has exactly one
+/// where the order is refused; else 3. For `prove` it is 0 where the text has a proof of the problem, each line of it right and the
+/// last one a refutation of a goal; 1 where it has a system by which each ground term has exactly one
 /// normal form, two terms share it exactly if their equation follows from the axioms, those of the encoding where a goal has a
 /// variable, and no goal follows; 2 where the text names the budget, the limit on pairs or the size that ended the search; 4
-/// where the order is refused; else 3. For `decide`, with one worker, it is 0 where each question has its line, `equal` where
-/// its equation follows from the axioms and `different` where it doesn't, with the least terms to which its sides are equal; 2
+/// where the order is refused; else 3. For `decide` it is 0 where each question has its line, `equal` where its
+/// equation follows from the axioms and `different` where it doesn't, with the least terms to which its sides are equal; 2
 /// where a question stays open, since its steps are spent or a term grew too large, or where the text names the budget, the
 /// limit on pairs or the size that ended the search; 4 where the order is refused; else 3. For `table` it is 0 where the table
 /// file has a table that is a model of the problem, so that none of the problem's goals follows from its axioms; 1 where an axiom
 /// fails in it, or the sides of a goal meet, under the assignment that is told; else 3. For `model` it is 0 where a table up to the
 /// size is a model of the problem, so that none of its goals follows, while none of a smaller size is one, and the text is that table;
 /// 1 where none up to the size is one; 2 where the text names the limit that ended the search: the budget, the cells of a table or the
-/// assignments of a clause; else 3. 4 stands for words that have no reading, name a command that isn't built, or ask for more than one
-/// worker, 5 for a failure of the library and 6 for one of the sink, each only where its count of faults rose in this call, and 7 for
+/// assignments of a clause; else 3. 4 stands for words that have no reading or name a command that isn't
+/// built, 5 for a failure of the library and 6 for one of the sink, each only where its count of faults rose in this call, and 7 for
 /// want of memory.
 ///
 /// At most one fetch fails, and it ends the call with status 5, in which case the text names the file whose fetch failed, or with 6 or
 /// 7, where its line isn't written. Each line of the answer goes to the sink with its line feed in one write, and the rest of it
 /// again where the sink took less. At most one write fails, and it ends the call with status 6.
+///
+/// `prove` and `decide` search by as many workers as the words ask for. One worker searches in this thread. Of more, each has a thread,
+/// which ends before the call does, and passes the gate between the draw of a task and its computation.
 pub fn run<R: Threads + Wait + Sync, L: Library, S: Sink, G: Gate + Sync>(
     rt: &R,
     alloc: Global,
     words: &[String],
     library: &mut L,
     sink: &mut S,
-    _gate: &G,
+    gate: &G,
 ) -> u8
     ensures answers { IsRun (L.holds library.old) (L.faults library.old) (L.faults library.new) (map string_bytes words.now) (S.written sink.old) (S.written sink.new) (S.faults sink.old) (S.faults sink.new) result }
     ensures certified { result ≡ 0 → (files : Files) → L.holds library.old ≡ Some files → (command : Command) → Reads (map string_bytes words.now) command → command.verb ≡ Check → IsCertified files command }
@@ -99,18 +102,19 @@ pub fn run<R: Threads + Wait + Sync, L: Library, S: Sink, G: Gate + Sync>(
     ensures sink_counted { (status : ℕ) × CountsWrites (S.faults sink.old) (S.faults sink.new) status result }
     ensures given { GivesAnswer (L.holds library.old) (L.faults library.old) (L.faults library.new) (map string_bytes words.now) (S.written sink.old) (S.written sink.new) (S.faults sink.old) (S.faults sink.new) (S.pieces sink.old) (S.pieces sink.new) result }
 {
-    match whole_answer(rt, alloc, words, library) {
+    match whole_answer(rt, alloc, words, library, gate) {
         Ok(answer) => tell(sink, &answer),
         Err(_) => tell_memory_out(sink),
     }
 }
 
 // The answer to the words, its text as one.
-fn whole_answer<R: Wait, L: Library>(
+fn whole_answer<R: Threads + Wait + Sync, L: Library, G: Gate + Sync>(
     rt: &R,
     alloc: Global,
     words: &[String],
     library: &mut L,
+    gate: &G,
 ) -> Result<WholeAnswer, AllocError>
     ensures answers { IfOk result (λ answer. MayAnswer (L.holds library.old) (L.faults library.old) (L.faults library.new) (map string_bytes words.now) answer.status answer.text) }
     ensures certified { IfOk result (λ answer. answer.status ≡ 0 → (files : Files) → L.holds library.old ≡ Some files → (command : Command) → Reads (map string_bytes words.now) command → command.verb ≡ Check → IsCertified files command) }
@@ -121,7 +125,7 @@ fn whole_answer<R: Wait, L: Library>(
     ensures faulted { IfOk result (λ answer. (command : Command) → Reads (map string_bytes words.now) command → TellsFault (L.faults library.old) (L.faults library.new) (L.failed_at library.old) (L.failed_at library.new) (fault_opening command) answer.status answer.text) }
     ensures counted { IsWholeFaulted (L.faults library.old) (L.faults library.new) (L.failed_at library.old) (L.failed_at library.new) result }
 {
-    let answer = answer_of(rt, alloc, words, library)?;
+    let answer = answer_of(rt, alloc, words, library, gate)?;
     let text = text_of(alloc, &answer)?;
     Ok(WholeAnswer {
         status: answer.status,
@@ -130,11 +134,12 @@ fn whole_answer<R: Wait, L: Library>(
 }
 
 // The answer to the words.
-fn answer_of<R: Wait, L: Library>(
+fn answer_of<R: Threads + Wait + Sync, L: Library, G: Gate + Sync>(
     rt: &R,
     alloc: Global,
     words: &[String],
     library: &mut L,
+    gate: &G,
 ) -> Result<Answer, AllocError>
     ensures answers { IfOk result (λ answer. MayAnswer (L.holds library.old) (L.faults library.old) (L.faults library.new) (map string_bytes words.now) answer.status (joined answer.lines)) }
     ensures certified { IfOk result (λ answer. answer.status ≡ 0 → (files : Files) → L.holds library.old ≡ Some files → (command : Command) → Reads (map string_bytes words.now) command → command.verb ≡ Check → IsCertified files command) }
@@ -146,18 +151,19 @@ fn answer_of<R: Wait, L: Library>(
     ensures counted { IsStatusFaulted (L.faults library.old) (L.faults library.new) (L.failed_at library.old) (L.failed_at library.new) result }
 {
     match read_words(alloc, words) {
-        Ok(command) => command_answer(rt, alloc, &command, library),
+        Ok(command) => command_answer(rt, alloc, &command, library, gate),
         Err(WordsFault::Usage) => usage_answer(alloc),
         Err(WordsFault::NoMemory) => Err(AllocError),
     }
 }
 
 // The answer to a command.
-fn command_answer<R: Wait, L: Library>(
+fn command_answer<R: Threads + Wait + Sync, L: Library, G: Gate + Sync>(
     rt: &R,
     alloc: Global,
     command: &Command,
     library: &mut L,
+    gate: &G,
 ) -> Result<Answer, AllocError>
     requires fits { fits command.now.verb (length command.now.positionals) ≡ true }
     requires words { (words : List (List ℕ)) × Reads words command.now }
@@ -198,26 +204,19 @@ fn command_answer<R: Wait, L: Library>(
             [name] => model_answer(alloc, command, name, library),
             _ => unreachable!(),
         },
-        Verb::Prove => prove_command(rt, alloc, command, library),
-        Verb::Decide => decide_command(rt, alloc, command, library),
+        Verb::Prove => prove_command(rt, alloc, command, library, gate),
+        Verb::Decide => decide_command(rt, alloc, command, library, gate),
         _ => usage_answer(alloc),
     }
 }
 
-// Whether one worker is to search; with more a command is answered by the usage line so far.
-fn is_alone(command: &Command) -> bool
-    ensures one { IsTrue result → command.now.workers ≡ 1 }
-    ensures many { IsFalse result → command.now.workers ≡ 1 → ⊥ }
-{
-    command.workers == 1
-}
-
-// The answer to `prove` by one worker; with more it is the usage line so far.
-fn prove_command<R: Wait, L: Library>(
+// The answer to `prove`.
+fn prove_command<R: Threads + Wait + Sync, L: Library, G: Gate + Sync>(
     rt: &R,
     alloc: Global,
     command: &Command,
     library: &mut L,
+    gate: &G,
 ) -> Result<Answer, AllocError>
     requires prove { command.now.verb ≡ Prove }
     requires fits { fits command.now.verb (length command.now.positionals) ≡ true }
@@ -228,21 +227,19 @@ fn prove_command<R: Wait, L: Library>(
     ensures later { L.faults library.old ≤ L.faults library.new }
     ensures faulted { AnswersFault (L.faults library.old) (L.faults library.new) (L.failed_at library.old) (L.failed_at library.new) (fault_opening command.now) result }
 {
-    if !is_alone(command) {
-        return usage_answer(alloc);
-    }
     match command.positionals.as_slice() {
-        [name] => prove_answer(rt, alloc, command, name, library),
+        [name] => prove_answer(rt, alloc, command, name, library, gate),
         _ => unreachable!(),
     }
 }
 
-// The answer to `decide` by one worker; with more it is the usage line so far.
-fn decide_command<R: Wait, L: Library>(
+// The answer to `decide`.
+fn decide_command<R: Threads + Wait + Sync, L: Library, G: Gate + Sync>(
     rt: &R,
     alloc: Global,
     command: &Command,
     library: &mut L,
+    gate: &G,
 ) -> Result<Answer, AllocError>
     requires decide { command.now.verb ≡ Decide }
     requires fits { fits command.now.verb (length command.now.positionals) ≡ true }
@@ -253,11 +250,8 @@ fn decide_command<R: Wait, L: Library>(
     ensures later { L.faults library.old ≤ L.faults library.new }
     ensures faulted { AnswersFault (L.faults library.old) (L.faults library.new) (L.failed_at library.old) (L.failed_at library.new) (fault_opening command.now) result }
 {
-    if !is_alone(command) {
-        return usage_answer(alloc);
-    }
     match command.positionals.as_slice() {
-        [name, questions @ ..] => decide_answer(rt, alloc, command, name, questions, library),
+        [name, questions @ ..] => decide_answer(rt, alloc, command, name, questions, library, gate),
         _ => unreachable!(),
     }
 }

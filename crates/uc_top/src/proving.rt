@@ -20,31 +20,34 @@ ghost use Rattle.uc_top.specs.Faulting.{AnswersFault, input_error};
 use crate::loading::bytes_of;
 use std::alloc::{AllocError, Global};
 use std::sync::Wait;
+use std::thread::Threads;
 use uc_answer::{
     Answer, Closed, choice_answer, large_answer, unloaded_answer, verdict_answer, with_status,
 };
-use uc_book::Book;
-use uc_edge::Library;
+use uc_edge::{Gate, Library};
 use uc_order::OrderSpec;
 use uc_ordering::{Chosen, choose};
 use uc_problem::{EncodeFault, Encoded, Problem, encode, load};
-use uc_search::search_alone;
 use uc_shelf::Shelf;
 use uc_term::{Symbols, Text};
 use uc_words::Command;
+use uc_worker::search;
 
-/// The answer to `prove` for the problem file of this name, by the command's order, budget and limit on pairs, with one worker.
-pub(crate) fn prove_answer<R: Wait, L: Library>(
+/// The answer to `prove` for the problem file of this name, by the command's order, budget, limit on pairs and workers.
+pub(crate) fn prove_answer<R: Threads + Wait + Sync, L: Library, G: Gate + Sync>(
     rt: &R,
     alloc: Global,
     command: &Command,
     name: &Text,
     library: &mut L,
+    gate: &G,
 ) -> Result<Answer, AllocError>
     requires w0_some { 1 ≤ command.now.order.w0 }
     requires w0_most { command.now.order.w0 ≤ 1000000 }
     requires budget { command.now.budget ≤ 10000000 }
     requires pairs { command.now.pairs ≤ 8000000 }
+    requires some_workers { 1 ≤ command.now.workers }
+    requires few_workers { command.now.workers ≤ 64 }
     requires name { are_seen name.now ≡ true }
     requires some { 0 < length name.now }
     requires root { IsRootSeen command.now.root }
@@ -55,25 +58,36 @@ pub(crate) fn prove_answer<R: Wait, L: Library>(
     ensures faulted { AnswersFault (L.faults library.old) (L.faults library.new) (L.failed_at library.old) (L.failed_at library.new) (input_error name.now) result }
 {
     let mut symbols = Symbols::new(alloc);
-    let answer = load_and_prove(rt, alloc, command, name.as_bytes(), &mut symbols, library);
+    let answer = load_and_prove(
+        rt,
+        alloc,
+        command,
+        name.as_bytes(),
+        &mut symbols,
+        library,
+        gate,
+    );
     // The entries of the table are all different, so what was read is the only reading.
     let _ = symbols.len();
     answer
 }
 
 /// The answer, with a table for the symbols.
-fn load_and_prove<R: Wait, L: Library>(
+fn load_and_prove<R: Threads + Wait + Sync, L: Library, G: Gate + Sync>(
     rt: &R,
     alloc: Global,
     command: &Command,
     name: &[u8],
     symbols: &mut Symbols,
     library: &mut L,
+    gate: &G,
 ) -> Result<Answer, AllocError>
     requires w0_some { 1 ≤ command.now.order.w0 }
     requires w0_most { command.now.order.w0 ≤ 1000000 }
     requires budget { command.now.budget ≤ 10000000 }
     requires pairs { command.now.pairs ≤ 8000000 }
+    requires some_workers { 1 ≤ command.now.workers }
+    requires few_workers { command.now.workers ≤ 64 }
     requires name { are_seen name.now ≡ true }
     requires some { 0 < length name.now }
     requires root { IsRootSeen command.now.root }
@@ -91,32 +105,35 @@ fn load_and_prove<R: Wait, L: Library>(
         name,
         symbols,
     ) {
-        Ok(problem) => encoded_answer(rt, alloc, command, name, &problem, symbols),
+        Ok(problem) => encoded_answer(rt, alloc, command, name, &problem, symbols, gate),
         Err(fault) => unloaded_answer(alloc, name, &fault),
     }
 }
 
 /// The answer for a problem that is loaded.
-fn encoded_answer<R: Wait>(
+fn encoded_answer<R: Threads + Wait + Sync, G: Gate + Sync>(
     rt: &R,
     alloc: Global,
     command: &Command,
     name: &[u8],
     problem: &Problem,
     symbols: &mut Symbols,
+    gate: &G,
 ) -> Result<Answer, AllocError>
     requires agrees { Agrees symbols.old problem.now }
     requires w0_some { 1 ≤ command.now.order.w0 }
     requires w0_most { command.now.order.w0 ≤ 1000000 }
     requires budget { command.now.budget ≤ 10000000 }
     requires pairs { command.now.pairs ≤ 8000000 }
+    requires some_workers { 1 ≤ command.now.workers }
+    requires few_workers { command.now.workers ≤ 64 }
     ensures answers { IfOk result (λ answer. IsProveAnswer symbols.new command.now name.now symbols.old problem.now answer.status (joined answer.lines)) }
     ensures promise { IfOk result (λ answer. answer.status ≤ 2 → CanBePrinted symbols.new name.now problem.now → Keeps symbols.new command.now name.now problem.now answer.status (joined answer.lines)) }
     ensures adds { IfOk result (λ answer. answer.status ≤ 2 → IsDistinct symbols.new → (fresh : Option Fresh) → Marks symbols.new problem.now (Ok fresh) → AddsMarks symbols.old symbols.new fresh) }
     ensures grows { Grows symbols.old symbols.new }
 {
     match encode(alloc, problem, symbols) {
-        Ok(encoded) => ordered_answer(rt, alloc, command, name, problem, &encoded, symbols),
+        Ok(encoded) => ordered_answer(rt, alloc, command, name, problem, &encoded, symbols, gate),
         Err(EncodeFault::GoalTooLarge(number)) => {
             let goal = &problem.clauses.as_slice()[number as usize];
             with_status(alloc, b"InputError", name, large_answer(alloc, goal)?)
@@ -126,7 +143,7 @@ fn encoded_answer<R: Wait>(
 }
 
 /// The answer for a problem that is encoded.
-fn ordered_answer<R: Wait>(
+fn ordered_answer<R: Threads + Wait + Sync, G: Gate + Sync>(
     rt: &R,
     alloc: Global,
     command: &Command,
@@ -134,6 +151,7 @@ fn ordered_answer<R: Wait>(
     problem: &Problem,
     encoded: &Encoded,
     symbols: &Symbols,
+    gate: &G,
 ) -> Result<Answer, AllocError>
     requires agrees { Agrees symbols.now problem.now }
     requires encodes { Encodes symbols.now problem.now (Ok encoded.now) }
@@ -141,6 +159,8 @@ fn ordered_answer<R: Wait>(
     requires w0_most { command.now.order.w0 ≤ 1000000 }
     requires budget { command.now.budget ≤ 10000000 }
     requires pairs { command.now.pairs ≤ 8000000 }
+    requires some_workers { 1 ≤ command.now.workers }
+    requires few_workers { command.now.workers ≤ 64 }
     ensures answers { (loaded : Table) → AddsMarks loaded symbols.now encoded.now.fresh → IfOk result (λ answer. IsProveAnswer symbols.now command.now name.now loaded problem.now answer.status (joined answer.lines)) }
     ensures promise { IfOk result (λ answer. answer.status ≤ 2 → CanBePrinted symbols.now name.now problem.now → Keeps symbols.now command.now name.now problem.now answer.status (joined answer.lines)) }
 {
@@ -151,13 +171,15 @@ fn ordered_answer<R: Wait>(
         &problem.signature,
         encoded.fresh,
     ) {
-        Ok(spec) => searched_answer(rt, alloc, command, name, problem, encoded, &spec, symbols),
+        Ok(spec) => searched_answer(
+            rt, alloc, command, name, problem, encoded, &spec, symbols, gate,
+        ),
         Err(fault) => choice_answer(alloc, &fault),
     }
 }
 
 /// The answer by this order: the search, and what its verdict tells.
-fn searched_answer<R: Wait>(
+fn searched_answer<R: Threads + Wait + Sync, G: Gate + Sync>(
     rt: &R,
     alloc: Global,
     command: &Command,
@@ -166,6 +188,7 @@ fn searched_answer<R: Wait>(
     encoded: &Encoded,
     spec: &OrderSpec,
     symbols: &Symbols,
+    gate: &G,
 ) -> Result<Answer, AllocError>
     requires agrees { Agrees symbols.now problem.now }
     requires encodes { Encodes symbols.now problem.now (Ok encoded.now) }
@@ -173,21 +196,24 @@ fn searched_answer<R: Wait>(
     requires fits { Fits symbols.now encoded.now.signature.symbols spec.now }
     requires budget { command.now.budget ≤ 10000000 }
     requires pairs { command.now.pairs ≤ 8000000 }
+    requires some_workers { 1 ≤ command.now.workers }
+    requires few_workers { command.now.workers ≤ 64 }
     ensures answers { (loaded : Table) → AddsMarks loaded symbols.now encoded.now.fresh → IfOk result (λ answer. IsProveAnswer symbols.now command.now name.now loaded problem.now answer.status (joined answer.lines)) }
     ensures promise { IfOk result (λ answer. answer.status ≤ 2 → CanBePrinted symbols.now name.now problem.now → Keeps symbols.now command.now name.now problem.now answer.status (joined answer.lines)) }
 {
     let order = Chosen::new(alloc, spec, symbols, encoded.signature.symbols.as_slice())?;
     let shelf = Shelf::new(alloc)?;
-    let mut book = Book::start(
+    let searched = search(
+        rt,
         alloc,
         encoded,
         &order,
         &shelf,
         command.budget,
         command.pairs,
+        command.workers,
+        gate,
     )?;
-    let mut pass = book.enroll(alloc, 0)?;
-    let verdict = search_alone(rt, alloc, &mut book, &shelf, encoded, &order, &mut pass)?;
     let closed = Closed {
         name,
         command,
@@ -197,5 +223,11 @@ fn searched_answer<R: Wait>(
         symbols,
         shelf: &shelf,
     };
-    verdict_answer(alloc, &closed, &book, &pass, verdict)
+    verdict_answer(
+        alloc,
+        &closed,
+        &searched.book,
+        searched.shares.as_slice(),
+        searched.verdict,
+    )
 }

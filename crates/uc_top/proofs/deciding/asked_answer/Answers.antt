@@ -12,13 +12,13 @@ pub choose-requires-clause-signature : goal.choose-requires-clause-signature
 choose-requires-clause-signature g c = is_signature c.args.symbols.now c.args.problem.now c.requires.agrees
 
 pub searched_answer-requires-clause-agrees : goal.searched_answer-requires-clause-agrees
-searched_answer-requires-clause-agrees g c = agrees_later c.args.symbols.now c.read_questions.new.symbols c.read_questions.ensures.grows c.args.problem.now c.requires.agrees
+searched_answer-requires-clause-agrees g c κs within = agrees_later c.args.symbols.now c.read_questions.new.symbols c.read_questions.ensures.grows c.args.problem.now c.requires.agrees
 
 pub searched_answer-requires-clause-fits : goal.searched_answer-requires-clause-fits
-searched_answer-requires-clause-fits g c = subst (λ (t : Table). Fits t c.args.problem.now.signature.symbols c.in-Ok.spec) (sym (c.in-Ok-read_questions.ensures.kept (rw c.as_slice-known.ensures (signature_has c.args.symbols.now c.args.problem.now c.requires.agrees)))) c.in-Ok.ensures.fits
+searched_answer-requires-clause-fits g c κs within = subst (λ (t : Table). Fits t c.args.problem.now.signature.symbols c.in-Ok.spec) (sym (c.in-Ok-read_questions.ensures.kept (rw c.as_slice-known.ensures (signature_has c.args.symbols.now c.args.problem.now c.requires.agrees)))) c.in-Ok.ensures.fits
 
 pub searched_answer-requires-clause-ground : goal.searched_answer-requires-clause-ground
-searched_answer-requires-clause-ground g c = rw c.as_slice-questions.ensures (questions_ground c.read_questions.new.symbols c.args.problem.now.signature.symbols c.in-Ok.spec (subst (λ (t : Table). Fits t c.args.problem.now.signature.symbols c.in-Ok.spec) (sym (c.in-Ok-read_questions.ensures.kept (rw c.as_slice-known.ensures (signature_has c.args.symbols.now c.args.problem.now c.requires.agrees)))) c.in-Ok.ensures.fits) (rw c.as_slice-known.ensures at c.in-Ok-read_questions.ensures.reads))
+searched_answer-requires-clause-ground g c κs within = rw c.as_slice-questions.ensures (questions_ground c.read_questions.new.symbols c.args.problem.now.signature.symbols c.in-Ok.spec (subst (λ (t : Table). Fits t c.args.problem.now.signature.symbols c.in-Ok.spec) (sym (c.in-Ok-read_questions.ensures.kept (rw c.as_slice-known.ensures (signature_has c.args.symbols.now c.args.problem.now c.requires.agrees)))) c.in-Ok.ensures.fits) (rw c.as_slice-known.ensures at c.in-Ok-read_questions.ensures.reads))
 
 pub returns-in-Ok-read_questions-clause-answers : goal.returns-in-Ok-read_questions-clause-answers
 returns-in-Ok-read_questions-clause-answers g c = told_answers c.args.symbols.now c.args.command.now c.args.name.now c.args.words.now c.args.problem.now c.read_questions.new.symbols (c.in-Ok-read_questions.ensures.kept (rw c.as_slice-known.ensures (signature_has c.args.symbols.now c.args.problem.now c.requires.agrees))) c.in-Ok.spec c.in-Ok-read_questions.asked c.in-Ok.ensures.ok (rw c.as_slice-known.ensures at c.in-Ok-read_questions.ensures.reads) c.searched_answer.result (rw c.as_slice-questions.ensures at c.searched_answer.ensures)

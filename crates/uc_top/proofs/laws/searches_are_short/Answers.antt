@@ -10,8 +10,8 @@ worker_zero = omega arith
 
 pub returns : goal.returns
 returns c = record {
-  prove = λ files command name s a x. searched_bounded (meaning_of x.table x.spec) (opening_for command x.encoded) 0 worker_zero x.verdict x.state x.searched;
-  prove_rounds = λ files command name s a x. few_rounds (meaning_of x.table x.spec) (opening_for command x.encoded) 0 worker_zero x.verdict x.state x.searched;
-  decide = λ files command name asked s a x. searched_bounded (meaning_of x.table x.spec) (opening_of_axioms command x.problem) 0 worker_zero x.verdict x.state x.searched;
-  decide_rounds = λ files command name asked s a x. few_rounds (meaning_of x.table x.spec) (opening_of_axioms command x.problem) 0 worker_zero x.verdict x.state x.searched;
+  prove = λ files command name s a x one. searched_bounded (meaning_of x.table x.spec) (opening_for command x.encoded) 0 worker_zero x.verdict x.state (x.searched.alone one);
+  prove_rounds = λ files command name s a x one. few_rounds (meaning_of x.table x.spec) (opening_for command x.encoded) 0 worker_zero x.verdict x.state (x.searched.alone one);
+  decide = λ files command name asked s a x one. searched_bounded (meaning_of x.table x.spec) (opening_of_axioms command x.problem) 0 worker_zero x.verdict x.state (x.searched.alone one);
+  decide_rounds = λ files command name asked s a x one. few_rounds (meaning_of x.table x.spec) (opening_of_axioms command x.problem) 0 worker_zero x.verdict x.state (x.searched.alone one);
 }

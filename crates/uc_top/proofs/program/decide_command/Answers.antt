@@ -1,54 +1,47 @@
-use Rattle.std.proofs.Common.{◌≡◌, ◌-◌, ◌∷◌, length, take, drop, sym, ◌∙◌, subst, arith}
+use Rattle.std.proofs.Common.{◌≡◌, ◌-◌, ◌∷◌, length, take, drop, sym, ◌∙◌, subst}
 use Rattle.std.proofs.lemmas.Result.{IfOk-weaker}
 use Rattle.uc_answer.specs.QuestionWords.{AreShort}
-use Rattle.uc_top.specs.Answers.{IsSearching, decides, has_many_workers}
-use Rattle.uc_top.specs.Runs.{MayAnswer, is_answer}
-use Rattle.uc_top.proofs.Answering.{one_line, name_and_more}
+use Rattle.uc_top.specs.Answers.{decides}
+use Rattle.uc_top.specs.Runs.{is_answer}
+use Rattle.uc_top.proofs.Answering.{name_and_more}
 use Rattle.uc_top.proofs.DecidePromises.{kept_answers}
-use Rattle.uc_top.proofs.ProvedAnswers.{no_promise}
-use Rattle.uc_top.proofs.SeenWords.{budget_within, pairs_within}
+use Rattle.uc_top.proofs.SeenWords.{budget_within, pairs_within, workers_within}
 use Rattle.uc_top.proofs.ShortWords.{positionals_short}
 use Rattle.uc_top.proofs.VariableWeights.{w0_within}
-use Rattle.std.proofs.Common.{refl}
-use Rattle.uc_top.specs.Faulting.{fault_opening}
-use Rattle.uc_top.proofs.Faulted.{none_failed}
 use Rattle.uc_top.proofs.program.decide_command.Goals as goal
 
-pub returns-then-not-is_alone-clause-answers : goal.returns-then-not-is_alone-clause-answers
-returns-then-not-is_alone-clause-answers g c words r = one_line c.usage_answer.result (MayAnswer _ _ _ words) _ _ c.usage_answer.ensures (is_answer (has_many_workers r (subst IsSearching (sym c.requires.decide) tt) (c.is_alone.ensures.many c.if-not-is_alone.true)))
-
-pub returns-then-not-is_alone-clause-decided : goal.returns-then-not-is_alone-clause-decided
-returns-then-not-is_alone-clause-decided g c = no_promise _ _ _ c.usage_answer.result (omega arith) c.usage_answer.ensures
-
 pub decide_answer-requires-clause-w0_some : goal.decide_answer-requires-clause-w0_some
-decide_answer-requires-clause-w0_some g c = (w0_within c.requires.words.0 c.args.command.now c.requires.words.1).0
+decide_answer-requires-clause-w0_some g c κs within = (w0_within c.requires.words.0 c.args.command.now c.requires.words.1).0
 
 pub decide_answer-requires-clause-w0_most : goal.decide_answer-requires-clause-w0_most
-decide_answer-requires-clause-w0_most g c = (w0_within c.requires.words.0 c.args.command.now c.requires.words.1).1
+decide_answer-requires-clause-w0_most g c κs within = (w0_within c.requires.words.0 c.args.command.now c.requires.words.1).1
 
 pub decide_answer-requires-clause-budget : goal.decide_answer-requires-clause-budget
-decide_answer-requires-clause-budget g c = budget_within c.requires.words.0 c.args.command.now c.requires.words.1
+decide_answer-requires-clause-budget g c κs within = budget_within c.requires.words.0 c.args.command.now c.requires.words.1
 
 pub decide_answer-requires-clause-pairs : goal.decide_answer-requires-clause-pairs
-decide_answer-requires-clause-pairs g c = pairs_within c.requires.words.0 c.args.command.now c.requires.words.1
+decide_answer-requires-clause-pairs g c κs within = pairs_within c.requires.words.0 c.args.command.now c.requires.words.1
+
+pub decide_answer-requires-clause-some_workers : goal.decide_answer-requires-clause-some_workers
+decide_answer-requires-clause-some_workers g c κs within = (workers_within c.requires.words.0 c.args.command.now c.requires.words.1).0
+
+pub decide_answer-requires-clause-few_workers : goal.decide_answer-requires-clause-few_workers
+decide_answer-requires-clause-few_workers g c κs within = (workers_within c.requires.words.0 c.args.command.now c.requires.words.1).1
 
 pub decide_answer-requires-clause-short : goal.decide_answer-requires-clause-short
-decide_answer-requires-clause-short g c =
+decide_answer-requires-clause-short g c κs within =
     let names : c.args.command.now.positionals ≡ c.name-item.result ∷ take (length c.as_slice.result.now - 1) (drop 1 c.as_slice.result.now) = sym c.as_slice.ensures ∙ name_and_more c.as_slice.result.now c.name-item.result c.in-len1-up.len_at_least c.name-item.is in
     (subst AreShort names (positionals_short c.requires.words.0 c.args.command.now c.requires.words.1)).1
 
 pub returns-clause-answers : goal.returns-clause-answers
 returns-clause-answers g c words r =
     let names : c.args.command.now.positionals ≡ c.name-item.result ∷ take (length c.as_slice.result.now - 1) (drop 1 c.as_slice.result.now) = sym c.as_slice.ensures ∙ name_and_more c.as_slice.result.now c.name-item.result c.in-len1-up.len_at_least c.name-item.is in
-    IfOk-weaker c.decide_answer.result _ _ (λ answer a. is_answer (decides r c.requires.decide (c.is_alone.ensures.one c.if-not-is_alone.false) names a)) c.decide_answer.ensures.answers
+    IfOk-weaker c.decide_answer.result _ _ (λ answer a. is_answer (decides r c.requires.decide names a)) c.decide_answer.ensures.answers
 
 pub returns-clause-decided : goal.returns-clause-decided
 returns-clause-decided g c =
     let names : c.args.command.now.positionals ≡ c.name-item.result ∷ take (length c.as_slice.result.now - 1) (drop 1 c.as_slice.result.now) = sym c.as_slice.ensures ∙ name_and_more c.as_slice.result.now c.name-item.result c.in-len1-up.len_at_least c.name-item.is in
     kept_answers c.args.command.now c.name-item.result (take (length c.as_slice.result.now - 1) (drop 1 c.as_slice.result.now)) _ c.decide_answer.result names c.decide_answer.ensures.promise
-
-pub returns-then-not-is_alone-clause-faulted : goal.returns-then-not-is_alone-clause-faulted
-returns-then-not-is_alone-clause-faulted g c = none_failed (g.L.Library.faults c.args.library.now) (g.L.Library.faults c.args.library.now) (g.L.Library.failed_at c.args.library.now) (g.L.Library.failed_at c.args.library.now) (fault_opening c.args.command.now) c.usage_answer.result (refl, refl)
 
 pub returns-clause-faulted : goal.returns-clause-faulted
 returns-clause-faulted g c = rw c.requires.decide c.decide_answer.ensures.faulted

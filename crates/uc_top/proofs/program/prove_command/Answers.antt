@@ -1,60 +1,53 @@
-use Rattle.std.proofs.Common.{◌≡◌, [], ◌∷◌, sym, ◌∙◌, subst, arith}
+use Rattle.std.proofs.Common.{◌≡◌, [], ◌∷◌, sym, ◌∙◌, subst}
 use Rattle.std.proofs.lemmas.Result.{IfOk-weaker}
-use Rattle.uc_top.specs.Answers.{IsSearching, proves, has_many_workers}
-use Rattle.uc_top.specs.Runs.{MayAnswer, is_answer}
-use Rattle.uc_top.proofs.Answering.{one_line, one_name}
+use Rattle.uc_top.specs.Answers.{proves}
+use Rattle.uc_top.specs.Runs.{is_answer}
+use Rattle.uc_top.proofs.Answering.{one_name}
 use Rattle.uc_top.proofs.Positionals.{only_name}
-use Rattle.uc_top.proofs.ProvedAnswers.{no_promise}
-use Rattle.uc_top.proofs.SeenWords.{AreTitles, positionals_seen, root_seen, budget_within, pairs_within}
+use Rattle.uc_top.proofs.SeenWords.{AreTitles, positionals_seen, root_seen, budget_within, pairs_within, workers_within}
 use Rattle.uc_top.proofs.VariableWeights.{w0_within}
-use Rattle.std.proofs.Common.{refl}
-use Rattle.uc_top.specs.Faulting.{fault_opening}
-use Rattle.uc_top.proofs.Faulted.{none_failed}
 use Rattle.uc_top.proofs.program.prove_command.Goals as goal
 
-pub returns-then-not-is_alone-clause-answers : goal.returns-then-not-is_alone-clause-answers
-returns-then-not-is_alone-clause-answers g c words r = one_line c.usage_answer.result (MayAnswer _ _ _ words) _ _ c.usage_answer.ensures (is_answer (has_many_workers r (subst IsSearching (sym c.requires.prove) tt) (c.is_alone.ensures.many c.if-not-is_alone.true)))
-
-pub returns-then-not-is_alone-clause-promise : goal.returns-then-not-is_alone-clause-promise
-returns-then-not-is_alone-clause-promise g c = no_promise _ _ _ c.usage_answer.result (omega arith) c.usage_answer.ensures
-
 pub prove_answer-requires-clause-w0_some : goal.prove_answer-requires-clause-w0_some
-prove_answer-requires-clause-w0_some g c = (w0_within c.requires.words.0 c.args.command.now c.requires.words.1).0
+prove_answer-requires-clause-w0_some g c κs within = (w0_within c.requires.words.0 c.args.command.now c.requires.words.1).0
 
 pub prove_answer-requires-clause-w0_most : goal.prove_answer-requires-clause-w0_most
-prove_answer-requires-clause-w0_most g c = (w0_within c.requires.words.0 c.args.command.now c.requires.words.1).1
+prove_answer-requires-clause-w0_most g c κs within = (w0_within c.requires.words.0 c.args.command.now c.requires.words.1).1
 
 pub prove_answer-requires-clause-budget : goal.prove_answer-requires-clause-budget
-prove_answer-requires-clause-budget g c = budget_within c.requires.words.0 c.args.command.now c.requires.words.1
+prove_answer-requires-clause-budget g c κs within = budget_within c.requires.words.0 c.args.command.now c.requires.words.1
 
 pub prove_answer-requires-clause-pairs : goal.prove_answer-requires-clause-pairs
-prove_answer-requires-clause-pairs g c = pairs_within c.requires.words.0 c.args.command.now c.requires.words.1
+prove_answer-requires-clause-pairs g c κs within = pairs_within c.requires.words.0 c.args.command.now c.requires.words.1
+
+pub prove_answer-requires-clause-some_workers : goal.prove_answer-requires-clause-some_workers
+prove_answer-requires-clause-some_workers g c κs within = (workers_within c.requires.words.0 c.args.command.now c.requires.words.1).0
+
+pub prove_answer-requires-clause-few_workers : goal.prove_answer-requires-clause-few_workers
+prove_answer-requires-clause-few_workers g c κs within = (workers_within c.requires.words.0 c.args.command.now c.requires.words.1).1
 
 pub prove_answer-requires-clause-root : goal.prove_answer-requires-clause-root
-prove_answer-requires-clause-root g c = root_seen c.requires.words.0 c.args.command.now c.requires.words.1
+prove_answer-requires-clause-root g c κs within = root_seen c.requires.words.0 c.args.command.now c.requires.words.1
 
 pub prove_answer-requires-clause-name : goal.prove_answer-requires-clause-name
-prove_answer-requires-clause-name g c =
+prove_answer-requires-clause-name g c κs within =
     let names : c.args.command.now.positionals ≡ c.name-item.result ∷ [] = sym c.as_slice.ensures ∙ one_name c.as_slice.result.now c.name-item.result c.in-len1.len_at_least c.in-len1.len_below c.name-item.is in
     (subst AreTitles names (positionals_seen c.requires.words.0 c.args.command.now c.requires.words.1)).0.1
 
 pub prove_answer-requires-clause-some : goal.prove_answer-requires-clause-some
-prove_answer-requires-clause-some g c =
+prove_answer-requires-clause-some g c κs within =
     let names : c.args.command.now.positionals ≡ c.name-item.result ∷ [] = sym c.as_slice.ensures ∙ one_name c.as_slice.result.now c.name-item.result c.in-len1.len_at_least c.in-len1.len_below c.name-item.is in
     (subst AreTitles names (positionals_seen c.requires.words.0 c.args.command.now c.requires.words.1)).0.0
 
 pub returns-clause-answers : goal.returns-clause-answers
 returns-clause-answers g c words r =
     let names : c.args.command.now.positionals ≡ c.name-item.result ∷ [] = sym c.as_slice.ensures ∙ one_name c.as_slice.result.now c.name-item.result c.in-len1.len_at_least c.in-len1.len_below c.name-item.is in
-    IfOk-weaker c.prove_answer.result _ _ (λ answer a. is_answer (proves r c.requires.prove (c.is_alone.ensures.one c.if-not-is_alone.false) names a)) c.prove_answer.ensures.answers
+    IfOk-weaker c.prove_answer.result _ _ (λ answer a. is_answer (proves r c.requires.prove names a)) c.prove_answer.ensures.answers
 
 pub returns-clause-promise : goal.returns-clause-promise
 returns-clause-promise g c =
     let names : c.args.command.now.positionals ≡ c.name-item.result ∷ [] = sym c.as_slice.ensures ∙ one_name c.as_slice.result.now c.name-item.result c.in-len1.len_at_least c.in-len1.len_below c.name-item.is in
-    IfOk-weaker c.prove_answer.result _ _ (λ answer k few files told name one is. rw (only_name (sym is ∙ names)) (k few files told)) c.prove_answer.ensures.promise
-
-pub returns-then-not-is_alone-clause-faulted : goal.returns-then-not-is_alone-clause-faulted
-returns-then-not-is_alone-clause-faulted g c = none_failed (g.L.Library.faults c.args.library.now) (g.L.Library.faults c.args.library.now) (g.L.Library.failed_at c.args.library.now) (g.L.Library.failed_at c.args.library.now) (fault_opening c.args.command.now) c.usage_answer.result (refl, refl)
+    IfOk-weaker c.prove_answer.result _ _ (λ answer k few files told name is. rw (only_name (sym is ∙ names)) (k few files told)) c.prove_answer.ensures.promise
 
 pub returns-clause-faulted : goal.returns-clause-faulted
 returns-clause-faulted g c =

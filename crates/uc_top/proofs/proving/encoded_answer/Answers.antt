@@ -5,10 +5,10 @@ use Rattle.uc_top.proofs.ProvedAnswers.{large, large_promises, large_adds, marks
 use Rattle.uc_top.proofs.proving.encoded_answer.Goals as goal
 
 pub ordered_answer-requires-clause-agrees : goal.ordered_answer-requires-clause-agrees
-ordered_answer-requires-clause-agrees g c = agrees_later c.args.symbols.now c.encode.new.symbols c.encode.ensures.grows c.args.problem.now c.requires.agrees
+ordered_answer-requires-clause-agrees g c κs within = agrees_later c.args.symbols.now c.encode.new.symbols c.encode.ensures.grows c.args.problem.now c.requires.agrees
 
 pub ordered_answer-requires-clause-encodes : goal.ordered_answer-requires-clause-encodes
-ordered_answer-requires-clause-encodes g c = (rw c.in-Ok.is at c.encode.ensures.encoded) c.encode.new.symbols (Grows-refl c.encode.new.symbols)
+ordered_answer-requires-clause-encodes g c κs within = (rw c.in-Ok.is at c.encode.ensures.encoded) c.encode.new.symbols (Grows-refl c.encode.new.symbols)
 
 pub bounds-as_slice-number : goal.bounds-as_slice-number
 bounds-as_slice-number g c = rw c.as_slice.ensures (large_within c.encode.new.symbols c.args.problem.now c.in-Err-GoalTooLarge.number (rw (c.in-Err-GoalTooLarge.is, c.in-Err-GoalTooLarge.field-0-is) at c.encode.ensures.encoded))

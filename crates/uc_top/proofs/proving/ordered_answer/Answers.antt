@@ -14,7 +14,7 @@ pub choose-requires-clause-marks : goal.choose-requires-clause-marks
 choose-requires-clause-marks g c = marks_for c.args.symbols.now c.args.problem.now c.args.encoded.now.fresh c.requires.encodes.0
 
 pub searched_answer-requires-clause-fits : goal.searched_answer-requires-clause-fits
-searched_answer-requires-clause-fits g c = subst (λ (fs : List Sym). Fits c.args.symbols.now fs c.in-Ok.spec) (sym (encoded_symbols c.args.symbols.now c.args.problem.now c.args.encoded.now c.requires.encodes)) c.in-Ok.ensures.fits
+searched_answer-requires-clause-fits g c κs within = subst (λ (fs : List Sym). Fits c.args.symbols.now fs c.in-Ok.spec) (sym (encoded_symbols c.args.symbols.now c.args.problem.now c.args.encoded.now c.requires.encodes)) c.in-Ok.ensures.fits
 
 pub returns-in-Err-clause-answers : goal.returns-in-Err-clause-answers
 returns-in-Err-clause-answers g c = λ loaded i. unordered c.args.symbols.now c.args.command.now c.args.name.now c.args.problem.now loaded c.args.encoded.now c.in-Err.fault c.choice_answer.result i c.requires.encodes c.in-Err.ensures.err c.choice_answer.ensures.answer c.choice_answer.ensures.not_memory
