@@ -9,3 +9,5 @@ mod drip;
 mod given;
 #[cfg(test)]
 mod systems;
+#[cfg(test)]
+mod workers;
