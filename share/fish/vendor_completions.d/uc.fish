@@ -17,7 +17,7 @@ complete -c uc -n '__fish_seen_subcommand_from prove decide order rewrite pairs'
 complete -c uc -n '__fish_seen_subcommand_from prove decide order rewrite pairs' -l w0 -d 'weight of a variable under kbo' -x
 complete -c uc -n '__fish_seen_subcommand_from prove decide model' -l budget -d 'units of work: pairs joined, goals taken further, equations kept by an audit; of model, prefixes visited' -x
 complete -c uc -n '__fish_seen_subcommand_from prove decide' -l pairs -d 'pairs that may wait' -x
-complete -c uc -n '__fish_seen_subcommand_from prove decide' -l workers -d 'workers that search; more than one is answered by the usage line so far' -x
+complete -c uc -n '__fish_seen_subcommand_from prove decide' -l workers -d 'workers that search at once; with one, two runs print the same' -x
 complete -c uc -n '__fish_seen_subcommand_from decide' -l steps -d 'rewrite steps that one question may take' -x
 complete -c uc -n '__fish_seen_subcommand_from rewrite' -l limit -d 'rewrite steps' -x
 complete -c uc -n '__fish_seen_subcommand_from model' -l size -d 'greatest size of a table' -x
