@@ -18,7 +18,7 @@ use Rattle.uc_top.proofs.Positionals.{first_name, second_name, head_name, tail_n
 use Rattle.uc_top.specs.FileAnswers.{FileAnswers}
 use Rattle.uc_top.specs.TableAnswers.{TableTextAnswers}
 use Rattle.uc_top.specs.ModelAnswers.{IsModelled}
-use Rattle.uc_top.proofs.LoadedOnce.{load_once}
+use Rattle.uc_top.proofs.LoadedOnce.{load_once, with_premise}
 use Rattle.uc_top.proofs.FileAnswering.{file_once}
 use Rattle.uc_top.proofs.TabledOnce.{table_text_once}
 use Rattle.uc_top.proofs.ModelledOnce.{modelled_once}
@@ -65,43 +65,43 @@ module _ (files : Files) (before now again later : ℕ) where
     usage_once : {s t : ℕ} {a b : List ℕ} → IsUsage (Some files) before now s a → IsUsage (Some files) again later t b → (s ≡ t) × (a ≡ b)
     usage_once x y = (x.0 ∙ sym y.0, x.1 ∙ sym y.1)
 
-    decide_once : (k : Command) → IsWithin k → k.workers ≡ 1 → (name : List ℕ) (questions : List (List ℕ)) {s t : ℕ} {a b : List ℕ} → (s ≡ 5 → Rose before now → ⊥) → (t ≡ 5 → Rose again later → ⊥) → DecideAnswers (Some files) before now k name questions s a → DecideAnswers (Some files) again later k name questions t b → (s ≡ t) × (a ≡ b)
-    decide_once k within alone name questions v w x y = load_once files k.root name before now again later (λ table. IsDecided table k name questions) (λ table. IsDecided table k name questions) (λ table problem s t a b d l v w p q. decided_once one_search table d k within.0 within.1 alone name questions problem l.holds.agrees p q) v w x y
+    decide_once : (k : Command) → IsWithin k → (name : List ℕ) (questions : List (List ℕ)) {s t : ℕ} {a b : List ℕ} → (s ≤ 2 → k.workers ≡ 1) → (s ≡ 5 → Rose before now → ⊥) → (t ≡ 5 → Rose again later → ⊥) → DecideAnswers (Some files) before now k name questions s a → DecideAnswers (Some files) again later k name questions t b → (s ≡ t) × (a ≡ b)
+    decide_once k within name questions alone v w x y = load_once files k.root name before now again later (λ table problem status text. (status ≤ 2 → k.workers ≡ 1) × IsDecided table k name questions problem status text) (λ table. IsDecided table k name questions) (λ table problem s t a b d l v w p q. decided_once one_search table d k within.0 within.1 name questions problem l.holds.agrees p.0 p.1 q) v w (with_premise files k.root name before now (λ table. IsDecided table k name questions) (λ status. status ≤ 2 → k.workers ≡ 1) alone x) y
 
-    prove_command_once : (k : Command) → IsWithin k → k.workers ≡ 1 → {s t : ℕ} {a b : List ℕ} → (s ≡ 5 → Rose before now → ⊥) → (t ≡ 5 → Rose again later → ⊥) → OfProve (Some files) before now k s a → OfProve (Some files) again later k t b → (s ≡ t) × (a ≡ b)
-    prove_command_once k within alone {t = t} {b = b} v w (name, p, x) (named, q, y) = prove_answers_once one_search k within.0 within.1 alone name files before now again later v w x (subst (λ n. ProveAnswers k n (Some files) again later t b) (only_name (sym q ∙ p)) y)
+    prove_command_once : (k : Command) → IsWithin k → {s t : ℕ} {a b : List ℕ} → (s ≤ 2 → k.workers ≡ 1) → (s ≡ 5 → Rose before now → ⊥) → (t ≡ 5 → Rose again later → ⊥) → OfProve (Some files) before now k s a → OfProve (Some files) again later k t b → (s ≡ t) × (a ≡ b)
+    prove_command_once k within {t = t} {b = b} alone v w (name, p, x) (named, q, y) = prove_answers_once one_search k within.0 within.1 name files before now again later alone v w x (subst (λ n. ProveAnswers k n (Some files) again later t b) (only_name (sym q ∙ p)) y)
 
-    decide_command_once : (k : Command) → IsWithin k → k.workers ≡ 1 → {s t : ℕ} {a b : List ℕ} → (s ≡ 5 → Rose before now → ⊥) → (t ≡ 5 → Rose again later → ⊥) → OfDecide (Some files) before now k s a → OfDecide (Some files) again later k t b → (s ≡ t) × (a ≡ b)
-    decide_command_once k within alone {t = t} {b = b} v w (name, questions, p, x) (named, asked, q, y) =
+    decide_command_once : (k : Command) → IsWithin k → {s t : ℕ} {a b : List ℕ} → (s ≤ 2 → k.workers ≡ 1) → (s ≡ 5 → Rose before now → ⊥) → (t ≡ 5 → Rose again later → ⊥) → OfDecide (Some files) before now k s a → OfDecide (Some files) again later k t b → (s ≡ t) × (a ≡ b)
+    decide_command_once k within {t = t} {b = b} alone v w (name, questions, p, x) (named, asked, q, y) =
         let names : named ∷ asked ≡ name ∷ questions = sym q ∙ p in
-        decide_once k within alone name questions v w x (subst (λ n. DecideAnswers (Some files) again later k n questions t b) (head_name names) (subst (λ qs. DecideAnswers (Some files) again later k named qs t b) (tail_names names) y))
+        decide_once k within name questions alone v w x (subst (λ n. DecideAnswers (Some files) again later k n questions t b) (head_name names) (subst (λ qs. DecideAnswers (Some files) again later k named qs t b) (tail_names names) y))
 
-    verb_once : (u : Verb) (k : Command) → IsWithin k → (IsSearching u → k.workers ≡ 1) → {s t : ℕ} {a b : List ℕ} → (s ≡ 5 → Rose before now → ⊥) → (t ≡ 5 → Rose again later → ⊥) → Of (Some files) before now u k s a → Of (Some files) again later u k t b → (s ≡ t) × (a ≡ b)
-    verb_once verb.Check k within alone {t = t} {b = b} v w (name, proof, p, x) (named, proved, q, y) =
+    verb_once : (u : Verb) (k : Command) → IsWithin k → {s t : ℕ} {a b : List ℕ} → (s ≤ 2 → IsSearching u → k.workers ≡ 1) → (s ≡ 5 → Rose before now → ⊥) → (t ≡ 5 → Rose again later → ⊥) → Of (Some files) before now u k s a → Of (Some files) again later u k t b → (s ≡ t) × (a ≡ b)
+    verb_once verb.Check k within {t = t} {b = b} alone v w (name, proof, p, x) (named, proved, q, y) =
         let names : named ∷ proved ∷ [] ≡ name ∷ proof ∷ [] = sym q ∙ p in
         check_once k.root name proof v w x (subst (λ n. CheckAnswers (Some files) again later k.root n proof t b) (first_name names) (subst (λ n. CheckAnswers (Some files) again later k.root named n t b) (second_name names) y))
-    verb_once verb.Show k within alone {t = t} {b = b} v w (name, p, x) (named, q, y) = show_once k.root name v w x (subst (λ n. ShowAnswers (Some files) again later k.root n t b) (only_name (sym q ∙ p)) y)
-    verb_once verb.Order k within alone {t = t} {b = b} v w (name, p, x) (named, q, y) = order_once k.order k.root name v w x (subst (λ n. OrderAnswers (Some files) again later k.order k.root n t b) (only_name (sym q ∙ p)) y)
-    verb_once verb.Prove k within alone v w x y = prove_command_once k within (alone tt) v w x y
-    verb_once verb.Decide k within alone v w x y = decide_command_once k within (alone tt) v w x y
-    verb_once verb.Rewrite k within alone {t = t} {b = b} v w (name, word, p, x) (named, other, q, y) =
+    verb_once verb.Show k within {t = t} {b = b} alone v w (name, p, x) (named, q, y) = show_once k.root name v w x (subst (λ n. ShowAnswers (Some files) again later k.root n t b) (only_name (sym q ∙ p)) y)
+    verb_once verb.Order k within {t = t} {b = b} alone v w (name, p, x) (named, q, y) = order_once k.order k.root name v w x (subst (λ n. OrderAnswers (Some files) again later k.order k.root n t b) (only_name (sym q ∙ p)) y)
+    verb_once verb.Prove k within alone v w x y = prove_command_once k within (λ few. alone few tt) v w x y
+    verb_once verb.Decide k within alone v w x y = decide_command_once k within (λ few. alone few tt) v w x y
+    verb_once verb.Rewrite k within {t = t} {b = b} alone v w (name, word, p, x) (named, other, q, y) =
         let names : named ∷ other ∷ [] ≡ name ∷ word ∷ [] = sym q ∙ p in
         rewrite_once k.order k.limit word k.root name v w x (subst (λ n. RewriteAnswers (Some files) again later k.order k.limit word k.root n t b) (first_name names) (subst (λ u. RewriteAnswers (Some files) again later k.order k.limit u k.root named t b) (second_name names) y))
-    verb_once verb.Pairs k within alone {t = t} {b = b} v w (name, p, x) (named, q, y) = pairs_once k.order k.root name v w x (subst (λ n. PairsAnswers (Some files) again later k.order k.root n t b) (only_name (sym q ∙ p)) y)
+    verb_once verb.Pairs k within {t = t} {b = b} alone v w (name, p, x) (named, q, y) = pairs_once k.order k.root name v w x (subst (λ n. PairsAnswers (Some files) again later k.order k.root n t b) (only_name (sym q ∙ p)) y)
     verb_once verb.Gen k within alone v w x y = usage_once x y
-    verb_once verb.Table k within alone {t = t} {b = b} v w (name, file, p, x) (named, other, q, y) =
+    verb_once verb.Table k within {t = t} {b = b} alone v w (name, file, p, x) (named, other, q, y) =
         let names : named ∷ other ∷ [] ≡ name ∷ file ∷ [] = sym q ∙ p in
         table_once k.root name file v w x (subst (λ n. TableAnswers (Some files) again later k.root n file t b) (first_name names) (subst (λ n. TableAnswers (Some files) again later k.root named n t b) (second_name names) y))
-    verb_once verb.Model k within alone {t = t} {b = b} v w (name, p, x) (named, q, y) = model_once k name v w x (subst (λ n. ModelAnswers (Some files) again later k n t b) (only_name (sym q ∙ p)) y)
+    verb_once verb.Model k within {t = t} {b = b} alone v w (name, p, x) (named, q, y) = model_once k name v w x (subst (λ n. ModelAnswers (Some files) again later k n t b) (only_name (sym q ∙ p)) y)
 
     module _ (words : List (List ℕ)) where
       abbrev Either : ℕ → ℕ → ℕ → List ℕ → Type 0
       Either first last status text = ((command : Command) × Reads words command) ⊎ (((command : Command) → Reads words command → ⊥) × IsUsage (Some files) first last status text)
 
-      pub answer_once : SearchesAlone words → {s t : ℕ} {a b : List ℕ} → (s ≡ 5 → Rose before now → ⊥) → (t ≡ 5 → Rose again later → ⊥) → Answers (Some files) before now words s a → Answers (Some files) again later words t b → (s ≡ t) × (a ≡ b)
-      answer_once alone {s} {t} {a} {b} v w x y = go (read_or_not (Some files) before now words s a x) (read_or_not (Some files) again later words t b y)
+      pub answer_once : {s t : ℕ} {a b : List ℕ} → (s ≤ 2 → SearchesAlone words) → (s ≡ 5 → Rose before now → ⊥) → (t ≡ 5 → Rose again later → ⊥) → Answers (Some files) before now words s a → Answers (Some files) again later words t b → (s ≡ t) × (a ≡ b)
+      answer_once {s} {t} {a} {b} alone v w x y = go (read_or_not (Some files) before now words s a x) (read_or_not (Some files) again later words t b y)
         where
           go : Either before now s a → Either again later t b → (s ≡ t) × (a ≡ b)
-          go (inl p) q = verb_once p.0.verb p.0 (w0_within words p.0 p.1) (alone p.0 p.1) v w (of_command (Some files) before now words p.1 x) (of_command (Some files) again later words p.1 y)
+          go (inl p) q = verb_once p.0.verb p.0 (w0_within words p.0 p.1) (λ few. alone few p.0 p.1) v w (of_command (Some files) before now words p.1 x) (of_command (Some files) again later words p.1 y)
           go (inr p) (inl q) = absurd (p.0 q.0 q.1)
           go (inr p) (inr q) = usage_once p.1 q.1

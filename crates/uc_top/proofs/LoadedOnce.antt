@@ -37,3 +37,10 @@ module _ (files : Files) (root : Option (List ℕ)) (name : List ℕ) where
     load_once once v w (is_refused why x e) (is_refused other y f) = (refl, ap load_line (refused_for_once files root name [] x y))
     load_once once v w (is_refused why x e) (is_loaded {table = table} {problem = problem} d l b) = absurd (filled_or_refused files root name [] table problem l.filled x)
     load_once once {s} {t} {a} {b} v w (is_loaded {table = table} {problem = problem} d l x) y = once table problem s t a b d l v w x (answers_for table d problem l Second again later w y)
+
+  -- what holds of the status of an answer for the problem file holds of that for the problem
+  module _ (before now : ℕ) (AnswersFor : Table → Problem → ℕ → List ℕ → Type 0) (Premise : ℕ → Type 0) where
+    pub with_premise : {s : ℕ} {a : List ℕ} → Premise s → LoadAnswers (Some files) before now AnswersFor root name s a → LoadAnswers (Some files) before now (λ table problem status text. Premise status × AnswersFor table problem status text) root name s a
+    with_premise p (fetch_fails file rose stops) = fetch_fails file rose stops
+    with_premise p (is_refused why x e) = is_refused why x e
+    with_premise p (is_loaded d l x) = is_loaded d l (p, x)

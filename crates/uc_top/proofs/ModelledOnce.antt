@@ -2,7 +2,6 @@
 use Rattle.std.proofs.Common.{ℕ, ◌≡◌, List, ap}
 use Rattle.uc_term.specs.Table.{Table as SymbolTable}
 use Rattle.uc_problem.specs.declared.problem.Problem.{Problem}
-use Rattle.uc_table.specs.declared.answers.Searched.{Searched}
 use Rattle.uc_table.proofs.SearchOnce.{searches_once}
 use Rattle.uc_words.specs.declared.command.Command.{Command}
 use Rattle.uc_answer.specs.ModelLines.{searched_status, searched_lines}

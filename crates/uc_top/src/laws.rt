@@ -19,16 +19,16 @@ ghost use Rattle.uc_top.specs.DecideAnswers.{opening_of_axioms};
 ghost use Rattle.uc_top.specs.DecideRuns.{IsHeldDecision, KeepsDecision, Tells};
 
 /// Words and the files of a library have at most one status and one text for an answer, whatever the command is, but where a fetch
-/// failed, or where the words ask for several workers. So `Answers` says exactly where each answer comes.
+/// failed, or where several workers search and end with status 0, 1 or 2. So `Answers` says exactly where each refusal comes.
 pub fn one_answer()
-    ensures answer { (files : Files) (before now again later : ℕ) (words : List (List ℕ)) (s t : ℕ) (a b : List ℕ) → SearchesAlone words → (Rose before now → ⊥) → (Rose again later → ⊥) → Answers (Some files) before now words s a → Answers (Some files) again later words t b → (s ≡ t) × (a ≡ b) }
-    ensures unless_read_fault { (files : Files) (before now again later : ℕ) (words : List (List ℕ)) (s t : ℕ) (a b : List ℕ) → SearchesAlone words → (s ≡ 5 → ⊥) → (t ≡ 5 → ⊥) → Answers (Some files) before now words s a → Answers (Some files) again later words t b → (s ≡ t) × (a ≡ b) }
+    ensures answer { (files : Files) (before now again later : ℕ) (words : List (List ℕ)) (s t : ℕ) (a b : List ℕ) → (s ≤ 2 → SearchesAlone words) → (Rose before now → ⊥) → (Rose again later → ⊥) → Answers (Some files) before now words s a → Answers (Some files) again later words t b → (s ≡ t) × (a ≡ b) }
+    ensures unless_read_fault { (files : Files) (before now again later : ℕ) (words : List (List ℕ)) (s t : ℕ) (a b : List ℕ) → (s ≤ 2 → SearchesAlone words) → (s ≡ 5 → ⊥) → (t ≡ 5 → ⊥) → Answers (Some files) before now words s a → Answers (Some files) again later words t b → (s ≡ t) × (a ≡ b) }
 {}
 
 /// Two runs of one command line over the same files, whatever the command is, that end with another status than 5, 6 and 7, have
-/// one status and tell one text, where a command that searches has one worker.
+/// one status and tell one text; where several workers search, so they do if the status isn't 0, 1 or 2.
 pub fn one_run()
-    ensures { (files : Files) (words : List (List ℕ)) (before now again later : ℕ) (old new first last : Option (List ℕ)) (write_before write_now write_again write_later : ℕ) (r q : ℕ) → SearchesAlone words → IsSettledStatus r → IsSettledStatus q → (x : IsRun (Some files) before now words old new write_before write_now r) (y : IsRun (Some files) again later words first last write_again write_later q) → (r ≡ q) × (x.text ≡ y.text) × Appends old new x.text × Appends first last y.text }
+    ensures { (files : Files) (words : List (List ℕ)) (before now again later : ℕ) (old new first last : Option (List ℕ)) (write_before write_now write_again write_later : ℕ) (r q : ℕ) → (r ≤ 2 → SearchesAlone words) → IsSettledStatus r → IsSettledStatus q → (x : IsRun (Some files) before now words old new write_before write_now r) (y : IsRun (Some files) again later words first last write_again write_later q) → (r ≡ q) × (x.text ≡ y.text) × Appends old new x.text × Appends first last y.text }
 {}
 
 /// The search by one worker that `prove` or `decide` tells of is one function of the words and the files: it has one verdict and one
