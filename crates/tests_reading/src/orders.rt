@@ -131,7 +131,7 @@ const NO_CONSTANT: &str = "cnf(ax, axiom, i(X) = X).";
 // One row a choice: the problem, the options, and the order or why there is none. Every variable weighs 2.
 #[test]
 fn choices(rt: HostRuntime) -> Result<(), Fail> {
-    let rows: [(&str, Options, &str); 15] = [
+    let rows: [(&str, Options, &str); 16] = [
         (GROUND, (false, &[], &[]), "a=2 b=2 i=2 m=2 "),
         (GROUND, (true, &[], &[]), "a b i m "),
         (GROUND, (true, &["m", "a"], &[]), "b i m a "),
@@ -152,6 +152,7 @@ fn choices(rt: HostRuntime) -> Result<(), Fail> {
             "a=2 b=3 true=3 false=3 eq=2 i=0 ",
         ),
         (OPEN, (true, &["a"], &[]), "b i a true false eq "),
+        (OPEN, (true, &[], &[("i", 0)]), "a b i true false eq "),
         (GROUND, (false, &["c", "a", "a"], &[("a", 1)]), "unknown c"),
         (NO_CONSTANT, (true, &["least"], &[]), "unknown least"),
         (OPEN, (true, &["eq"], &[]), "unknown eq"),

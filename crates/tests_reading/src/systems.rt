@@ -445,3 +445,43 @@ fn large_terms(rt: HostRuntime) -> Result<(), Fail> {
     }
     Ok(())
 }
+
+// What stands before and behind a term that is too large, the equation's right side, and the fault: the line's, where some token
+// is spelled otherwise than it would be printed or has the name of no symbol, before the 4,097th node, behind it or in the other term.
+const LARGE: &[(&[u8], &[u8], &[u8], Option<SystemFault>)] = &[
+    (b"f( ", b")", b"least", FIFTH),
+    (b"f(/**/", b")", b"least", FIFTH),
+    (b"'f'(", b")", b"least", FIFTH),
+    (b"g(", b")", b"least", FIFTH),
+    (b" ", b"", b"least", FIFTH),
+    (b"f(X01) = ", b"", b"least", FIFTH),
+    (b"g = ", b"", b"least", FIFTH),
+    (b"7 = ", b"", b"least", FIFTH),
+    (b"", b" ", b"least", FIFTH),
+    (b"", b" )", b"least", FIFTH),
+    (b"", b"", b"g", FIFTH),
+    (b"", b"", b"f(g)", FIFTH),
+    (b"", b"", b" least", FIFTH),
+    (b"", b"", b"'least'", FIFTH),
+    (b"", b"", b"f(X01)", FIFTH),
+    (b"", b"", b"f(X0)", FIFTH),
+    (b"", b"", b"X", FIFTH),
+    (b"", b"", b"X1", LEFT),
+    (b"", b"", b"f(X2)", LEFT),
+    (b"", b"", b"f(least,X10)", LEFT),
+];
+
+#[test]
+fn large_and_spelled_otherwise(rt: HostRuntime) -> Result<(), Fail> {
+    let large = tower(rt.alloc(), 4096)?;
+    for (before, behind, right, wanted) in LARGE {
+        let mut left = Text::from_bytes(rt.alloc(), *before)?;
+        left.extend(large.as_bytes())?;
+        left.extend(*behind)?;
+        assert_eq!(rt;
+            fault_between(rt.alloc(), left.as_bytes(), *right)?,
+            *wanted
+        );
+    }
+    Ok(())
+}
