@@ -21,4 +21,6 @@ mod shelf;
 #[cfg(test)]
 mod tasks;
 #[cfg(test)]
+mod watched;
+#[cfg(test)]
 mod workers;

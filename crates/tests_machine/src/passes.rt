@@ -7,6 +7,7 @@ use crate::fronts::{first_dies, front_of};
 use std::alloc::Global;
 use std::sync::Wait;
 use std::test::Fail;
+use std::thread::Threads;
 use uc_fact::{Equation, Joinable, Origin, Overlap, Side};
 use uc_final::{FinalPasses, final_pass};
 use uc_machine::{Missing, Outcome, Stage};
@@ -15,7 +16,8 @@ use uc_shelf::{Front, Shelf};
 use uc_term::Pos;
 
 // What the pass answers for a few axioms and goals.
-fn pass<O: Order>(
+fn pass<R: Threads + Sync, O: Order + Sync>(
+    rt: &R,
     alloc: Global,
     shelf: &Shelf,
     front: &Front,
@@ -29,10 +31,21 @@ fn pass<O: Order>(
         return Err(Fail::from("too many"));
     }
     let mut passes = FinalPasses::none();
-    Ok(final_pass(alloc, shelf, front, axioms, stages, order, &mut passes)?)
+    Ok(final_pass(
+        rt,
+        alloc,
+        shelf,
+        front,
+        axioms,
+        stages,
+        order,
+        1,
+        &mut passes,
+    )?)
 }
 
-fn outcome_on(
+fn outcome_on<R: Threads + Sync>(
+    rt: &R,
     alloc: Global,
     shelf: &Shelf,
     front: &Front,
@@ -43,11 +56,11 @@ fn outcome_on(
 {
     let axioms = equations(alloc, axioms)?;
     let order = order(alloc)?;
-    pass(alloc, shelf, front, axioms.as_slice(), stages, &order)
+    pass(rt, alloc, shelf, front, axioms.as_slice(), stages, &order)
 }
 
 // What the pass answers over facts with these sides, of which the first one may have died.
-fn outcome<R: Wait>(
+fn outcome<R: Threads + Wait + Sync>(
     rt: &R,
     alloc: Global,
     facts: &[Sides],
@@ -60,7 +73,7 @@ fn outcome<R: Wait>(
     if is_first_dead {
         first_dies(rt, alloc, &shelf, &mut front)?;
     }
-    outcome_on(alloc, &shelf, &front, axioms, stages)
+    outcome_on(rt, alloc, &shelf, &front, axioms, stages)
 }
 
 // Whether the fact with these sides is the only one.
@@ -75,7 +88,7 @@ fn is_only(alloc: Global, facts: &[Equation], sides: &Sides) -> Result<bool, Fai
 const KILLED: &[Sides] = &[(b"Xff", b"X"), (b"Xf", b"X")];
 
 // Whether the facts converge, f(X) = X alone.
-fn converges<R: Wait>(rt: &R, alloc: Global) -> Result<bool, Fail> {
+fn converges<R: Threads + Wait + Sync>(rt: &R, alloc: Global) -> Result<bool, Fail> {
     let outcome = outcome(rt, alloc, KILLED, true, &[(b"bf", b"b")], &[Stage::Settled])?;
     match &outcome {
         Outcome::Convergent(system) => is_only(alloc, system.facts.as_slice(), &(b"Xf", b"X")),
@@ -134,7 +147,7 @@ fn are_missing(alloc: Global, list: &[Missing]) -> Result<bool, Fail> {
 const AXIOMS: &[Sides] = &[(b"aff", b"ag"), (b"a", b"b")];
 
 // Whether these are what f(f(X)) = g(X) doesn't join.
-fn misses<R: Wait>(rt: &R, alloc: Global) -> Result<bool, Fail> {
+fn misses<R: Threads + Wait + Sync>(rt: &R, alloc: Global) -> Result<bool, Fail> {
     let outcome = outcome(
         rt,
         alloc,
@@ -163,7 +176,11 @@ const STUCK: &[Stage] = &[Stage::Settled, Stage::Stuck, Stage::Stuck];
 const LARGE: &[Sides] = &[(b"Xdddddddddxg", b"a"), (b"affffffffy", b"b")];
 
 // The overlap that is too large, over these facts.
-fn large<R: Wait>(rt: &R, alloc: Global, facts: &[Sides]) -> Result<Option<Overlap>, Fail> {
+fn large<R: Threads + Wait + Sync>(
+    rt: &R,
+    alloc: Global,
+    facts: &[Sides],
+) -> Result<Option<Overlap>, Fail> {
     let outcome = outcome(rt, alloc, facts, false, &[], STUCK)?;
     match &outcome {
         Outcome::Large(overlap) => Ok(Some(*overlap)),
@@ -172,7 +189,11 @@ fn large<R: Wait>(rt: &R, alloc: Global, facts: &[Sides]) -> Result<Option<Overl
 }
 
 // The goal that is unsettled, over these facts.
-fn unsettled<R: Wait>(rt: &R, alloc: Global, facts: &[Sides]) -> Result<Option<u32>, Fail> {
+fn unsettled<R: Threads + Wait + Sync>(
+    rt: &R,
+    alloc: Global,
+    facts: &[Sides],
+) -> Result<Option<u32>, Fail> {
     let outcome = outcome(rt, alloc, facts, false, &[], STUCK)?;
     match &outcome {
         Outcome::GoalUnsettled(goal) => Ok(Some(*goal)),

@@ -4,21 +4,22 @@ ghost use Rattle.std.specs.Prelude.{◌<◌, ◌≤◌};
 
 use crate::alphabet::{Sides, order};
 use crate::books::settings::set_up;
+use crate::watched::Watched;
 use std::alloc::Global;
 use std::sync::Wait;
 use std::sync::atomic::{AtomicBool, AtomicU64, Ordering};
 use std::test::Fail;
 use std::thread;
 use std::thread::Threads;
+use uc_book::Book;
 use uc_edge::{Gate, NoGate};
-use uc_kbo::Kbo;
-use uc_machine::{Ending, Event, GoalEnd, Happening, Verdict};
-use uc_order::{Cmp, Order, VarOrder};
-use uc_term::{Node, Sym};
+use uc_final::{FinalPasses, final_pass};
+use uc_machine::{Ending, Event, GoalEnd, Happening, Outcome, Verdict};
+use uc_search::{Ended, work_alone};
 use uc_worker::search;
 
-// How often a gate looks for another worker before it gives up.
-const TURNS: u32 = 10_000_000;
+/// How often whoever waits for another looks for it before it gives up.
+pub const TURNS: u32 = 10_000_000;
 
 // f(a) = b and f(b) = a
 const AXIOMS: &[Sides] = &[(b"af", b"b"), (b"bf", b"a")];
@@ -58,75 +59,6 @@ impl Gate for Meeting {
         if self.came.fetch_add(1, Ordering::SeqCst) == 0 {
             self.hold();
         }
-    }
-}
-
-// An order in which a call of `compare` that is alone waits for a second one, until two were in progress together.
-#[derive(Drop)]
-struct Watched {
-    order: Kbo,
-    inside: AtomicU64,
-    settled: AtomicBool,
-    met: AtomicBool,
-}
-
-impl Watched {
-    fn new(order: Kbo) -> Watched {
-        Watched {
-            order,
-            inside: AtomicU64::new(0),
-            settled: AtomicBool::new(false),
-            met: AtomicBool::new(false),
-        }
-    }
-
-    // A call begins.
-    fn enter(&self) {
-        if self.inside.fetch_add(1, Ordering::SeqCst) > 0 {
-            self.met.store(true, Ordering::SeqCst);
-            self.settled.store(true, Ordering::SeqCst);
-        }
-        self.wait();
-    }
-
-    // Waits until two calls were in progress together, or one has waited for too long.
-    fn wait(&self) {
-        for _ in 0..TURNS {
-            if self.settled.load(Ordering::SeqCst) {
-                return;
-            }
-            thread::yield_now();
-        }
-        self.settled.store(true, Ordering::SeqCst);
-    }
-
-    // It ends.
-    fn leave(&self) {
-        self.inside.fetch_sub(1, Ordering::SeqCst);
-    }
-}
-
-impl Order for Watched {
-    ghost use Rattle.uc_kbo.specs.Weights.{kbo_meaning};
-    ghost use Rattle.uc_kbo.specs.Laws.{kbo_laws};
-
-    ghost meaning = { λ w. kbo_meaning w.order.weights.w0 w.order.entries.items };
-
-    ghost laws = { λ w. kbo_laws w.order.weights.w0 w.order.entries.items w.order.valid };
-
-    fn compare(&self, s: &[Node], t: &[Node]) -> Cmp {
-        self.enter();
-        let cmp = self.order.compare(s, t);
-        self.leave();
-        cmp
-    }
-
-    fn compare_under(&self, cases: &VarOrder, s: &[Node], t: &[Node]) -> Cmp {
-        self.order.compare_under(cases, s, t)
-    }
-
-    fn least(&self) -> Sym {
-        self.order.least()
     }
 }
 
@@ -189,8 +121,38 @@ fn two_workers_compute(rt: HostRuntime) -> Result<(), Fail> {
     let gate = Meeting::new();
     let order = Watched::new(order(alloc)?);
     let searched = search(&rt, alloc, &at.problem, &order, &at.shelf, 99, 99, 2, &gate)?;
-    assert!(rt; order.met.load(Ordering::SeqCst));
+    assert!(rt; order.have_met());
     assert!(rt; searched.verdict == Verdict::Saturated);
+    Ok(())
+}
+
+// The final pass by two threads compares at once. No call waits before the book is drained.
+#[test]
+fn two_threads_end_a_book(rt: HostRuntime) -> Result<(), Fail> {
+    let alloc = rt.alloc();
+    let at = set_up(alloc, AXIOMS, &[])?;
+    let order = Watched::idle(order(alloc)?);
+    let (problem, shelf) = (&at.problem, &at.shelf);
+    let mut book = Book::start(alloc, problem, &order, shelf, 99, 99)?;
+    let mut pass = book.enroll(alloc, 0)?;
+    let ended = work_alone(&rt, alloc, &mut book, shelf, problem, &order, &mut pass);
+    assert!(rt; ended == Ended::Drained);
+    let stages = book.stages(alloc)?;
+    let mut passes = FinalPasses::none();
+    order.watch();
+    let outcome = final_pass(
+        &rt,
+        alloc,
+        shelf,
+        book.front(),
+        book.axioms(),
+        stages.as_slice(),
+        &order,
+        2,
+        &mut passes,
+    )?;
+    assert!(rt; order.have_met());
+    assert!(rt; matches!(outcome, Outcome::Convergent(_)));
     Ok(())
 }
 

@@ -12,6 +12,7 @@ use crate::machine::Machine;
 use crate::trouble::{Trouble, check};
 use std::alloc::Global;
 use std::sync::Wait;
+use std::thread::Threads;
 use uc_book::{Audited, Book};
 use uc_final::{FinalPasses, final_pass};
 use uc_machine::{Missing, Outcome};
@@ -20,7 +21,7 @@ use uc_shelf::Shelf;
 use uc_term::Seq;
 
 /// The final pass over a drained book: what is missing is audited, and anything else closes the book.
-pub fn end_round<R: Wait, O: Order>(
+pub fn end_round<R: Threads + Wait + Sync, O: Order + Sync>(
     rt: &R,
     alloc: Global,
     book: &mut Book<O>,
@@ -38,12 +39,14 @@ pub fn end_round<R: Wait, O: Order>(
     let axioms = book.axioms();
     let mut passes = FinalPasses::none();
     let outcome = final_pass(
+        rt,
         alloc,
         shelf,
         front,
         axioms,
         stages.as_slice(),
         order,
+        1,
         &mut passes,
     )?;
     match missing_or_end(outcome) {

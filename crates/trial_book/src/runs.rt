@@ -15,6 +15,7 @@ use crate::rest::end_round;
 use crate::trouble::{Trouble, check};
 use std::alloc::{AllocError, Global};
 use std::sync::Wait;
+use std::thread::Threads;
 use uc_book::{Book, Pass, WORKERS};
 use uc_order::Order;
 use uc_problem::Encoded;
@@ -29,7 +30,7 @@ struct Team {
 }
 
 /// A run of so many calls over a problem by chance. The answer is the machine at its end.
-pub fn run<R: Wait, O: Order>(
+pub fn run<R: Threads + Wait + Sync, O: Order + Sync>(
     rt: &R,
     alloc: Global,
     order: &O,
@@ -43,7 +44,7 @@ pub fn run<R: Wait, O: Order>(
 }
 
 // A run over this problem.
-fn run_over<R: Wait, O: Order>(
+fn run_over<R: Threads + Wait + Sync, O: Order + Sync>(
     rt: &R,
     alloc: Global,
     shelf: &Shelf,
@@ -73,7 +74,7 @@ fn machine_of(
 }
 
 // A run of this book beside this machine.
-fn run_beside<R: Wait, O: Order>(
+fn run_beside<R: Threads + Wait + Sync, O: Order + Sync>(
     rt: &R,
     alloc: Global,
     mut book: Book<O>,
@@ -104,7 +105,7 @@ fn run_beside<R: Wait, O: Order>(
 }
 
 // The same, of a book and a machine that are lent.
-fn run_on<R: Wait, O: Order>(
+fn run_on<R: Threads + Wait + Sync, O: Order + Sync>(
     rt: &R,
     alloc: Global,
     book: &mut Book<O>,
@@ -128,7 +129,7 @@ fn run_on<R: Wait, O: Order>(
 }
 
 // So many calls, with a comparison after each.
-fn make_calls<R: Wait, O: Order>(
+fn make_calls<R: Threads + Wait + Sync, O: Order + Sync>(
     rt: &R,
     alloc: Global,
     book: &mut Book<O>,
@@ -207,7 +208,7 @@ fn enrolled_as<O: Order>(alloc: Global, book: &mut Book<O>, worker: u32) -> Resu
 }
 
 // A call of one of the workers.
-fn call<R: Wait, O: Order>(
+fn call<R: Threads + Wait + Sync, O: Order + Sync>(
     rt: &R,
     alloc: Global,
     book: &mut Book<O>,
@@ -248,7 +249,7 @@ fn call<R: Wait, O: Order>(
 }
 
 // A call of this worker.
-fn turn<R: Wait, O: Order>(
+fn turn<R: Threads + Wait + Sync, O: Order + Sync>(
     rt: &R,
     alloc: Global,
     book: &mut Book<O>,
@@ -275,7 +276,7 @@ fn turn<R: Wait, O: Order>(
 }
 
 // A draw, and where the book is drained what ends its round.
-fn go_on<R: Wait, O: Order>(
+fn go_on<R: Threads + Wait + Sync, O: Order + Sync>(
     rt: &R,
     alloc: Global,
     book: &mut Book<O>,

@@ -35,7 +35,7 @@ module _ (m : Meaning) (axioms : List Equation) (entries : List Entry) where
       let ea : t.answer ≡ a = cc in
       subst (λ x. IsTested m axioms entries o (Some (record { origin = o; fact = f; open_case = x }))) ea (subst (λ x. IsTested m axioms entries o (Some (record { origin = o; fact = x; open_case = t.answer }))) ef (is_missing t i n g))
 
-  one_more : (o : Origin) (x : Option Missing) → IsTested m axioms entries o x → Tests m axioms entries (o ∷ []) (list_of x)
+  pub one_more : (o : Origin) (x : Option Missing) → IsTested m axioms entries o x → Tests m axioms entries (o ∷ []) (list_of x)
   one_more o _ (is_joined t i j) = joined_on t i j all_tested
   one_more o _ (is_missing t i n g) = missing_on t i n g all_tested
 

@@ -1,3 +1,4 @@
 pub mod Phases
 pub mod Stages
 pub mod Converged
+pub mod Made

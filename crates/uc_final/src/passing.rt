@@ -12,6 +12,7 @@ use crate::overlapping::all_overlaps;
 use crate::selecting::origins;
 use crate::testing::missing_among;
 use std::alloc::{AllocError, Global};
+use std::thread::Threads;
 use uc_fact::Equation;
 use uc_machine::{Outcome, Stage};
 use uc_order::Order;
@@ -27,13 +28,18 @@ use uc_task::live_facts;
 /// some of them aren't joined, with all that aren't, in this order; `Large`, where some overlap is too large, with the first;
 /// `GoalUnsettled`, where some goal is `Stuck`, with the first; `Convergent`, with the facts that live, in order. The pass is
 /// counted, also where it is refused for want of memory.
-pub fn final_pass<O: Order>(
+///
+/// The overlaps are formed and the pairs are tested by as many threads as there are workers, and the answer is the same for every
+/// number of them. With one worker no thread is made.
+pub fn final_pass<O: Order + Sync, R: Threads + Sync>(
+    rt: &R,
     alloc: Global,
     shelf: &Shelf,
     front: &Front,
     axioms: &[Equation],
     stages: &[Stage],
     order: &O,
+    workers: u32,
     passes: &mut FinalPasses,
 ) -> Result<Outcome, AllocError>
     requires of { IsOf shelf.now front.now }
@@ -43,9 +49,27 @@ pub fn final_pass<O: Order>(
     ensures passes { passes.new ≡ min (passes.old + 1) (2 ^ 64 - 1) }
 {
     passes.count();
+    let threads = threads_for(workers);
     let facts = live_facts(alloc, shelf, front)?;
-    let overlaps = all_overlaps(alloc, facts.as_slice(), order)?;
+    let overlaps = all_overlaps(rt, alloc, facts.as_slice(), order, threads)?;
     let origins = origins(alloc, axioms, overlaps.as_slice())?;
-    let missing = missing_among(alloc, origins.as_slice(), shelf, front, axioms, order)?;
+    let missing = missing_among(
+        rt,
+        alloc,
+        origins.as_slice(),
+        shelf,
+        front,
+        axioms,
+        order,
+        threads,
+    )?;
     answer(alloc, missing, overlaps.as_slice(), stages, facts)
+}
+
+/// How many threads make the tests: one at least.
+fn threads_for(workers: u32) -> usize
+    ensures some { 0 < result }
+    ensures few { result < 2 ^ 32 }
+{
+    (workers as usize).max(1)
 }

@@ -14,6 +14,7 @@ ghost use Rattle.uc_search.specs.Bounds.{CountedRound, CountedSearch, counted_on
 use crate::working::{Ended, has_few_commits, work_alone};
 use std::alloc::{AllocError, Global};
 use std::sync::Wait;
+use std::thread::Threads;
 use uc_book::{Audited, Book, Pass};
 use uc_final::{FinalPasses, final_pass};
 use uc_machine::{Missing, Outcome, Verdict};
@@ -24,7 +25,7 @@ use uc_term::Seq;
 
 /// Works on a book until it has a verdict. Each time that it is drained the final pass is made: what is missing is kept and
 /// the work goes on, or the book is closed. No task is out when it returns, whatever it answers.
-pub fn search_alone<R: Wait, O: Order>(
+pub fn search_alone<R: Threads + Wait + Sync, O: Order + Sync>(
     rt: &R,
     alloc: Global,
     book: &mut Book<O>,
@@ -50,7 +51,7 @@ pub fn search_alone<R: Wait, O: Order>(
 }
 
 /// Works on a book until it has a verdict, as `search_alone` does, and counts the final passes that are made.
-pub fn search_counting<R: Wait, O: Order>(
+pub fn search_counting<R: Threads + Wait + Sync, O: Order + Sync>(
     rt: &R,
     alloc: Global,
     book: &mut Book<O>,
@@ -85,7 +86,7 @@ pub fn search_counting<R: Wait, O: Order>(
 
 /// Works on a book until it is drained or has a verdict, and makes the final pass where it is drained. None where no verdict
 /// stands then.
-fn round<R: Wait, O: Order>(
+fn round<R: Threads + Wait + Sync, O: Order + Sync>(
     rt: &R,
     alloc: Global,
     book: &mut Book<O>,
@@ -109,20 +110,21 @@ fn round<R: Wait, O: Order>(
 {
     has_few_passes(passes);
     match work_alone(rt, alloc, book, shelf, problem, order, pass) {
-        Ended::Drained => end_round(rt, alloc, book, shelf, order, passes),
+        Ended::Drained => end_round(rt, alloc, book, shelf, order, 1, passes),
         Ended::Closed => Ok(book.verdict().copied()),
         Ended::NoMemory => Err(AllocError),
     }
 }
 
-/// Makes the final pass over a drained book: audits what is missing, or closes the book. None where no verdict stands then. It
-/// counts the final pass. Where memory is refused, the first of the equations that are missing may have been audited.
-pub fn end_round<R: Wait, O: Order>(
+/// Makes the final pass over a drained book, by the threads of so many workers: audits what is missing, or closes the book. None
+/// where no verdict stands then. It counts the final pass. Where memory is refused, the first of the equations that are missing may have been audited.
+pub fn end_round<R: Threads + Wait + Sync, O: Order + Sync>(
     rt: &R,
     alloc: Global,
     book: &mut Book<O>,
     shelf: &Shelf,
     order: &O,
+    workers: u32,
     passes: &mut FinalPasses,
 ) -> Result<Option<Verdict>, AllocError>
     requires shelf { book.old.opening.shelf ≡ shelf.now }
@@ -140,12 +142,14 @@ pub fn end_round<R: Wait, O: Order>(
     let front = book.front();
     let axioms = book.axioms();
     let outcome = final_pass(
+        rt,
         alloc,
         shelf,
         front,
         axioms,
         stages.as_slice(),
         order,
+        workers,
         passes,
     )?;
     match missing_or_end(outcome) {

@@ -6,3 +6,4 @@ pub mod Starting
 pub mod Ending
 pub mod OneWorker
 pub mod AfterVerdict
+pub mod Answered

@@ -13,12 +13,14 @@ ghost use Rattle.uc_search.specs.Searching.{EndsRound};
 ghost use Rattle.uc_search.specs.Bounds.{counted_on};
 ghost use Rattle.uc_worker.specs.Commits.{commits_of, AreOfFirst};
 ghost use Rattle.uc_worker.specs.Hands.{HandView};
+ghost use Rattle.uc_worker.specs.Works.{WasAnswered};
 
 use crate::naming::{NamesOrder, Naming};
 use std::alloc::{AllocError, Global};
 use std::marker::Model;
 use std::sync::ledger::{Blank, Share};
 use std::sync::{Wait, ledger};
+use std::thread::Threads;
 use uc_book::{Audited, Book, CommitFault, Done, Drawn, Pass, Receipt};
 use uc_final::FinalPasses;
 use uc_machine::{Event, Missing, Outcome, Verdict};
@@ -101,11 +103,14 @@ impl<'a, O: Order, K: NamesOrder<O>> Held<'a, O, K> {
         ensures drawn { IfOk result (λ d. Draws (opening_of self.old.opening) hand.old.worker self.old.state (reply_of hand.old.worker d) self.new.state) }
         ensures task { IfOk result (λ d. IfTask d (IsTaskOf (O.meaning self.old.order) self.old)) }
         ensures named { IfOk result (λ d. IfTask d (λ t. IfSome K.order (λ o. IsToCompute (O.meaning o) K.opening t))) }
+        ensures answered { IfOk result (λ d. IfSome K.order (λ o. WasAnswered (O.meaning o) (opening_of K.opening) hand.old.worker (reply_of hand.old.worker d))) }
         ensures book { IsSameBook self.old self.new }
         ensures front { self.new.front ≡ self.old.front }
         ensures hand { hand.new ≡ hand.old }
         ensures err { OnErr result (self.new ≡ self.old) }
     {
+        // A run leads to the state in which it is drawn.
+        let _ = self.book.history();
         self.book.draw(alloc, &mut hand.pass)
     }
 
@@ -288,14 +293,15 @@ impl<'a, O: Order, K: NamesOrder<O>> Held<'a, O, K> {
     }
 }
 
-impl<'a, O: Order, K: NamesOrder<O>> Held<'a, O, K> {
+impl<'a, O: Order + Sync, K: NamesOrder<O>> Held<'a, O, K> {
     /// Makes the final pass over the drained book, as `end_round` over the book.
-    pub fn end_round<R: Wait>(
+    pub fn end_round<R: Threads + Wait + Sync>(
         &mut self,
         rt: &R,
         alloc: Global,
         shelf: &Shelf,
         order: &O,
+        workers: u32,
         passes: &mut FinalPasses,
     ) -> Result<Option<Verdict>, AllocError>
         requires shelf { shelf.now ≡ K.opening.shelf }
@@ -307,9 +313,11 @@ impl<'a, O: Order, K: NamesOrder<O>> Held<'a, O, K> {
         ensures out { self.new.state.out ≡ self.old.state.out }
         ensures book { IsSameBook self.old self.new }
     {
-        end_round(rt, alloc, &mut self.book, shelf, order, passes)
+        end_round(rt, alloc, &mut self.book, shelf, order, workers, passes)
     }
+}
 
+impl<'a, O: Order, K: NamesOrder<O>> Held<'a, O, K> {
     /// What happened, in order. A run of the machine with this history leads to the book's state.
     pub fn history(&self) -> &[Event]
         ensures events { result.now ≡ self.now.state.history }

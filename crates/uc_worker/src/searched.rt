@@ -58,7 +58,7 @@ pub fn search<'a, O: Order + Sync, G: Gate + Sync, R: Threads + Wait + Sync>(
 }
 
 /// The search by worker 0 alone.
-fn search_by_one<'a, O: Order, R: Wait>(
+fn search_by_one<'a, O: Order + Sync, R: Threads + Wait + Sync>(
     rt: &R,
     alloc: Global,
     problem: &'a Encoded,

@@ -25,6 +25,9 @@ use uc_problem::Encoded;
 use uc_search::Ended;
 use uc_shelf::Shelf;
 
+/// The most workers that have a thread.
+const MOST_WORKERS: usize = 64;
+
 /// The workers of these hands work at once, until each has ended.
 fn together<
     'a,
@@ -66,8 +69,9 @@ fn together<
     shared.into_inner()
 }
 
-/// Worker 0 goes on with what waits, and makes the final pass where the book is drained. None where no verdict stands then.
-fn end_work<'a, O: Order, K: NamesOrder<O>, R: Wait>(
+/// Worker 0 goes on with what waits, and makes the final pass, by the threads of so many workers, where the book is drained. None
+/// where no verdict stands then.
+fn end_work<'a, O: Order + Sync, K: NamesOrder<O>, R: Threads + Wait + Sync>(
     rt: &R,
     alloc: Global,
     held: &mut Held<'a, O, K>,
@@ -75,6 +79,7 @@ fn end_work<'a, O: Order, K: NamesOrder<O>, R: Wait>(
     shelf: &Shelf,
     problem: &Encoded,
     order: &O,
+    workers: u32,
 ) -> Result<Option<Verdict>, AllocError>
     requires problem { problem.now ≡ K.opening.problem }
     requires shelf { shelf.now ≡ K.opening.shelf }
@@ -84,14 +89,16 @@ fn end_work<'a, O: Order, K: NamesOrder<O>, R: Wait>(
     ensures verdict { IfOk result (λ verdict. held.new.state.verdict ≡ verdict) }
 {
     match held.alone(rt, alloc, shelf, problem, order, hand) {
-        Ended::Drained => held.end_round(rt, alloc, shelf, order, &mut FinalPasses::none()),
+        Ended::Drained => {
+            held.end_round(rt, alloc, shelf, order, workers, &mut FinalPasses::none())
+        }
         Ended::Closed => Ok(held.book().verdict().copied()),
         Ended::NoMemory => Err(AllocError),
     }
 }
 
 /// One round: the workers of all hands but the first work at once, each task that is still out then waits again, and the first
-/// goes on alone.
+/// goes on alone. The others' threads make the final pass.
 fn round<
     'a,
     O: Order + Sync,
@@ -121,7 +128,8 @@ fn round<
         Some((first, rest)) => {
             let mut held = together(rt, alloc, held, rest, shelf, problem, order, gate);
             held.recall();
-            let verdict = end_work(rt, alloc, &mut held, first, shelf, problem, order);
+            let workers = rest.len().min(MOST_WORKERS) as u32;
+            let verdict = end_work(rt, alloc, &mut held, first, shelf, problem, order, workers);
             (held, verdict)
         }
     }

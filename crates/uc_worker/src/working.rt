@@ -1,7 +1,9 @@
 //! What each worker does.
 
 ghost use Rattle.std.specs.Prelude.{◌≡◌, ◌≤◌, Some};
+ghost use Rattle.uc_book.specs.Openings.{opening_of};
 ghost use Rattle.uc_search.specs.Working.{IsToCompute};
+ghost use Rattle.uc_worker.specs.Works.{EndsWork};
 
 use crate::held::{Hand, Held};
 use crate::naming::NamesOrder;
@@ -15,7 +17,8 @@ use uc_search::{Ended, compute};
 use uc_shelf::Shelf;
 
 /// Draws task after task under the lock, computes each with no lock and commits its result under the lock. Where a task is out
-/// and none may be drawn, it waits. For want of memory its task waits again, and it wakes the others and ends.
+/// and none may be drawn, it waits. It ends where a draw is answered so, or for want of memory, in which case its task waits again
+/// and it wakes the others.
 pub fn work<'a, O: Order, K: NamesOrder<O>, G: Gate, R: Wait>(
     rt: &R,
     alloc: Global,
@@ -30,6 +33,7 @@ pub fn work<'a, O: Order, K: NamesOrder<O>, G: Gate, R: Wait>(
     requires problem { problem.now ≡ K.opening.problem }
     requires shelf { shelf.now ≡ K.opening.shelf }
     requires order { Some order.now ≡ K.order }
+    ensures ended { EndsWork (O.meaning order.now) (opening_of K.opening) hand.old.worker result }
     ensures worker { hand.new.worker ≡ hand.old.worker }
     ensures commits { hand.old.commits ≤ hand.new.commits }
 {

@@ -1,7 +1,10 @@
-use Rattle.std.proofs.Common.{map, take}
-use Rattle.uc_machine.specs.Finals.{AllOverlaps}
+use Rattle.std.proofs.Common.{map}
 use Rattle.uc_task.specs.Living.{live_of}
+use Rattle.uc_final.proofs.Gathered.{Lacks}
 use Rattle.uc_final.proofs.overlapping.all_overlaps.Given as goal
 
-abbrev pub invariant-loop-k : goal.invariant-loop-k
-invariant-loop-k g l = AllOverlaps (g.O.Order.meaning l.order) (map live_of l.facts) (map live_of (take l.k l.facts)) l.list
+abbrev pub invariant-loop-row : goal.invariant-loop-row
+invariant-loop-row g l =
+    (goal.iterator-loop-row g).can_next l.row-iterator ×
+    (goal.iterator-loop-row g).is_finite l.row-iterator ×
+    Lacks (g.O.Order.meaning l.order) (map live_of l.facts) l.facts l.row-iterator.rest.items l.list

@@ -14,10 +14,10 @@ use Rattle.uc_final.proofs.Overlapped.{all_known}
 use Rattle.uc_final.proofs.Concluded.{concluded}
 use Rattle.uc_final.proofs.passing.final_pass.Goals as goal
 
-pub all_overlaps-requires : goal.all_overlaps-requires
-all_overlaps-requires g c =
+pub all_overlaps-requires-clause-rising : goal.all_overlaps-requires-clause-rising
+all_overlaps-requires-clause-rising g c =
     let is : map live_of c.as_slice.result.now ≡ live c.args.front.now.entries = ap (map live_of) c.as_slice.ensures.value ∙ c.in_ok-facts.ensures in
-    subst AreRising (sym is) (live_rise c.args.front.now.entries)
+    λ κs within. subst AreRising (sym is) (live_rise c.args.front.now.entries)
 
 pub missing_among-requires-clause-known : goal.missing_among-requires-clause-known
 missing_among-requires-clause-known g c =
@@ -27,7 +27,7 @@ missing_among-requires-clause-known g c =
     let fs = c.in_ok-overlaps.overlaps in
     let is : map live_of c.as_slice.result.now ≡ live es = ap (map live_of) c.as_slice.ensures.value ∙ c.in_ok-facts.ensures in
     let from : c.as_slice-3.result.now ≡ axioms_from 0 axioms ++ small_ones fs = c.as_slice-3.ensures.value ∙ c.in_ok-origins.ensures ∙ ap (λ l. axioms_from 0 axioms ++ small_ones l) c.as_slice-2.ensures in
-    subst (Each (IsKnownOrigin m axioms es)) (sym from) (all_known m es axioms fs (subst (λ js. AllOverlaps m js js fs) is c.in_ok-overlaps.ensures))
+    λ κs within. subst (Each (IsKnownOrigin m axioms es)) (sym from) (all_known m es axioms fs (subst (λ js. AllOverlaps m js js fs) is c.in_ok-overlaps.ensures))
 
 pub returns-clause-outcome : goal.returns-clause-outcome
 returns-clause-outcome g c =

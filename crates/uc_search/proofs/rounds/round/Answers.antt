@@ -9,7 +9,7 @@ use Rattle.uc_search.proofs.RoundEnds.{is_drained_alone, drained_round, closed_r
 use Rattle.uc_search.proofs.rounds.round.Goals as goal
 
 pub end_round-requires-clause-drained : goal.end_round-requires-clause-drained
-end_round-requires-clause-drained g c =
+end_round-requires-clause-drained g c κs within =
     let a = c.args.book.now in
     is_drained_alone (g.O.Order.meaning a.order) (opening_of a.opening) c.args.pass.now.worker a.state c.work_alone.result c.work_alone.new.book.state c.in-Drained.is c.work_alone.ensures.ended
 

@@ -6,7 +6,7 @@ use Rattle.uc_worker.proofs.Starting.{starts_none_out}
 use Rattle.uc_worker.proofs.searched.search_by_one.Goals as goal
 
 pub search_alone-requires-clause-none_out : goal.search_alone-requires-clause-none_out
-search_alone-requires-clause-none_out g c = rw c.in_ok-pass.ensures.book (starts_none_out (opening_of c.in_ok-book.book.opening) c.in_ok-book.book.state c.in_ok-book.ensures.starts)
+search_alone-requires-clause-none_out g c κs within = rw c.in_ok-pass.ensures.book (starts_none_out (opening_of c.in_ok-book.book.opening) c.in_ok-book.book.state c.in_ok-book.ensures.starts)
 
 pub returns-clause-searched : goal.returns-clause-searched
 returns-clause-searched g c = by_worker (g.O.Order.meaning c.in_ok-book.book.order) (g.O.Order.meaning c.args.order.now) (opening_of c.in_ok-book.book.opening) (opening_of c.search_alone.new.book.opening) c.in_ok-pass.pass.worker c.in_ok-book.book.state c.search_alone.new.book.state c.in_ok-verdict.verdict (ap g.O.Order.meaning c.in_ok-book.ensures.order) (ap opening_of (sym (rw c.in_ok-pass.ensures.book at c.in_ok-verdict.ensures.book.opening))) c.in_ok-pass.ensures.worker c.in_ok-book.ensures.starts (rw c.in_ok-pass.ensures.book at c.in_ok-verdict.ensures.searched)

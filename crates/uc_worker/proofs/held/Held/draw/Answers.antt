@@ -1,8 +1,21 @@
-use Rattle.std.proofs.Common.{Some, sym, ap, ◌∙◌}
+use Rattle.std.proofs.Common.{Some, IfOk, IfSome, sym, ap, ◌∙◌, subst}
+use Rattle.uc_machine.specs.Runs.{Run}
 use Rattle.uc_book.specs.Openings.{opening_of}
+use Rattle.uc_book.specs.Answers.{reply_of}
+use Rattle.uc_worker.specs.Hands.{HandView}
+use Rattle.uc_worker.specs.Works.{WasAnswered}
 use Rattle.uc_worker.proofs.Totals.{commits_same, first_same}
 use Rattle.uc_worker.proofs.Kept.{drawn_commits}
+use Rattle.uc_worker.proofs.Answered.{answered}
 use Rattle.uc_worker.proofs.held.Held.draw.Goals as goal
+
+pub returns-clause-answered : goal.returns-clause-answered
+returns-clause-answered g c =
+    let b = c.self.inside.book in
+    let m = g.O.Order.meaning b.order in
+    let run = subst (λ h. Run m (opening_of b.opening) h b.state) c.history.ensures.events c.history.ensures.run in
+    subst (λ w. IfOk c.draw.result (λ d. IfSome g.K.NamesOrder.order (λ o. WasAnswered (g.O.Order.meaning o) (opening_of g.K.Naming.opening) w (reply_of w d)))) (ap (λ (h : HandView). h.worker) c.hand.view_is)
+    (answered g.O.Order.meaning g.K.NamesOrder.order g.K.Naming.opening b c.draw.new.self c.hand.inside.pass.worker c.draw.result c.self.invariant.0 c.self.invariant.1 run c.draw.ensures.drawn)
 
 pub invariant_of-self : goal.invariant_of-self
 invariant_of-self g c =
