@@ -2,15 +2,16 @@
 #![tactic(auto)]
 
 mod outside;
+mod progress;
 #[cfg(test)]
 mod tests;
 
 use outside::{FileLibrary, OutSink};
-use std::io::ErrorKind;
+use progress::{Cleared, Progress, is_asked};
+use std::io::{ErrorKind, IsTerminal};
 use std::process::ExitCode;
 use std::rt::Env;
 use std::{env, io};
-use uc_edge::NoGate;
 use uc_top::{run, tell_memory_out};
 
 // The words after the program's name.
@@ -24,7 +25,10 @@ fn words(rt: &(impl Env + AllocGlobal)) -> io::Result<Vec<String>> {
 
 fn main(rt: HostRuntime) -> ExitCode {
     let mut library = FileLibrary::new(&rt);
-    let mut sink = OutSink::new(&rt);
+    let screen = rt.stderr();
+    let is_watched = screen.is_terminal() || is_asked(&rt);
+    let progress = Progress::new(&rt, screen, is_watched);
+    let mut sink = Cleared::new(OutSink::new(&rt), &progress);
     let words = match words(&rt) {
         Ok(words) => words,
         Err(fault) if fault.kind() == ErrorKind::OutOfMemory => {
@@ -33,5 +37,5 @@ fn main(rt: HostRuntime) -> ExitCode {
         // A word that isn't text has no reading, and neither have no words.
         Err(_) => Vec::new(rt.alloc()),
     };
-    ExitCode::from(run(&rt, rt.alloc(), &words, &mut library, &mut sink, &NoGate))
+    ExitCode::from(run(&rt, rt.alloc(), &words, &mut library, &mut sink, &progress))
 }
