@@ -1,0 +1,36 @@
+#!/usr/bin/env bash
+# How much faster `prove` ends with more workers: three problems, with 1, 2 and 4 workers in turn, in seconds of the clock, and how
+# many times faster than with one worker. The ratios mean something only where nothing else uses the processors: beside each time
+# stands how many processors the run had (its processor seconds for each second of the clock), and processor seconds themselves,
+# which tell what more workers cost in all. Where Debian's perf (linux-perf) is there, the share of the processor's time under
+# the lock and in waiting for it follows. Run it at the top of the repository, after the gate, which leaves the program in
+# crates/uc_main/out, or with another program as its first argument.
+set -euo pipefail
+cd "$(dirname "$0")/.."
+program=${1:-$PWD/crates/uc_main/out/uc_main}
+folder=$(mktemp -d)
+trap 'rm -rf "$folder"' EXIT
+# seconds of the clock, and of processors
+timed() {
+    (TIMEFORMAT='%R %U %S'; time "$@" >"$folder/answer" 2>"$folder/told") 2>&1 | awk '{ print $1, $2 + $3 }'
+}
+search() {
+    local problem=$1 one='' seconds used
+    shift
+    for workers in 1 2 4; do
+        read -r seconds used < <(timed "$program" prove --workers "$workers" "$@" "$problem" || true)
+        one=${one:-$seconds}
+        awk -v problem="$problem" -v options="$*" -v workers="$workers" -v t="$seconds" -v used="$used" -v one="$one" -v status="$(awk 'NR == 1 { print $4 }' "$folder/answer")" '
+            BEGIN { printf "%s %s, %d workers: %s in %.1f s, %.2f times as fast, with %.2f processors, %.1f processor seconds\n", problem, options, workers, status, t, one / t, used / t, used }'
+    done
+}
+search examples/group-not-commutative.p --budget 60000
+search examples/harder/loop-moufang.p --budget 12000
+search examples/harder/ring-jacobi.p --budget 8000
+if command -v perf >/dev/null; then
+    perf record -q -F 2000 --call-graph dwarf,8192 -o "$folder/perf" "$program" prove --workers 4 --budget 4000 examples/harder/loop-moufang.p >/dev/null 2>&1 || true
+    perf report -q -i "$folder/perf" --children --stdio -g none 2>/dev/null | awk '
+        /uc_book::book::Book::(draw|commit|reclaim)/ { sub(/%/, "", $1); locked += $1 }
+        /sys_futex$/ { sub(/%/, "", $1); waits += $1 }
+        END { printf "under the lock %.1f %% of the processor'"'"'s time, calls of the system to wait and to wake %.1f %%\n", locked, waits }'
+fi
