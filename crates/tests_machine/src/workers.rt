@@ -1,11 +1,11 @@
 //! Searches by several workers: that they work at once, and that whoever waits is woken.
 
-ghost use Rattle.std.specs.Prelude.{◌<◌, ◌≤◌};
+ghost use Rattle.std.specs.Prelude.{◌≡◌, ◌<◌, ◌≤◌};
 
 use crate::alphabet::{Sides, order};
 use crate::books::settings::set_up;
 use crate::watched::Watched;
-use std::alloc::Global;
+use std::alloc::{AllocError, Global};
 use std::sync::Wait;
 use std::sync::atomic::{AtomicBool, AtomicU64, Ordering};
 use std::test::Fail;
@@ -15,7 +15,9 @@ use uc_book::Book;
 use uc_edge::{Gate, NoGate};
 use uc_final::{FinalPasses, final_pass};
 use uc_machine::{Ending, Event, GoalEnd, Happening, Outcome, Verdict};
+use uc_order::Order;
 use uc_search::{Ended, work_alone};
+use uc_shelf::Shelf;
 use uc_worker::search;
 
 /// How often whoever waits for another looks for it before it gives up.
@@ -126,6 +128,32 @@ fn two_workers_compute(rt: HostRuntime) -> Result<(), Fail> {
     Ok(())
 }
 
+// What the final pass over the book by two threads answers.
+fn pass_by_two<R: Threads + Sync, O: Order + Sync>(
+    rt: &R,
+    alloc: Global,
+    order: &O,
+    shelf: &Shelf,
+    book: &Book<O>,
+) -> Result<Outcome, AllocError>
+    requires { book.now.opening.shelf ≡ shelf.now }
+{
+    let stages = book.stages(alloc)?;
+    let mut passes = FinalPasses::none();
+    let (front, axioms) = (book.front(), book.axioms());
+    final_pass(
+        rt,
+        alloc,
+        shelf,
+        front,
+        axioms,
+        stages.as_slice(),
+        order,
+        2,
+        &mut passes,
+    )
+}
+
 // The final pass by two threads compares at once. No call waits before the book is drained.
 #[test]
 fn two_threads_end_a_book(rt: HostRuntime) -> Result<(), Fail> {
@@ -137,20 +165,8 @@ fn two_threads_end_a_book(rt: HostRuntime) -> Result<(), Fail> {
     let mut pass = book.enroll(alloc, 0)?;
     let ended = work_alone(&rt, alloc, &mut book, shelf, problem, &order, &mut pass);
     assert!(rt; ended == Ended::Drained);
-    let stages = book.stages(alloc)?;
-    let mut passes = FinalPasses::none();
     order.watch();
-    let outcome = final_pass(
-        &rt,
-        alloc,
-        shelf,
-        book.front(),
-        book.axioms(),
-        stages.as_slice(),
-        &order,
-        2,
-        &mut passes,
-    )?;
+    let outcome = pass_by_two(&rt, alloc, &order, shelf, &book)?;
     assert!(rt; order.have_met());
     assert!(rt; matches!(outcome, Outcome::Convergent(_)));
     Ok(())
