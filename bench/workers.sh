@@ -25,8 +25,8 @@ search() {
     done
 }
 search examples/group-not-commutative.p --budget 60000
-search examples/harder/loop-moufang.p --budget 12000
-search examples/harder/ring-jacobi.p --budget 8000
+search examples/harder/loop-moufang.p --budget 16000
+search examples/harder/ring-jacobi.p --budget 16000
 if command -v perf >/dev/null; then
     perf record -q -F 2000 --call-graph dwarf,8192 -o "$folder/perf" "$program" prove --workers 4 --budget 4000 examples/harder/loop-moufang.p >/dev/null 2>&1 || true
     perf report -q -i "$folder/perf" --children --stdio -g none 2>/dev/null | awk '
