@@ -10,9 +10,10 @@ use Rattle.uc_check.specs.declared.proof.Line.{Line}
 use Rattle.uc_check.specs.declared.proof.LineStep.{LineStep}
 use Rattle.uc_check.specs.declared.proof.LineSource.{LineSource}
 use Rattle.uc_check.specs.declared.proof.LineSource.TheVariants.{File, Chain, Reflexive, EncodeGoal, Refute}
+use Rattle.uc_tstp.specs.declared.scope.Scope.{Scope}
 use Rattle.uc_tstp.specs.Printing.{names_in}
 use Rattle.uc_tstp.specs.Bounds.{IsBounded, AreBoundedSteps, IsBoundedSource, AreBounded}
-use Rattle.uc_tstp.specs.Printable.{IsProofName, AreLineNames, IsPath}
+use Rattle.uc_tstp.specs.Printable.{IsProofName, AreLineNames, AreOf, IsPath}
 use Rattle.uc_tstp.specs.Printable as printable
 
 module _ (table : Table) where
@@ -49,6 +50,12 @@ module _ (table : Table) where
   ArePrintableLines (file ∷ files) (line ∷ lines) = IsPrintableLine file line × ArePrintableLines files lines
   ArePrintableLines files lines = ⊥
 
+  -- lines that belong together, with a file for each
+  pub record ArePrintable (which : Scope) (files : List (List ℕ)) (proof_lines : List Line) : Type 0 where
+    pub names : AreLineNames [] (names_in proof_lines)
+    pub lines : ArePrintableLines files proof_lines
+    pub belong : AreOf which proof_lines
+
   -- a proof of this name, with a file for each line
   pub record IsPrintableProof (proof_name : List ℕ) (files : List (List ℕ)) (proof_lines : List Line) : Type 0 where
     pub name : IsProofName proof_name
@@ -83,6 +90,9 @@ module _ (table : Table) where
   lines_bounded (file ∷ files) [] p b = elim p [ ]
   lines_bounded (file ∷ files) (line ∷ lines) p b =
       (record { body = body_bounded line.source line p.0.body b.0.0 b.0.1; source = source_bounded file line.source p.0.source b.0.2 }, lines_bounded files lines p.1 b.1)
+
+  pub all_bounded : (which : Scope) (files : List (List ℕ)) (lines : List Line) → printable.ArePrintable table which files lines → AreBounded lines → ArePrintable which files lines
+  all_bounded which files lines p b = record { names = p.names; lines = lines_bounded files lines p.lines b; belong = p.belong }
 
   pub proof_bounded : (name : List ℕ) (files : List (List ℕ)) (lines : List Line) → printable.IsPrintableProof table name files lines → AreBounded lines → IsPrintableProof name files lines
   proof_bounded name files lines p b = record { name = p.name; names = p.names; lines = lines_bounded files lines p.lines b }

@@ -14,7 +14,7 @@ use Rattle.uc_clause.specs.declared.grammar.stop.Why.TheVariants.{NoSign}
 use Rattle.uc_clause.specs.Terminals.{terminal_at, bytes_at}
 use Rattle.uc_clause.specs.Rules.{read, read_or_stop, goes_on}
 use Rattle.uc_clause.specs.Parse.{Literal, Sides}
-use Rattle.uc_clause.specs.Meaning.{Means, with_names}
+use Rattle.uc_clause.specs.Meaning.{Means, with_names, Variables}
 use Rattle.uc_clause.specs.Printing.{variable_text, role_text}
 use Rattle.uc_clause.specs.Printable.{AreNumbered}
 use Rattle.uc_clause.proofs.Printing.{numbered_both}
@@ -30,12 +30,14 @@ use Rattle.uc_check.specs.declared.proof.LineSource.{LineSource}
 use Rattle.uc_check.specs.declared.proof.LineSource.TheVariants.{File, Chain, Reflexive, EncodeGoal, Refute}
 use Rattle.uc_tstp.specs.Parse as parse
 use Rattle.uc_tstp.specs.Lines as lines
-use Rattle.uc_tstp.specs.Lines.{is_falsum, LinesAt, is_no_line, has_line}
+use Rattle.uc_tstp.specs.Lines.{is_falsum, belongs, LinesAt, is_no_line, has_line}
+use Rattle.uc_tstp.specs.declared.scope.Scope.{Scope}
+use Rattle.uc_tstp.specs.declared.scope.Scope.TheVariants as scope
 use Rattle.uc_tstp.specs.Meaning.{MeansBody, MeansSource, MeansLine, MeanLines, no_lines, one_line}
 use Rattle.uc_tstp.specs.Meaning as meaning
 use Rattle.uc_tstp.specs.Reading.{first_unknown}
 use Rattle.uc_tstp.specs.Printing.{role_of, names_in}
-use Rattle.uc_tstp.specs.Printable.{source_variables, renumbered_source, renumbered_line, AreLineNames}
+use Rattle.uc_tstp.specs.Printable.{source_variables, line_variables, renumbered_source, renumbered_line, AreLineNames, belongs_line, AreOf}
 use Rattle.uc_tstp.proofs.Bounded.{IsPrintableTerm, IsPrintableStep, IsPrintableSource, IsPrintableBody}
 use Rattle.uc_tstp.proofs.PrintedPieces.{comma, equation_pieces}
 use Rattle.uc_tstp.proofs.LinePieces.{readable_term, source_pieces, IsSourceBy, body_pieces, end_pieces, line_pieces, lines_pieces, IsLineAgain, AreLinesAgain}
@@ -215,26 +217,36 @@ module _ (table : Table) (names : List (List ℕ)) (text : List ℕ) (tokens : L
         behind = rest.behind;
       }
 
+  -- a line's parse belongs where the line does
+  same_scope : (which : Scope) (seen : Variables) (xs : List ℕ) (s : parse.Source) (source : LineSource) → MeansSource text tokens table names seen s (renumbered_source xs source) → belongs which s ≡ belongs_line which source
+  same_scope scope.Proof seen xs s source h = refl
+  same_scope scope.Derivation seen xs (parse.from_file k) (File name) h = refl
+  same_scope scope.Derivation seen xs (parse.by_chain p ss ks) (Chain start steps parents) h = refl
+  same_scope scope.Derivation seen xs (parse.by_reflexive ks) (Reflexive parents) h = refl
+  same_scope scope.Derivation seen xs (parse.by_goal ks) (EncodeGoal parents) h = refl
+  same_scope scope.Derivation seen xs (parse.by_refute ks) (Refute parents) h = refl
+  same_scope scope.Derivation seen xs s source h = elim h [ ]
+
   -- all lines
-  pub record LinesHere (earlier : List (List ℕ)) (proof_lines : List Line) (at : ℕ) : Type 0 where
+  pub record LinesHere (which : Scope) (earlier : List (List ℕ)) (proof_lines : List Line) (at : ℕ) : Type 0 where
     pub ls : List parse.Line
     pub end : ℕ
-    pub reads : LinesAt text tokens earlier at (read ls end)
+    pub reads : LinesAt text tokens which earlier at (read ls end)
     pub named : meaning.names_of text tokens ls ≡ names_in proof_lines
     pub mean : MeanLines text tokens table names ls (map renumbered_line proof_lines)
     pub known : first_unknown text tokens names (parse.all_mentions ls) ≡ None
 
-  pub lines_here : (earlier : List (List ℕ)) (files : List (List ℕ)) (proof_lines : List Line) (at : ℕ) → AreLinesAgain table names files proof_lines → AreLineNames earlier (names_in proof_lines) → At text tokens at (lines_pieces table names files proof_lines) → LinesHere earlier proof_lines at
-  lines_here earlier [] [] at again new here = record { ls = []; end = at; reads = is_no_line (at_end text tokens at here.0 here.1); named = refl; mean = no_lines; known = refl }
-  lines_here earlier [] (line ∷ rest) at again new here = elim again [ ]
-  lines_here earlier (file ∷ files) [] at again new here = elim again [ ]
-  lines_here earlier (file ∷ files) (line ∷ proof_lines) at again new here =
+  pub lines_here : (which : Scope) (earlier : List (List ℕ)) (files : List (List ℕ)) (proof_lines : List Line) (at : ℕ) → AreLinesAgain table names files proof_lines → AreLineNames earlier (names_in proof_lines) → AreOf which proof_lines → At text tokens at (lines_pieces table names files proof_lines) → LinesHere which earlier proof_lines at
+  lines_here which earlier [] [] at again new belong here = record { ls = []; end = at; reads = is_no_line (at_end text tokens at here.0 here.1); named = refl; mean = no_lines; known = refl }
+  lines_here which earlier [] (line ∷ rest) at again new belong here = elim again [ ]
+  lines_here which earlier (file ∷ files) [] at again new belong here = elim again [ ]
+  lines_here which earlier (file ∷ files) (line ∷ proof_lines) at again new belong here =
       let first = line_here earlier file line again.0 new.1 here in
-      let rest = lines_here (line.name ∷ earlier) files proof_lines first.end again.1 new.2 first.behind in
+      let rest = lines_here which (line.name ∷ earlier) files proof_lines first.end again.1 new.2 belong.1 first.behind in
       record {
         ls = first.l ∷ rest.ls;
         end = rest.end;
-        reads = has_line {outcome = read rest.ls rest.end} first.not_end first.reads (subst (λ b. LinesAt text tokens (b ∷ earlier) first.end (read rest.ls rest.end)) (sym first.named) rest.reads);
+        reads = has_line {outcome = read rest.ls rest.end} first.not_end first.reads (same_scope which (meaning.variables_of text tokens first.l) (line_variables line) first.l.source line.source first.means.source ∙ belong.0) (subst (λ b. LinesAt text tokens which (b ∷ earlier) first.end (read rest.ls rest.end)) (sym first.named) rest.reads);
         named = ap₂ (λ a b. a ∷ b) first.named rest.named;
         mean = one_line first.means rest.mean;
         known = unknown_more text tokens names (parse.mentions first.l.source) (parse.all_mentions rest.ls) first.known ∙ rest.known;

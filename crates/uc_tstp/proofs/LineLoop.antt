@@ -1,5 +1,5 @@
 -- How lines are gathered.
-use Rattle.std.proofs.Common.{◌≡◌, ℕ, Bool, false, List, [], ◌∷◌, ◌++◌, length, refl, sym, ap, ◌∙◌, subst, arith, append-nil}
+use Rattle.std.proofs.Common.{◌≡◌, ℕ, Bool, true, false, List, [], ◌∷◌, ◌++◌, length, refl, sym, ap, ◌∙◌, subst, arith, append-nil}
 use Rattle.std.specs.Prelude.{◌≢◌, ◌||◌, bytes_eq}
 use Rattle.std.specs.List.{list_any}
 use Rattle.std.proofs.lemmas.List.{map-append}
@@ -10,20 +10,23 @@ use Rattle.uc_term.specs.Table.{Table, Grows}
 use Rattle.uc_clause.specs.declared.token.Token.{Token}
 use Rattle.uc_clause.specs.declared.terminal.Terminal.TheVariants.{End}
 use Rattle.uc_clause.specs.declared.grammar.stop.Stop.{Stop}
+use Rattle.uc_clause.specs.declared.grammar.stop.Why.TheVariants.{NoToken}
 use Rattle.uc_clause.specs.Terminals.{terminal_at, bytes_at}
 use Rattle.uc_clause.specs.Rules.{Outcome, read, stop, mapped, goes_on, stops_first, Stops}
 use Rattle.uc_clause.specs.Meaning.{Variables, with_name}
 use Rattle.uc_clause.proofs.Sequences.{passes}
 use Rattle.uc_clause.proofs.Lists.{after, after_none, after_one}
 use Rattle.uc_clause.proofs.Means.{means_grows, extends_not}
+use Rattle.uc_tstp.specs.declared.scope.Scope.{Scope}
+use Rattle.uc_tstp.specs.declared.scope.Scope.TheVariants as scope
 use Rattle.uc_tstp.specs.declared.drafts.StepDraft.{StepDraft}
 use Rattle.uc_tstp.specs.declared.drafts.SourceDraft.{SourceDraft}
 use Rattle.uc_tstp.specs.declared.drafts.SourceDraft.TheVariants as draft
 use Rattle.uc_tstp.specs.declared.drafts.LineDraft.{LineDraft}
 use Rattle.uc_tstp.specs.Parse.{Source, from_file, by_chain, by_reflexive, by_goal, by_refute, Step, Line}
-use Rattle.uc_tstp.specs.Lines.{LineName, is_new, is_repeated, is_no_line_name, line, LinesAt, is_no_line, has_line, stops_in_line}
+use Rattle.uc_tstp.specs.Lines.{LineName, is_new, is_repeated, is_no_line_name, line, belongs, LinesAt, is_no_line, has_line, has_foreign_line, stops_in_line}
 use Rattle.uc_tstp.specs.Meaning.{names_of, variables_of}
-use Rattle.uc_tstp.specs.Drafts.{SaySteps, say_nothing, say_more, SaysSource, SaysLine, SayLines, say_no_line, say_line, ReadsLineAt, AreLines}
+use Rattle.uc_tstp.specs.Drafts.{SaySteps, say_nothing, say_more, SaysSource, SaysLine, SayLines, say_no_line, say_line, ReadsLineAt, AreLines, belongs_draft}
 use Rattle.uc_tstp.specs.Interning.{with_line, with_lines}
 use Rattle.uc_tstp.proofs.LineParts.{body_grows}
 
@@ -49,6 +52,16 @@ module _ (bytes : List ℕ) (tokens : List Token) where
     same_line (goes_on w (stops_first p)) = goes_on w (stops_first p)
     same_line (goes_on w (goes_on p (stops_first n))) = goes_on w (goes_on p (stops_first (same_name n)))
     same_line (goes_on w (goes_on p (goes_on n rest))) = goes_on w (goes_on p (goes_on (same_name n) rest))
+
+  -- a draft belongs where its parse does
+  same_scope : (table : Table) (seen : Variables) (which : Scope) (s : Source) (d : SourceDraft) → SaysSource bytes tokens table seen s d → belongs which s ≡ belongs_draft which d
+  same_scope table seen scope.Proof s d h = refl
+  same_scope table seen scope.Derivation (from_file k) (draft.File name) h = refl
+  same_scope table seen scope.Derivation (by_chain p ss ks) (draft.Chain start steps parents) h = refl
+  same_scope table seen scope.Derivation (by_reflexive ks) (draft.Reflexive parents) h = refl
+  same_scope table seen scope.Derivation (by_goal ks) (draft.EncodeGoal parents) h = refl
+  same_scope table seen scope.Derivation (by_refute ks) (draft.Refute parents) h = refl
+  same_scope table seen scope.Derivation s d h = elim h [ ]
 
   module _ (old new : Table) (grows : Grows old new) where
     steps_grow : {seen : Variables} {ss : List Step} {ds : List StepDraft} → SaySteps bytes tokens old seen ss ds → SaySteps bytes tokens new seen ss ds
@@ -76,42 +89,45 @@ module _ (bytes : List ℕ) (tokens : List Token) where
   added_behind table (k ∷ ks) l = added_behind (with_line bytes tokens table k) ks l
 
   -- some lines are read, and with what the rest comes to all comes to
-  pub record Gathered (old table : Table) (names : List (List ℕ)) (drafts : List LineDraft) (at : ℕ) : Type 0 where
+  pub record Gathered (which : Scope) (old table : Table) (names : List (List ℕ)) (drafts : List LineDraft) (at : ℕ) : Type 0 where
     pub parses : List Line
     pub earlier : List (List ℕ)
     pub same : HaveSame earlier names
     pub names_are : names ≡ names_of bytes tokens parses
     pub say : SayLines bytes tokens table parses drafts
     pub table_is : table ≡ with_lines bytes tokens old parses
-    pub comes_to : (o : Outcome (List Line)) → LinesAt bytes tokens earlier at o → LinesAt bytes tokens [] 0 (after parses o)
+    pub comes_to : (o : Outcome (List Line)) → LinesAt bytes tokens which earlier at o → LinesAt bytes tokens which [] 0 (after parses o)
 
-  pub gathered_none : (table : Table) → Gathered table table [] [] 0
-  gathered_none table = record { parses = []; earlier = []; same = λ x. refl; names_are = refl; say = say_no_line; table_is = refl; comes_to = λ o rest. rw (after_none o) rest }
+  pub gathered_none : (which : Scope) (table : Table) → Gathered which table table [] [] 0
+  gathered_none which table = record { parses = []; earlier = []; same = λ x. refl; names_are = refl; say = say_no_line; table_is = refl; comes_to = λ o rest. rw (after_none o) rest }
 
-  module _ (old table : Table) (names : List (List ℕ)) (drafts : List LineDraft) (at : ℕ) (g : Gathered old table names drafts at) where
-    pub gathered_all : terminal_at bytes tokens at ≡ End → AreLines bytes tokens old table names drafts
+  module _ (which : Scope) (old table : Table) (names : List (List ℕ)) (drafts : List LineDraft) (at : ℕ) (g : Gathered which old table names drafts at) where
+    pub gathered_all : terminal_at bytes tokens at ≡ End → AreLines bytes tokens which old table names drafts
     gathered_all e = record {
       parses = g.parses;
       end = at;
-      reads = subst (λ ls. LinesAt bytes tokens [] 0 (read ls at)) (append-nil g.parses) (g.comes_to (read [] at) (is_no_line e));
+      reads = subst (λ ls. LinesAt bytes tokens which [] 0 (read ls at)) (append-nil g.parses) (g.comes_to (read [] at) (is_no_line e));
       names_are = g.names_are;
       say = g.say;
       table_is = g.table_is;
     }
 
     module _ (more : terminal_at bytes tokens at ≢ End) where
-      pub line_stops : (e : Stop) → Stops (line bytes tokens names at) e → Stops (LinesAt bytes tokens [] 0) e
-      line_stops e h = passes (line bytes tokens names at) (LinesAt bytes tokens [] 0) e (λ why k s. g.comes_to (stop why k) (stops_in_line more (same_line g.earlier names g.same s))) h
+      pub line_stops : (e : Stop) → Stops (line bytes tokens names at) e → Stops (LinesAt bytes tokens which [] 0) e
+      line_stops e h = passes (line bytes tokens names at) (LinesAt bytes tokens which [] 0) e (λ why k s. g.comes_to (stop why k) (stops_in_line more (same_line g.earlier names g.same s))) h
 
-      pub gathered_more : (new : Table) (d : LineDraft) (end : ℕ) (more_names : List (List ℕ)) → Grows table new → ReadsLineAt bytes tokens names at end table new d → more_names ≡ names ++ bytes_at bytes tokens d.name ∷ [] → Gathered old new more_names (drafts ++ d ∷ []) end
-      gathered_more new d end more_names grows r e = record {
+      pub foreign_stops : (new : Table) (d : LineDraft) (end : ℕ) → ReadsLineAt bytes tokens names at end table new d → belongs_draft which d.source ≡ false → LinesAt bytes tokens which [] 0 (stop NoToken at)
+      foreign_stops new d end r b = g.comes_to (stop NoToken at) (has_foreign_line more (same_line g.earlier names g.same r.reads) (same_scope new (variables_of bytes tokens r.line) which r.line.source d.source r.says.source ∙ b))
+
+      pub gathered_more : (new : Table) (d : LineDraft) (end : ℕ) (more_names : List (List ℕ)) → Grows table new → ReadsLineAt bytes tokens names at end table new d → belongs_draft which d.source ≡ true → more_names ≡ names ++ bytes_at bytes tokens d.name ∷ [] → Gathered which old new more_names (drafts ++ d ∷ []) end
+      gathered_more new d end more_names grows r b e = record {
         parses = g.parses ++ r.line ∷ [];
         earlier = bytes_at bytes tokens r.line.name ∷ g.earlier;
         same = rw (e, r.says.name) (have_more g.earlier names (bytes_at bytes tokens r.line.name) g.same);
         names_are = e ∙ ap (λ k. names ++ bytes_at bytes tokens k ∷ []) r.says.name ∙ ap (λ ns. ns ++ bytes_at bytes tokens r.line.name ∷ []) g.names_are ∙ sym (map-append (λ (l : Line). bytes_at bytes tokens l.name) g.parses (r.line ∷ []));
         say = lines_snoc r.line d (lines_grow table new grows g.say) r.says;
         table_is = r.table_is ∙ ap (λ t. with_line bytes tokens t r.line) g.table_is ∙ sym (added_behind old g.parses r.line);
-        comes_to = λ o rest. rw (after_one g.parses r.line o) (g.comes_to (mapped (λ ls. r.line ∷ ls) o) (has_line more (same_line g.earlier names g.same r.reads) rest));
+        comes_to = λ o rest. rw (after_one g.parses r.line o) (g.comes_to (mapped (λ ls. r.line ∷ ls) o) (has_line more (same_line g.earlier names g.same r.reads) (same_scope new (variables_of bytes tokens r.line) which r.line.source d.source r.says.source ∙ b) rest));
       }
 
 -- a new name makes one name more

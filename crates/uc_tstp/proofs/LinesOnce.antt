@@ -14,7 +14,8 @@ use Rattle.uc_tstp.specs.declared.words.Inference.{Inference}
 use Rattle.uc_tstp.specs.declared.words.Inference.TheVariants.{Chain, Encode, Refute}
 use Rattle.uc_tstp.specs.Parse.{Body, says, Source, Line}
 use Rattle.uc_tstp.specs.Lines as lines
-use Rattle.uc_tstp.specs.Lines.{RuleWord, is_rule, is_no_rule, is_no_word, LineName, is_new, is_repeated, is_no_line_name, BodyAt, is_false, is_equation, Members, stops_in_member, is_last_member, is_member, stops_behind_member, SourceAt, is_from_file, is_inferred, LinesAt, is_no_line, has_line, stops_in_line}
+use Rattle.uc_tstp.specs.declared.scope.Scope.{Scope}
+use Rattle.uc_tstp.specs.Lines.{RuleWord, is_rule, is_no_rule, is_no_word, LineName, is_new, is_repeated, is_no_line_name, BodyAt, is_false, is_equation, Members, stops_in_member, is_last_member, is_member, stops_behind_member, SourceAt, is_from_file, is_inferred, belongs, LinesAt, is_no_line, has_line, has_foreign_line, stops_in_line}
 use Rattle.uc_tstp.proofs.Outcomes.{yes_or_no, some_or_none, same_value, same_end, read_or_stop, stop_as}
 
 fits_once : (fits : Bool) (first : ℕ) → Once (lines.body_fits fits first)
@@ -177,18 +178,29 @@ module _ (bytes : List ℕ) (tokens : List Token) where
   line_once : (earlier : List (List ℕ)) → Once (lines.line bytes tokens earlier)
   line_once earlier = both_once (lines.word bytes tokens (codes "cnf")) _ (word_once (codes "cnf")) (λ a. both_once _ _ (token_once Open) (λ b. both_once (lines.line_name bytes tokens earlier) _ (line_name_once earlier) (λ name. both_once _ _ (token_once Comma) (λ c. both_once (lines.lower bytes tokens) _ lower_once (λ d. both_once _ _ (token_once Comma) (λ e. rest_of_line_once name))))))
 
-  pub lines_once : {earlier : List (List ℕ)} {at : ℕ} {o p : Outcome (List Line)} → LinesAt bytes tokens earlier at o → LinesAt bytes tokens earlier at p → o ≡ p
-  lines_once (is_no_line e) (is_no_line f) = refl
-  lines_once (is_no_line e) (has_line n y s) = absurd (n e)
-  lines_once (is_no_line e) (stops_in_line n y) = absurd (n e)
-  lines_once (has_line n x r) (is_no_line f) = absurd (n f)
-  lines_once {earlier} {at} (has_line {middle = m} {l = l} {outcome = o} n x r) (has_line {middle = k} {l = j} {outcome = p} d y s) =
+  -- a line belongs or it doesn't
+  both_ways : {b : Bool} → b ≡ true → b ≡ false → ⊥
+  both_ways e f = absurd cc
+
+  pub lines_once : (which : Scope) {earlier : List (List ℕ)} {at : ℕ} {o p : Outcome (List Line)} → LinesAt bytes tokens which earlier at o → LinesAt bytes tokens which earlier at p → o ≡ p
+  lines_once which (is_no_line e) (is_no_line f) = refl
+  lines_once which (is_no_line e) (has_line n y c s) = absurd (n e)
+  lines_once which (is_no_line e) (has_foreign_line n y c) = absurd (n e)
+  lines_once which (is_no_line e) (stops_in_line n y) = absurd (n e)
+  lines_once which (has_line n x b r) (is_no_line f) = absurd (n f)
+  lines_once which {earlier} {at} (has_line {middle = m} {l = l} {outcome = o} n x b r) (has_line {middle = k} {l = j} {outcome = p} d y c s) =
       let h = line_once earlier at (read l m) (read j k) x y in
       let values : l ≡ j = same_value h in
       let middles : k ≡ m = sym (same_end h) in
-      let rests : o ≡ p = lines_once r (subst (λ i. LinesAt bytes tokens (bytes_at bytes tokens l.name ∷ earlier) i p) middles (subst (λ (i : Line). LinesAt bytes tokens (bytes_at bytes tokens i.name ∷ earlier) k p) (sym values) s)) in
+      let rests : o ≡ p = lines_once which r (subst (λ i. LinesAt bytes tokens which (bytes_at bytes tokens l.name ∷ earlier) i p) middles (subst (λ (i : Line). LinesAt bytes tokens which (bytes_at bytes tokens i.name ∷ earlier) k p) (sym values) s)) in
       rw (values, rests) refl
-  lines_once {earlier} {at} (has_line {middle = m} {l = l} n x r) (stops_in_line {k = k} {why = why} d y) = absurd (read_or_stop (line_once earlier at (read l m) (stop why k) x y))
-  lines_once (stops_in_line n x) (is_no_line f) = absurd (n f)
-  lines_once {earlier} {at} (stops_in_line {k = k} {why = why} n x) (has_line {middle = m} {l = l} d y s) = absurd (read_or_stop (line_once earlier at (read l m) (stop why k) y x))
-  lines_once {earlier} {at} (stops_in_line {k = k} {why = why} n x) (stops_in_line {k = l} {why = other} d y) = stop_as (line_once earlier at (stop why k) (stop other l) x y)
+  lines_once which {earlier} {at} (has_line {middle = m} {l = l} n x b r) (has_foreign_line {middle = k} {l = j} d y c) = absurd (both_ways (ap (λ (i : Line). belongs which i.source) (sym (same_value (line_once earlier at (read l m) (read j k) x y))) ∙ b) c)
+  lines_once which {earlier} {at} (has_line {middle = m} {l = l} n x b r) (stops_in_line {k = k} {why = why} d y) = absurd (read_or_stop (line_once earlier at (read l m) (stop why k) x y))
+  lines_once which (has_foreign_line n x b) (is_no_line f) = absurd (n f)
+  lines_once which {earlier} {at} (has_foreign_line {middle = m} {l = l} n x b) (has_line {middle = k} {l = j} d y c s) = absurd (both_ways c (ap (λ (i : Line). belongs which i.source) (sym (same_value (line_once earlier at (read l m) (read j k) x y))) ∙ b))
+  lines_once which (has_foreign_line n x b) (has_foreign_line d y c) = refl
+  lines_once which {earlier} {at} (has_foreign_line {middle = m} {l = l} n x b) (stops_in_line {k = k} {why = why} d y) = absurd (read_or_stop (line_once earlier at (read l m) (stop why k) x y))
+  lines_once which (stops_in_line n x) (is_no_line f) = absurd (n f)
+  lines_once which {earlier} {at} (stops_in_line {k = k} {why = why} n x) (has_line {middle = m} {l = l} d y c s) = absurd (read_or_stop (line_once earlier at (read l m) (stop why k) y x))
+  lines_once which {earlier} {at} (stops_in_line {k = k} {why = why} n x) (has_foreign_line {middle = m} {l = l} d y c) = absurd (read_or_stop (line_once earlier at (read l m) (stop why k) y x))
+  lines_once which {earlier} {at} (stops_in_line {k = k} {why = why} n x) (stops_in_line {k = l} {why = other} d y) = stop_as (line_once earlier at (stop why k) (stop other l) x y)

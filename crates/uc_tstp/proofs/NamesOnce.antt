@@ -11,7 +11,8 @@ use Rattle.uc_clause.specs.Distinct.{AreDistinct}
 use Rattle.uc_clause.proofs.MeansOnce.{none_distinct}
 use Rattle.uc_tstp.specs.Parse.{Line}
 use Rattle.uc_tstp.specs.Lines as lines
-use Rattle.uc_tstp.specs.Lines.{LineName, is_new, is_repeated, is_no_line_name, LinesAt, is_no_line, has_line, stops_in_line}
+use Rattle.uc_tstp.specs.declared.scope.Scope.{Scope}
+use Rattle.uc_tstp.specs.Lines.{LineName, is_new, is_repeated, is_no_line_name, LinesAt, is_no_line, has_line, has_foreign_line, stops_in_line}
 use Rattle.uc_tstp.specs.Meaning.{names_of}
 use Rattle.uc_tstp.proofs.Outcomes.{yes_or_no}
 
@@ -75,11 +76,12 @@ module _ (bytes : List ℕ) (tokens : List Token) where
       different (suc i) zero x e f = absurd (apart i x (let same : name ≡ x = cc in same) e)
       different (suc i) (suc j) x e f = ap suc (rest.different i j x e f)
 
-  lines_are_new : {earlier : List (List ℕ)} {at : ℕ} {o : Outcome (List Line)} → LinesAt bytes tokens earlier at o → IfRead (λ ls. AreNew earlier (names_of bytes tokens ls)) o
-  lines_are_new {earlier} (is_no_line e) = none_new earlier
-  lines_are_new {earlier} {at} (has_line {middle = m} {l = l} {outcome = read ls end} n x r) = one_more earlier (names_of bytes tokens ls) (bytes_at bytes tokens l.name) (line_is_new earlier at (read l m) x) (lines_are_new r)
-  lines_are_new (has_line {outcome = stop why k} n x r) = tt
-  lines_are_new (stops_in_line n x) = tt
+  lines_are_new : (which : Scope) {earlier : List (List ℕ)} {at : ℕ} {o : Outcome (List Line)} → LinesAt bytes tokens which earlier at o → IfRead (λ ls. AreNew earlier (names_of bytes tokens ls)) o
+  lines_are_new which {earlier} (is_no_line e) = none_new earlier
+  lines_are_new which {earlier} {at} (has_line {middle = m} {l = l} {outcome = read ls end} n x b r) = one_more earlier (names_of bytes tokens ls) (bytes_at bytes tokens l.name) (line_is_new earlier at (read l m) x) (lines_are_new which r)
+  lines_are_new which (has_line {outcome = stop why k} n x b r) = tt
+  lines_are_new which (has_foreign_line n x b) = tt
+  lines_are_new which (stops_in_line n x) = tt
 
-  pub names_different : {at end : ℕ} {ls : List Line} → LinesAt bytes tokens [] at (read ls end) → AreDistinct (names_of bytes tokens ls)
-  names_different x = (lines_are_new x).different
+  pub names_different : (which : Scope) {at end : ℕ} {ls : List Line} → LinesAt bytes tokens which [] at (read ls end) → AreDistinct (names_of bytes tokens ls)
+  names_different which x = (lines_are_new which x).different

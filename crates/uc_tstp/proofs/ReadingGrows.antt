@@ -13,6 +13,8 @@ use Rattle.uc_check.specs.declared.proof.LineSource.{LineSource}
 use Rattle.uc_check.specs.declared.proof.LineSource.TheVariants.{File, Chain, Reflexive, EncodeGoal, Refute}
 use Rattle.uc_tstp.specs.declared.fault.ProofFault.{ProofFault}
 use Rattle.uc_tstp.specs.declared.framing.Frame.{Frame}
+use Rattle.uc_tstp.specs.declared.scope.Scope.{Scope}
+use Rattle.uc_tstp.specs.declared.scope.Scope.TheVariants as scope
 use Rattle.uc_tstp.specs.Parse as parse
 use Rattle.uc_tstp.specs.Parse.{Body, says, falsum, Source, from_file, by_chain, by_reflexive, by_goal, by_refute}
 use Rattle.uc_tstp.specs.Meaning.{MeanSteps, no_steps, one_step, MeansSource, MeansBody, MeanLines, no_lines, one_line, variables_of}
@@ -44,12 +46,12 @@ module _ (old new : Table) (grows : Grows old new) where
     lines_grow no_lines = no_lines
     lines_grow (one_line {l = l} {line = line} m all) = one_line (record { name = m.name; body = body_grows (variables_of bytes tokens l) l.body line m.body; source = source_grows (variables_of bytes tokens l) l.source line.source m.source }) (lines_grow all)
 
-  pub inside_grows : (text : List ℕ) (frame : Frame) {answer : Result Proof ProofFault} → ReadsInside old text frame answer → ReadsInside new text frame answer
-  inside_grows text frame (no_token c) = no_token c
-  inside_grows text frame (reading.no_lines c l) = reading.no_lines c l
-  inside_grows text frame (no_name c l u) = no_name c l u
-  inside_grows text frame (reads c l u m) = reads c l u (lines_grow _ _ _ m)
+  pub inside_grows : (which : Scope) (text : List ℕ) (frame : Frame) {answer : Result Proof ProofFault} → ReadsInside which old text frame answer → ReadsInside which new text frame answer
+  inside_grows which text frame (no_token c) = no_token c
+  inside_grows which text frame (reading.no_lines c l) = reading.no_lines c l
+  inside_grows which text frame (no_name c l u) = no_name c l u
+  inside_grows which text frame (reads c l u m) = reads c l u (lines_grow _ _ _ m)
 
   pub reading_grows : (text : List ℕ) {answer : Result Proof ProofFault} → ReadsProof old text answer → ReadsProof new text answer
   reading_grows text (no_frame x) = no_frame x
-  reading_grows text (in_frame {frame = frame} x r) = in_frame x (inside_grows text frame r)
+  reading_grows text (in_frame {frame = frame} x r) = in_frame x (inside_grows scope.Proof text frame r)

@@ -9,6 +9,8 @@ use Rattle.uc_check.specs.declared.proof.Proof.{Proof}
 use Rattle.uc_check.specs.declared.proof.Line.{Line}
 use Rattle.uc_tstp.specs.declared.fault.ProofFault.{ProofFault}
 use Rattle.uc_tstp.specs.declared.framing.Frame.{Frame}
+use Rattle.uc_tstp.specs.declared.scope.Scope.{Scope}
+use Rattle.uc_tstp.specs.declared.scope.Scope.TheVariants as scope
 use Rattle.uc_tstp.specs.Framing.{Framed}
 use Rattle.uc_tstp.specs.Parse as parse
 use Rattle.uc_tstp.specs.Lines.{LinesAt}
@@ -21,10 +23,10 @@ use Rattle.uc_tstp.proofs.MeantOnce.{lines_are_once}
 use Rattle.uc_tstp.proofs.Outcomes.{some_once, some_or_none, err_once, ok_once, ok_or_err, same_value, same_stop, read_or_stop}
 
 -- the part of a text in one frame
-module _ (text : List ℕ) (frame : Frame) where
+module _ (which : Scope) (text : List ℕ) (frame : Frame) where
   -- what its lines with these tokens come to
   abbrev LinesOf : List Token → Outcome (List parse.Line) → Type 0
-  LinesOf tokens o = LinesAt (inside text frame) tokens [] 0 o
+  LinesOf tokens o = LinesAt (inside text frame) tokens which [] 0 o
 
   abbrev unknown : List Token → List parse.Line → Option ℕ
   unknown tokens lines = first_unknown (inside text frame) tokens (names_of (inside text frame) tokens lines) (parse.all_mentions lines)
@@ -33,7 +35,7 @@ module _ (text : List ℕ) (frame : Frame) where
   pub all_once : {ts us : List Token} {o p : Outcome (List parse.Line)} → Cut (inside text frame) 0 (Ok ts) → Cut (inside text frame) 0 (Ok us) → LinesOf ts o → LinesOf us p → (ts ≡ us) × (o ≡ p)
   all_once {ts} {us} {o} {p} c d l m =
       let tokens : us ≡ ts = ok_once (cut_once d c) in
-      (sym tokens, lines_once (inside text frame) ts l (subst (λ vs. LinesOf vs p) tokens m))
+      (sym tokens, lines_once (inside text frame) ts which l (subst (λ vs. LinesOf vs p) tokens m))
 
   unknown_once : {ts us : List Token} {ls js : List parse.Line} {e d : ℕ} → (ts ≡ us) × Path (Outcome (List parse.Line)) (read ls e) (read js d) → unknown ts ls ≡ unknown us js
   unknown_once {ts} {us} {ls} {js} same =
@@ -48,10 +50,10 @@ module _ (text : List ℕ) (frame : Frame) where
     proof_once : {ts us : List Token} {ls js : List parse.Line} {e d : ℕ} (a b : Proof) → LinesOf ts (read ls e) → (ts ≡ us) × Path (Outcome (List parse.Line)) (read ls e) (read js d) → SaysLines ts ls a.lines → SaysLines us js b.lines → a ≡ b
     proof_once {ts} {us} {ls} {js} a b l same m n =
         let moved : SaysLines ts ls b.lines = subst (λ v. SaysLines ts v b.lines) (sym (same_value same.1)) (subst (λ v. SaysLines v js b.lines) (sym same.0) n) in
-        let lines : a.lines ≡ b.lines = lines_are_once (inside text frame) ts (names_of (inside text frame) ts ls) (names_different (inside text frame) ts l) table distinct m moved in
+        let lines : a.lines ≡ b.lines = lines_are_once (inside text frame) ts (names_of (inside text frame) ts ls) (names_different (inside text frame) ts which l) table distinct m moved in
         ap (λ (ls : List Line). let p : Proof = record { lines = ls } in p) lines
 
-    pub inside_once : {a b : Result Proof ProofFault} → ReadsInside table text frame a → ReadsInside table text frame b → a ≡ b
+    pub inside_once : {a b : Result Proof ProofFault} → ReadsInside which table text frame a → ReadsInside which table text frame b → a ≡ b
     inside_once (no_token {k = k} c) (no_token {k = j} d) = let ks : k ≡ j = err_once (cut_once c d) in rw ks refl
     inside_once (no_token c) (no_lines d m) = absurd (ok_or_err (cut_once d c))
     inside_once (no_token c) (no_name d m u) = absurd (ok_or_err (cut_once d c))
@@ -88,4 +90,4 @@ module _ (text : List ℕ) (table : Table) (distinct : IsDistinct table) where
   reading_once (no_frame x) (no_frame y) = ap Err (err_once (framed_once text x y))
   reading_once (no_frame x) (in_frame y d) = absurd (framed_or_not y x)
   reading_once (in_frame x c) (no_frame y) = absurd (framed_or_not x y)
-  reading_once (in_frame {frame = f} x c) (in_frame {answer = b} y d) = inside_once text f table distinct c (subst (λ h. ReadsInside table text h b) (ok_once (framed_once text y x)) d)
+  reading_once (in_frame {frame = f} x c) (in_frame {answer = b} y d) = inside_once scope.Proof text f table distinct c (subst (λ h. ReadsInside scope.Proof table text h b) (ok_once (framed_once text y x)) d)

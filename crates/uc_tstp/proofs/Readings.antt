@@ -19,6 +19,8 @@ use Rattle.uc_tstp.specs.declared.drafts.LineDraft.{LineDraft}
 use Rattle.uc_tstp.specs.declared.fault.ProofFault.{ProofFault}
 use Rattle.uc_tstp.specs.declared.fault.ProofFault.TheVariants.{Syntax, UnknownRule, UnknownName, Truncated, RepeatedName, Limit, NoMemory}
 use Rattle.uc_tstp.specs.declared.framing.Frame.{Frame}
+use Rattle.uc_tstp.specs.declared.scope.Scope.{Scope}
+use Rattle.uc_tstp.specs.declared.scope.Scope.TheVariants as scope
 use Rattle.uc_tstp.specs.declared.resolving.Unresolved.{Unresolved}
 use Rattle.uc_tstp.specs.declared.resolving.Unresolved.TheVariants as of_name
 use Rattle.uc_tstp.specs.Framing.{Framed, IsFrame, max_proof}
@@ -61,11 +63,11 @@ reading_by P Q text f (Err (Limit what.Files place)) h = (h.0, f (Err (Limit wha
 reading_by P Q text f (Err (Limit what.Symbols place)) h = (h.0, f (Err (Limit what.Symbols place)) h.1)
 reading_by P Q text f (Err NoMemory) h = tt
 
-pub framed_reading : (table : Table) (text : List ℕ) (frame : Frame) → Framed text (Ok frame) → (r : Result Proof ProofFault) → IsReadingInside table text frame r → IsReading table text r
-framed_reading table text frame is_framed = reading_by (ReadsInside table text frame) (ReadsProof table text) text (λ r h. in_frame is_framed h)
+pub framed_reading : (table : Table) (text : List ℕ) (frame : Frame) → Framed text (Ok frame) → (r : Result Proof ProofFault) → IsReadingInside scope.Proof table text frame r → IsReading table text r
+framed_reading table text frame is_framed = reading_by (ReadsInside scope.Proof table text frame) (ReadsProof table text) text (λ r h. in_frame is_framed h)
 
-module _ (table : Table) (text : List ℕ) (frame : Frame) where
-  stop_reading : (why : Why) (place : Place) → length text ≤ max_proof → ReadsInside table text frame (Err (fault_of why place)) → IsReadingInside table text frame (Err (fault_of why place))
+module _ (which : Scope) (table : Table) (text : List ℕ) (frame : Frame) where
+  stop_reading : (why : Why) (place : Place) → length text ≤ max_proof → ReadsInside which table text frame (Err (fault_of why place)) → IsReadingInside which table text frame (Err (fault_of why place))
   stop_reading NoItem place small h = (small, h)
   stop_reading NoRole place small h = (small, h)
   stop_reading NoSelection place small h = (small, h)
@@ -80,25 +82,25 @@ module _ (table : Table) (text : List ℕ) (frame : Frame) where
   stop_reading Repeated place small h = (small, h)
 
   module _ (stands : StandsIn text frame) where
-    pub token_fault_reading : BeginsLine text frame → (fault : TokenFault) → IsRefused (inside text frame) fault → IsReadingInside table text frame (Err (token_fault text frame fault))
+    pub token_fault_reading : BeginsLine text frame → (fault : TokenFault) → IsRefused (inside text frame) fault → IsReadingInside which table text frame (Err (token_fault text frame fault))
     token_fault_reading begins (of_tokens.Syntax place) h =
         let k = stuck_in (inside text frame) h.0 h.1 in
         let e : place_of text (frame.from + h.0) ≡ behind_lines (place_of text frame.from) place = place_in_frame text frame h.0 (omega (arith, k)) begins ∙ ap (behind_lines (place_of text frame.from)) (sym h.2) in
-        (stands.2, subst (λ p. ReadsInside table text frame (Err (Syntax p))) e (no_token h.1))
+        (stands.2, subst (λ p. ReadsInside which table text frame (Err (Syntax p))) e (no_token h.1))
     token_fault_reading begins of_tokens.NoMemory h = tt
 
     module _ (tokens : List Token) (are : AreTokens (inside text frame) tokens) where
-      pub line_fault_reading : (s : Stop) → Stops (LinesAt (inside text frame) tokens [] 0) s → IsReadingInside table text frame (Err (line_fault text frame tokens s))
+      pub line_fault_reading : (s : Stop) → Stops (LinesAt (inside text frame) tokens which [] 0) s → IsReadingInside which table text frame (Err (line_fault text frame tokens s))
       line_fault_reading (of_stop.At why k) h = stop_reading why (place_in text frame tokens k) stands.2 (no_lines are h)
       line_fault_reading of_stop.NoMemory h = tt
 
-      module _ (names : List (List ℕ)) (drafts : List LineDraft) (old : Table) (lines : AreLines (inside text frame) tokens old table names drafts) where
+      module _ (names : List (List ℕ)) (drafts : List LineDraft) (old : Table) (lines : AreLines (inside text frame) tokens which old table names drafts) where
         unknown_is : (o : Option ℕ) → first_unknown (inside text frame) tokens names (lines_mention drafts) ≡ o → first_unknown (inside text frame) tokens (names_of (inside text frame) tokens lines.parses) (all_mentions lines.parses) ≡ o
         unknown_is o e = ap₂ (first_unknown (inside text frame) tokens) (sym lines.names_are) (sym (same_mentions (inside text frame) tokens table lines.say)) ∙ e
 
-        pub name_fault_reading : (u : Unresolved) → Lacks (inside text frame) tokens names (lines_mention drafts) u → IsReadingInside table text frame (Err (name_fault text frame tokens u))
+        pub name_fault_reading : (u : Unresolved) → Lacks (inside text frame) tokens names (lines_mention drafts) u → IsReadingInside which table text frame (Err (name_fault text frame tokens u))
         name_fault_reading (of_name.Unknown k) h = (stands.2, no_name are lines.reads (unknown_is (Some k) h))
         name_fault_reading of_name.NoMemory h = tt
 
-        pub proof_reading : (ls : List Line) → ResolveLines (inside text frame) tokens names drafts ls → IsReadingInside table text frame (Ok (record { lines = ls }))
+        pub proof_reading : (ls : List Line) → ResolveLines (inside text frame) tokens names drafts ls → IsReadingInside which table text frame (Ok (record { lines = ls }))
         proof_reading ls h = (stands.2, reads are lines.reads (unknown_is None (known_lines (inside text frame) tokens names h)) (subst (λ ns. MeanLines (inside text frame) tokens table ns lines.parses ls) lines.names_are (mean_lines (inside text frame) tokens table names lines.say h)))

@@ -9,6 +9,8 @@ use Rattle.uc_clause.specs.declared.grammar.stop.Stop.TheVariants.{At}
 use Rattle.uc_clause.specs.Terminals.{terminal_at}
 use Rattle.uc_clause.specs.Rules.{read}
 use Rattle.uc_clause.specs.Meaning.{Variables, with_names, Means, IsName}
+use Rattle.uc_tstp.specs.declared.scope.Scope.{Scope}
+use Rattle.uc_tstp.specs.declared.scope.Scope.TheVariants as scope
 use Rattle.uc_tstp.specs.declared.drafts.StepDraft.{StepDraft}
 use Rattle.uc_tstp.specs.declared.drafts.SourceDraft.{SourceDraft}
 use Rattle.uc_tstp.specs.declared.drafts.SourceDraft.TheVariants as source
@@ -59,6 +61,15 @@ module _ (bytes : List ℕ) (tokens : List Token) (table : Table) (seen : Variab
   SaysBody parse.falsum body.Falsum = Unit {0}
   SaysBody _ _ = ⊥
 
+-- the sources of which lines may be
+abbrev pub belongs_draft : Scope → SourceDraft → Bool
+belongs_draft scope.Proof d = true
+belongs_draft scope.Derivation (source.File name) = true
+belongs_draft scope.Derivation (source.Chain start steps parents) = true
+belongs_draft scope.Derivation (source.Reflexive parents) = true
+belongs_draft scope.Derivation (source.EncodeGoal parents) = true
+belongs_draft scope.Derivation (source.Refute parents) = false
+
 -- what a body is to the sources that may stand behind it
 abbrev pub sort_of : parse.Body → Sort
 sort_of (parse.says l) = if l.positive then sort.Equation else sort.Denial
@@ -105,10 +116,10 @@ module _ (bytes : List ℕ) (tokens : List Token) where
     pub table_is : table ≡ with_line bytes tokens old line
 
   -- from the first token to the last all is lines, of these names
-  pub record AreLines (old table : Table) (names : List (List ℕ)) (drafts : List LineDraft) : Type 0 where
+  pub record AreLines (which : Scope) (old table : Table) (names : List (List ℕ)) (drafts : List LineDraft) : Type 0 where
     pub parses : List parse.Line
     pub end : ℕ
-    pub reads : lines.LinesAt bytes tokens [] 0 (read parses end)
+    pub reads : lines.LinesAt bytes tokens which [] 0 (read parses end)
     pub names_are : names ≡ names_of bytes tokens parses
     pub say : SayLines table parses drafts
     pub table_is : table ≡ with_lines bytes tokens old parses

@@ -7,6 +7,8 @@ use Rattle.uc_clause.specs.Tokens.{AreTokens}
 use Rattle.uc_clause.specs.Rules.{read}
 use Rattle.uc_clause.specs.Interning.{with_term, with_literal}
 use Rattle.uc_tstp.specs.declared.framing.Frame.{Frame}
+use Rattle.uc_tstp.specs.declared.scope.Scope.{Scope}
+use Rattle.uc_tstp.specs.declared.scope.Scope.TheVariants as scope
 use Rattle.uc_tstp.specs.Framing.{Framed}
 use Rattle.uc_tstp.specs.Parse.{Body, says, falsum, Step, Source, by_chain, Line}
 use Rattle.uc_tstp.specs.Lines.{LinesAt}
@@ -33,16 +35,16 @@ module _ (bytes : List ℕ) (tokens : List Token) where
   with_lines table (l ∷ ls) = with_lines (with_line table l) ls
 
 -- the part of a text in a frame is lines, which make the new table of the old
-pub record InternsInside (text : List ℕ) (frame : Frame) (old new : Table) : Type 0 where
+pub record InternsInside (which : Scope) (text : List ℕ) (frame : Frame) (old new : Table) : Type 0 where
   pub tokens : List Token
   pub are_tokens : AreTokens (inside text frame) tokens
   pub lines : List Line
   pub end : ℕ
-  pub reads : LinesAt (inside text frame) tokens [] 0 (read lines end)
+  pub reads : LinesAt (inside text frame) tokens which [] 0 (read lines end)
   pub new_is : new ≡ with_lines (inside text frame) tokens old lines
 
 -- so are the lines of a proof
 pub record InternsProof (text : List ℕ) (old new : Table) : Type 0 where
   pub frame : Frame
   pub framed : Framed text (Ok frame)
-  pub interns : InternsInside text frame old new
+  pub interns : InternsInside scope.Proof text frame old new

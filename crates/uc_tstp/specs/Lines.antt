@@ -14,7 +14,7 @@
 --
 -- A path's integers are 1 to 255 without a sign. A file line says an equation or its denial, a chain or encode line an
 -- equation, and a refute line `$false`; another body stops at its first token once the source's kind is read. A line's name
--- is none that an earlier line has.
+-- is none that an earlier line has. A derivation has no refute line: it stops at the first token of one.
 use Rattle.std.specs.Prelude.{ℕ, ◌≡◌, ◌≢◌, ◌+◌, ◌*◌, ◌-◌, ◌&&◌, Bool, true, false, List, [], ◌∷◌, codes, bytes_eq, nat_le, Option, Some, None, if◌then◌else◌}
 use Rattle.std.specs.List.{list_any, list_all}
 use Rattle.uc_clause.specs.declared.token.Token.{Token}
@@ -29,6 +29,8 @@ use Rattle.uc_clause.specs.Parse.{Literal}
 use Rattle.uc_clause.specs.Items as items
 use Rattle.uc_tstp.specs.declared.words.Inference.{Inference}
 use Rattle.uc_tstp.specs.declared.words.Inference.TheVariants.{Chain, Encode, Refute}
+use Rattle.uc_tstp.specs.declared.scope.Scope.{Scope}
+use Rattle.uc_tstp.specs.declared.scope.Scope.TheVariants as scope
 use Rattle.uc_tstp.specs.Parse.{Body, says, falsum, StepHead, Step, Source, from_file, by_chain, by_reflexive, by_goal, by_refute, Line}
 
 -- the number of a Lower
@@ -97,6 +99,15 @@ fits_rule Refute (says l) = false
 fits_rule Chain falsum = false
 fits_rule Encode falsum = false
 fits_rule Refute falsum = true
+
+-- the sources of which lines may be: of a proof all, of a derivation all but a refutation
+abbrev pub belongs : Scope → Source → Bool
+belongs scope.Proof s = true
+belongs scope.Derivation (from_file name) = true
+belongs scope.Derivation (by_chain start steps parents) = true
+belongs scope.Derivation (by_reflexive parents) = true
+belongs scope.Derivation (by_goal parents) = true
+belongs scope.Derivation (by_refute parents) = false
 
 -- the body is one that may stand here, or reading stops at its first token
 abbrev pub body_fits : Bool → ℕ → Rule (Unit {0})
@@ -300,7 +311,8 @@ module _ (bytes : List ℕ) (tokens : List Token) where
     rest_of_line name
 
   -- lines up to the end of the tokens, behind lines of these names
-  pub data LinesAt : List (List ℕ) → ℕ → Outcome (List Line) → Type 0 where
-    is_no_line : {earlier : List (List ℕ)} {at : ℕ} → terminal_at bytes tokens at ≡ End → LinesAt earlier at (read [] at)
-    has_line : {earlier : List (List ℕ)} {at middle : ℕ} {l : Line} {outcome : Outcome (List Line)} → terminal_at bytes tokens at ≢ End → line earlier at (read l middle) → LinesAt (bytes_at bytes tokens l.name ∷ earlier) middle outcome → LinesAt earlier at (mapped (λ ls. l ∷ ls) outcome)
-    stops_in_line : {earlier : List (List ℕ)} {at k : ℕ} {why : Why} → terminal_at bytes tokens at ≢ End → line earlier at (stop why k) → LinesAt earlier at (stop why k)
+  pub data LinesAt (which : Scope) : List (List ℕ) → ℕ → Outcome (List Line) → Type 0 where
+    is_no_line : {earlier : List (List ℕ)} {at : ℕ} → terminal_at bytes tokens at ≡ End → LinesAt which earlier at (read [] at)
+    has_line : {earlier : List (List ℕ)} {at middle : ℕ} {l : Line} {outcome : Outcome (List Line)} → terminal_at bytes tokens at ≢ End → line earlier at (read l middle) → belongs which l.source ≡ true → LinesAt which (bytes_at bytes tokens l.name ∷ earlier) middle outcome → LinesAt which earlier at (mapped (λ ls. l ∷ ls) outcome)
+    has_foreign_line : {earlier : List (List ℕ)} {at middle : ℕ} {l : Line} → terminal_at bytes tokens at ≢ End → line earlier at (read l middle) → belongs which l.source ≡ false → LinesAt which earlier at (stop NoToken at)
+    stops_in_line : {earlier : List (List ℕ)} {at k : ℕ} {why : Why} → terminal_at bytes tokens at ≢ End → line earlier at (stop why k) → LinesAt which earlier at (stop why k)

@@ -1,5 +1,5 @@
 -- What is read again as it was printed, and as which proof.
-use Rattle.std.specs.Prelude.{ℕ, ◌≡◌, ◌<◌, ◌≤◌, ◌+◌, true, false, List, [], ◌∷◌, ◌++◌, length, map, bytes_eq}
+use Rattle.std.specs.Prelude.{ℕ, ◌≡◌, ◌<◌, ◌≤◌, ◌+◌, not, Bool, true, false, List, [], ◌∷◌, ◌++◌, length, map, bytes_eq}
 use Rattle.std.specs.List.{flat_map, list_any, list_all, AllByRecursion}
 use Rattle.uc_term.specs.Tree.{var}
 use Rattle.uc_term.specs.Table.{Table}
@@ -12,7 +12,9 @@ use Rattle.uc_check.specs.declared.proof.Line.{Line}
 use Rattle.uc_check.specs.declared.proof.LineStep.{LineStep}
 use Rattle.uc_check.specs.declared.proof.LineSource.{LineSource}
 use Rattle.uc_check.specs.declared.proof.LineSource.TheVariants.{File, Chain, Refute}
-use Rattle.uc_tstp.specs.Printing.{names_in}
+use Rattle.uc_tstp.specs.declared.scope.Scope.{Scope}
+use Rattle.uc_tstp.specs.declared.scope.Scope.TheVariants as scope
+use Rattle.uc_tstp.specs.Printing.{names_in, is_refutation}
 
 -- a name of a proof: one or more bytes in one line
 abbrev pub IsProofName : List ℕ → Type 0
@@ -26,6 +28,14 @@ AreLineNames earlier (name ∷ names) = (is_name name ≡ true) × (list_any (by
 -- a path of a term with at most 255 arguments behind each functor
 abbrev pub IsPath : List ℕ → Type 0
 IsPath path = AllByRecursion (λ number. (1 ≤ number) × (number ≤ 255)) path
+
+-- the sources of which lines may be: of a proof all, of a derivation all but a refutation
+abbrev pub belongs_line : Scope → LineSource → Bool
+belongs_line scope.Proof source = true
+belongs_line scope.Derivation source = not (is_refutation source)
+
+abbrev pub AreOf : Scope → List Line → Type 0
+AreOf which lines = AllByRecursion (λ line. belongs_line which line.source ≡ true) lines
 
 module _ (table : Table) where
   pub record IsPrintableStep (s : LineStep) : Type 0 where
@@ -54,6 +64,12 @@ module _ (table : Table) where
   ArePrintableLines [] [] = Unit {0}
   ArePrintableLines (file ∷ files) (line ∷ lines) = IsPrintableLine file line × ArePrintableLines files lines
   ArePrintableLines files lines = ⊥
+
+  -- lines that belong together, with a file for each
+  pub record ArePrintable (which : Scope) (files : List (List ℕ)) (proof_lines : List Line) : Type 0 where
+    pub names : AreLineNames [] (names_in proof_lines)
+    pub lines : ArePrintableLines files proof_lines
+    pub belong : AreOf which proof_lines
 
   -- a proof of this name, with a file for each line
   pub record IsPrintableProof (proof_name : List ℕ) (files : List (List ℕ)) (proof_lines : List Line) : Type 0 where

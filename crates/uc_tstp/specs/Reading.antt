@@ -14,6 +14,8 @@ use Rattle.uc_check.specs.declared.proof.Proof.{Proof}
 use Rattle.uc_tstp.specs.declared.fault.ProofFault.{ProofFault}
 use Rattle.uc_tstp.specs.declared.fault.ProofFault.TheVariants.{Syntax, UnknownRule, UnknownName, RepeatedName, Limit, NoMemory}
 use Rattle.uc_tstp.specs.declared.framing.Frame.{Frame}
+use Rattle.uc_tstp.specs.declared.scope.Scope.{Scope}
+use Rattle.uc_tstp.specs.declared.scope.Scope.TheVariants as scope
 use Rattle.uc_tstp.specs.Framing.{Framed, max_proof, first_place}
 use Rattle.uc_tstp.specs.Parse as parse
 use Rattle.uc_tstp.specs.Lines.{LinesAt}
@@ -49,22 +51,22 @@ first_unknown bytes tokens names [] = None
 first_unknown bytes tokens names (k ∷ ks) = if list_any (bytes_eq (bytes_at bytes tokens k)) names then first_unknown bytes tokens names ks else Some k
 
 -- what the part of the text in a frame reads as: lines, or why not
-module _ (table : Table) (text : List ℕ) (frame : Frame) where
+module _ (which : Scope) (table : Table) (text : List ℕ) (frame : Frame) where
   pub data ReadsInside : Result Proof ProofFault → Type 0 where
     no_token : {k : ℕ} → Cut (inside text frame) 0 (Err k) → ReadsInside (Err (Syntax (place_of text (frame.from + k))))
-    no_lines : {tokens : List Token} {why : Why} {k : ℕ} → Cut (inside text frame) 0 (Ok tokens) → LinesAt (inside text frame) tokens [] 0 (stop why k) → ReadsInside (Err (fault_of why (place_in text frame tokens k)))
-    no_name : {tokens : List Token} {lines : List parse.Line} {end k : ℕ} → Cut (inside text frame) 0 (Ok tokens) → LinesAt (inside text frame) tokens [] 0 (read lines end) → first_unknown (inside text frame) tokens (names_of (inside text frame) tokens lines) (parse.all_mentions lines) ≡ Some k → ReadsInside (Err (UnknownName (place_in text frame tokens k)))
-    reads : {tokens : List Token} {lines : List parse.Line} {end : ℕ} {proof : Proof} → Cut (inside text frame) 0 (Ok tokens) → LinesAt (inside text frame) tokens [] 0 (read lines end) → first_unknown (inside text frame) tokens (names_of (inside text frame) tokens lines) (parse.all_mentions lines) ≡ None → MeanLines (inside text frame) tokens table (names_of (inside text frame) tokens lines) lines proof.lines → ReadsInside (Ok proof)
+    no_lines : {tokens : List Token} {why : Why} {k : ℕ} → Cut (inside text frame) 0 (Ok tokens) → LinesAt (inside text frame) tokens which [] 0 (stop why k) → ReadsInside (Err (fault_of why (place_in text frame tokens k)))
+    no_name : {tokens : List Token} {lines : List parse.Line} {end k : ℕ} → Cut (inside text frame) 0 (Ok tokens) → LinesAt (inside text frame) tokens which [] 0 (read lines end) → first_unknown (inside text frame) tokens (names_of (inside text frame) tokens lines) (parse.all_mentions lines) ≡ Some k → ReadsInside (Err (UnknownName (place_in text frame tokens k)))
+    reads : {tokens : List Token} {lines : List parse.Line} {end : ℕ} {proof : Proof} → Cut (inside text frame) 0 (Ok tokens) → LinesAt (inside text frame) tokens which [] 0 (read lines end) → first_unknown (inside text frame) tokens (names_of (inside text frame) tokens lines) (parse.all_mentions lines) ≡ None → MeanLines (inside text frame) tokens table (names_of (inside text frame) tokens lines) lines proof.lines → ReadsInside (Ok proof)
 
 module _ (table : Table) (text : List ℕ) where
   -- a text is read in its frame
   pub data ReadsProof : Result Proof ProofFault → Type 0 where
     no_frame : {why : ProofFault} → Framed text (Err why) → ReadsProof (Err why)
-    in_frame : {frame : Frame} {answer : Result Proof ProofFault} → Framed text (Ok frame) → ReadsInside table text frame answer → ReadsProof answer
+    in_frame : {frame : Frame} {answer : Result Proof ProofFault} → Framed text (Ok frame) → ReadsInside scope.Proof table text frame answer → ReadsProof answer
 
   -- a text of lines alone is read whole
   abbrev pub ReadsLines : Result Proof ProofFault → Type 0
-  ReadsLines answer = ReadsInside table text (whole text) answer
+  ReadsLines answer = ReadsInside scope.Proof table text (whole text) answer
 
 -- the same of a text that isn't too long; a longer one is refused at its first byte, and want of memory is the one free answer
 module _ (Reads : Result Proof ProofFault → Type 0) (text : List ℕ) where
@@ -73,11 +75,11 @@ module _ (Reads : Result Proof ProofFault → Type 0) (text : List ℕ) where
   IsReadingBy (Err (Limit what.Bytes place)) = (max_proof < length text) × (place ≡ first_place)
   IsReadingBy answer = (length text ≤ max_proof) × Reads answer
 
-abbrev pub IsReadingInside : Table → List ℕ → Frame → Result Proof ProofFault → Type 0
-IsReadingInside table text frame answer = IsReadingBy (ReadsInside table text frame) text answer
+abbrev pub IsReadingInside : Scope → Table → List ℕ → Frame → Result Proof ProofFault → Type 0
+IsReadingInside which table text frame answer = IsReadingBy (ReadsInside which table text frame) text answer
 
 abbrev pub IsReading : Table → List ℕ → Result Proof ProofFault → Type 0
 IsReading table text answer = IsReadingBy (ReadsProof table text) text answer
 
 abbrev pub IsReadingOfLines : Table → List ℕ → Result Proof ProofFault → Type 0
-IsReadingOfLines table text answer = IsReadingInside table text (whole text) answer
+IsReadingOfLines table text answer = IsReadingInside scope.Proof table text (whole text) answer

@@ -1,8 +1,9 @@
 //! Lines while their proof is read: other lines are named by the numbers of tokens until all names are known.
 
 ghost use Rattle.std.specs.Prelude.{◌≡◌};
-ghost use Rattle.uc_tstp.specs.Drafts.{sort_of_draft};
+ghost use Rattle.uc_tstp.specs.Drafts.{sort_of_draft, belongs_draft};
 
+use crate::Scope;
 use uc_clause::Name;
 use uc_term::{Seq, Term};
 
@@ -33,6 +34,18 @@ pub(crate) enum SourceDraft {
     Refute {
         parents: Seq<usize>,
     },
+}
+
+impl SourceDraft {
+    /// Whether a line of this source may be one of these lines.
+    pub(crate) fn belongs(&self, which: Scope) -> bool
+        ensures { result ≡ belongs_draft which self.now }
+    {
+        match which {
+            Scope::Proof => true,
+            Scope::Derivation => !matches!(self, SourceDraft::Refute { .. }),
+        }
+    }
 }
 
 /// What a line says: an equation, or its denial where it isn't positive, or `$false`.

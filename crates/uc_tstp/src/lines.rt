@@ -10,6 +10,7 @@ ghost use Rattle.uc_tstp.specs.Parse.{Line};
 ghost use Rattle.uc_tstp.specs.Lines as rules;
 ghost use Rattle.uc_tstp.specs.Drafts.{ReadsLineAt, AreLines};
 
+use crate::Scope;
 use crate::bodies::body_at;
 use crate::drafts::LineDraft;
 use crate::names::Names;
@@ -100,12 +101,13 @@ pub(crate) fn lines_in(
     alloc: Global,
     bytes: &[u8],
     tokens: &[Token],
+    which: Scope,
     symbols: &mut Symbols,
 ) -> Result<(Names, Seq<LineDraft>), Stop>
     requires { AreTokens bytes.now tokens.now }
-    ensures reads { IfOk result (λ r. AreLines bytes.now tokens.now symbols.old symbols.new r.0 r.1) }
+    ensures reads { IfOk result (λ r. AreLines bytes.now tokens.now which symbols.old symbols.new r.0 r.1) }
     ensures few { IfOk result (λ r. length r.1 < 2 ^ 31) }
-    ensures stops { IfErr result (Stops (rules.LinesAt bytes.now tokens.now [] 0)) }
+    ensures stops { IfErr result (Stops (rules.LinesAt bytes.now tokens.now which [] 0)) }
     ensures grows { Grows symbols.old symbols.new }
 {
     let mut names = Names::new(alloc);
@@ -113,6 +115,9 @@ pub(crate) fn lines_in(
     let mut at = 0;
     'lines: while !stands_at(bytes, tokens, at, Terminal::End) {
         let (draft, end) = line_at(alloc, bytes, tokens, at, &names, symbols)?;
+        if !draft.source.belongs(which) {
+            return Err(Stop::At(Why::NoToken, at));
+        }
         names.insert(alloc, spelling_at(bytes, tokens, draft.name))?;
         drafts.push(draft)?;
         at = end;

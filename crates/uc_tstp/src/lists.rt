@@ -12,7 +12,7 @@ use uc_clause::{Stop, Terminal, Token, Why, stands_at, terminal_at};
 use uc_term::Seq;
 
 /// Whether a comma stands behind a member, and not the closing square bracket.
-pub(crate) fn has_next(bytes: &[u8], tokens: &[Token], at: usize) -> Result<bool, Stop>
+pub fn has_next(bytes: &[u8], tokens: &[Token], at: usize) -> Result<bool, Stop>
     ensures next { IfOk result (IsNext bytes.now tokens.now at) }
     ensures stops { IfErr result (NoNext bytes.now tokens.now at) }
 {
@@ -47,7 +47,7 @@ fn numbers(
 }
 
 /// Reads a path.
-pub(crate) fn path(
+pub fn path(
     alloc: Global,
     bytes: &[u8],
     tokens: &[Token],

@@ -1,13 +1,15 @@
 //! Printing a proof.
 
-ghost use Rattle.std.specs.Prelude.{◌≡◌, ◌<◌, ◌++◌, length, codes, decimal, Ok, IfOk, OnOk};
+ghost use Rattle.std.specs.Prelude.{ℕ, List, ◌≡◌, ◌<◌, ◌++◌, length, codes, decimal, Ok, IfOk, OnOk};
 ghost use Rattle.std.specs.List.{AllByRecursion};
 ghost use Rattle.uc_term.specs.Table.{IsOf};
 ghost use Rattle.uc_clause.specs.Names.{spelling, name_spelling};
 ghost use Rattle.uc_clause.specs.Printing.{term_text, role_text};
 ghost use Rattle.uc_tstp.specs.Printing.{border_text, proof_text, lines_text, line_text, body_text, source_text, inference_text, replacement_text, step_text, line_name, path_text, way_text, role_of, is_refutation, names_in, listed, further, AreNumbers, IsStepOf, IsSourceOf, IsLineOf, AreLinesOf};
-ghost use Rattle.uc_tstp.specs.Printable.{IsPrintableProof, AreInOrder, renumbered_proof};
-ghost use Rattle.uc_tstp.specs.Reading.{ReadsProof};
+ghost use Rattle.uc_tstp.specs.declared.scope.Scope.{Scope};
+ghost use Rattle.uc_tstp.specs.declared.framing.Frame.{Frame};
+ghost use Rattle.uc_tstp.specs.Printable.{IsPrintableProof, ArePrintable, AreInOrder, renumbered_proof};
+ghost use Rattle.uc_tstp.specs.Reading.{inside, ReadsInside, ReadsProof};
 
 use crate::bounds::see_bounds;
 use crate::framing::{END, START};
@@ -46,6 +48,29 @@ pub fn print_proof(
     write_border(&mut out, START, name)?;
     write_lines(alloc, &mut out, file_of, proof.lines.as_slice(), symbols)?;
     write_border(&mut out, END, name)?;
+    Ok(out)
+}
+
+/// The lines of a proof as a text, each on a line of its own, with no start or end line. `file_of` has one file name for each
+/// line, and each number of a line must be that of one of the lines.
+///
+/// Where these lines stand in a text, they are read again as the same lines, with the variables of each numbered by first
+/// occurrence, under the conditions of `print_proof` on lines; as those of a derivation, where none is a refutation.
+pub fn print_lines(
+    alloc: Global,
+    proof: &Proof,
+    file_of: &[Text],
+    symbols: &Symbols,
+) -> Result<Text, AllocError>
+    requires files { length file_of.now ≡ length proof.now.lines }
+    requires lines { AreLinesOf symbols.now proof.now.lines }
+    ensures text { IfOk result (λ text. text ≡ lines_text symbols.now (names_in proof.now.lines) file_of.now proof.now.lines) }
+    ensures read_again { (which : Scope) → ArePrintable symbols.now which file_of.now proof.now.lines → (text : List ℕ) (frame : Frame) → inside text frame ≡ lines_text symbols.now (names_in proof.now.lines) file_of.now proof.now.lines → ReadsInside which symbols.now text frame (Ok (renumbered_proof proof.now)) }
+    ensures read_back { (which : Scope) → ArePrintable symbols.now which file_of.now proof.now.lines → AreInOrder proof.now.lines → (text : List ℕ) (frame : Frame) → inside text frame ≡ lines_text symbols.now (names_in proof.now.lines) file_of.now proof.now.lines → ReadsInside which symbols.now text frame (Ok proof.now) }
+{
+    see_bounds(proof.lines.as_slice());
+    let mut out = Text::new(alloc);
+    write_lines(alloc, &mut out, file_of, proof.lines.as_slice(), symbols)?;
     Ok(out)
 }
 

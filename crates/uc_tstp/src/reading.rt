@@ -7,13 +7,14 @@ ghost use Rattle.uc_tstp.specs.Interning.{InternsInside, InternsProof};
 ghost use Rattle.uc_tstp.specs.Drafts.{AreLines};
 ghost use Rattle.uc_tstp.specs.Faults.{StandsIn, BeginsLine};
 ghost use Rattle.uc_tstp.specs.Reading.{inside, IsReadingInside, IsReadingOfLines, IsReading};
+ghost use Rattle.uc_tstp.specs.declared.scope.Scope.{Scope};
 
 use crate::drafts::LineDraft;
 use crate::lines::lines_in;
 use crate::names::Names;
 use crate::refusal::{line_fault, name_fault, token_fault};
 use crate::resolving::resolved;
-use crate::{Frame, MAX_PROOF, ProofFault, frame_of};
+use crate::{Frame, MAX_PROOF, ProofFault, Scope, frame_of};
 use std::alloc::Global;
 use uc_check::Proof;
 use uc_clause::{Place, Token, What, tokens};
@@ -36,7 +37,7 @@ pub fn read_proof(alloc: Global, bytes: &[u8], symbols: &mut Symbols) -> Result<
     ensures interns { IfOk result (λ _. InternsProof bytes.now symbols.old symbols.new) }
 {
     let frame = frame_of(bytes)?;
-    read_inside(alloc, bytes, frame, symbols)
+    read_inside(alloc, bytes, frame, Scope::Proof, symbols)
 }
 
 /// Reads the lines of a proof that are a whole text, with no start or end line.
@@ -56,25 +57,30 @@ pub fn read_lines(alloc: Global, bytes: &[u8], symbols: &mut Symbols) -> Result<
         from: 0,
         to: bytes.len(),
     };
-    read_inside(alloc, bytes, frame, symbols)
+    read_inside(alloc, bytes, frame, Scope::Proof, symbols)
 }
 
-// Reads the lines in the frame.
-fn read_inside(
+/// Reads the lines in a frame of a text of at most 268,435,456 bytes, which begins with a line of the text: those of a proof, or
+/// those of a derivation.
+///
+/// The refusals are those of `read_lines` behind the one of a long text, with their places in the whole text; the end of the
+/// frame counts as a last token. In a derivation a refutation is `Syntax` at its first token, behind what is wrong within it.
+pub fn read_inside(
     alloc: Global,
     bytes: &[u8],
     frame: Frame,
+    which: Scope,
     symbols: &mut Symbols,
 ) -> Result<Proof, ProofFault>
     requires frame { StandsIn bytes.now frame }
     requires begins { BeginsLine bytes.now frame }
-    ensures reading { IsReadingInside symbols.new bytes.now frame result }
+    ensures reading { IsReadingInside which symbols.new bytes.now frame result }
     ensures few { IfOk result (λ proof. length proof.lines < 2 ^ 31) }
     ensures grows { Grows symbols.old symbols.new }
-    ensures interns { IfOk result (λ _. InternsInside bytes.now frame symbols.old symbols.new) }
+    ensures interns { IfOk result (λ _. InternsInside which bytes.now frame symbols.old symbols.new) }
 {
     match tokens(alloc, &bytes[frame.from..frame.to]) {
-        Ok(list) => proof_in(alloc, bytes, frame, list.as_slice(), symbols),
+        Ok(list) => proof_in(alloc, bytes, frame, which, list.as_slice(), symbols),
         Err(fault) => Err(token_fault(bytes, frame, fault)),
     }
 }
@@ -84,17 +90,18 @@ fn proof_in(
     alloc: Global,
     bytes: &[u8],
     frame: Frame,
+    which: Scope,
     tokens: &[Token],
     symbols: &mut Symbols,
 ) -> Result<Proof, ProofFault>
     requires frame { StandsIn bytes.now frame }
     requires tokens { AreTokens (inside bytes.now frame) tokens.now }
-    ensures reading { IsReadingInside symbols.new bytes.now frame result }
+    ensures reading { IsReadingInside which symbols.new bytes.now frame result }
     ensures few { IfOk result (λ proof. length proof.lines < 2 ^ 31) }
     ensures grows { Grows symbols.old symbols.new }
-    ensures interns { IfOk result (λ _. InternsInside bytes.now frame symbols.old symbols.new) }
+    ensures interns { IfOk result (λ _. InternsInside which bytes.now frame symbols.old symbols.new) }
 {
-    match lines_in(alloc, &bytes[frame.from..frame.to], tokens, symbols) {
+    match lines_in(alloc, &bytes[frame.from..frame.to], tokens, which, symbols) {
         Ok((names, drafts)) => proof_of(alloc, bytes, frame, tokens, &names, drafts),
         Err(stop) => Err(line_fault(bytes, frame, tokens, stop)),
     }
@@ -111,7 +118,7 @@ fn proof_of(
 ) -> Result<Proof, ProofFault>
     requires frame { StandsIn bytes.now frame }
     requires tokens { AreTokens (inside bytes.now frame) tokens.now }
-    ensures reading { (old table : Table) → AreLines (inside bytes.now frame) tokens.now old table names.now drafts → IsReadingInside table bytes.now frame result }
+    ensures reading { (which : Scope) (old table : Table) → AreLines (inside bytes.now frame) tokens.now which old table names.now drafts → IsReadingInside which table bytes.now frame result }
     ensures few { IfOk result (λ proof. length proof.lines ≡ length drafts) }
 {
     match resolved(alloc, &bytes[frame.from..frame.to], tokens, names, drafts) {

@@ -32,12 +32,7 @@ fn picked<T: Drop>(value: Option<T>, at: usize) -> Result<(T, usize), Stop>
 }
 
 /// Reads this very token, and answers the number of the token behind it.
-pub(crate) fn expect(
-    bytes: &[u8],
-    tokens: &[Token],
-    at: usize,
-    terminal: Terminal,
-) -> Result<usize, Stop>
+pub fn expect(bytes: &[u8], tokens: &[Token], at: usize, terminal: Terminal) -> Result<usize, Stop>
     requires { terminal ≢ Terminal.End }
     ensures ok { IfOk result (λ end. lines.token bytes.now tokens.now terminal at (read tt end)) }
     ensures stops { IfErr result (Stops (lines.token bytes.now tokens.now terminal at)) }
@@ -114,7 +109,7 @@ pub(crate) fn is_word(bytes: &[u8], tokens: &[Token], at: usize, word: &[u8]) ->
 }
 
 /// Reads this very word, and answers the number of the token behind it.
-pub(crate) fn word(bytes: &[u8], tokens: &[Token], at: usize, word: &[u8]) -> Result<usize, Stop>
+pub fn word(bytes: &[u8], tokens: &[Token], at: usize, word: &[u8]) -> Result<usize, Stop>
     requires { AreTokens bytes.now tokens.now }
     ensures ok { IfOk result (λ end. lines.word bytes.now tokens.now word.now at (read tt end)) }
     ensures stops { IfErr result (Stops (lines.word bytes.now tokens.now word.now at)) }
@@ -194,7 +189,7 @@ fn way_by(terminal: Terminal, spelling: &[u8]) -> Option<bool>
 }
 
 /// Reads the way of a step: whether it is from left to right.
-pub(crate) fn way(bytes: &[u8], tokens: &[Token], at: usize) -> Result<(bool, usize), Stop>
+pub fn way(bytes: &[u8], tokens: &[Token], at: usize) -> Result<(bool, usize), Stop>
     requires { AreTokens bytes.now tokens.now }
     ensures ok { IfOk result (λ r. lines.way bytes.now tokens.now at (read r.0 r.1)) }
     ensures stops { IfErr result (Stops (lines.way bytes.now tokens.now at)) }

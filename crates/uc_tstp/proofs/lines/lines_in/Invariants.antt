@@ -5,7 +5,7 @@ use Rattle.uc_tstp.proofs.lines.lines_in.Given as goal
 
 abbrev pub invariant-lines : goal.invariant-lines
 invariant-lines l = record {
-  gathered : Gathered l.bytes l.tokens l.fn.symbols l.symbols l.names l.drafts l.at;
+  gathered : Gathered l.bytes l.tokens l.which l.fn.symbols l.symbols l.names l.drafts l.at;
   small : length l.names < 2 ^ 31;
   grows : Grows l.fn.symbols l.symbols;
 }

@@ -6,7 +6,7 @@ use Rattle.uc_tstp.proofs.InternedOnce.{whenever_read}
 use Rattle.uc_tstp.proofs.reading.proof_in.Goals as goal
 
 pub returns-in-Err-clause-reading : goal.returns-in-Err-clause-reading
-returns-in-Err-clause-reading c = subst (λ e. IsReadingInside c.lines_in.new.symbols c.args.bytes.now c.args.frame (Err e)) (sym c.line_fault.ensures) (line_fault_reading c.lines_in.new.symbols c.args.bytes.now c.args.frame c.requires.frame c.args.tokens.now c.requires.tokens c.in-Err.stop c.in-Err.ensures.stops)
+returns-in-Err-clause-reading c = subst (λ e. IsReadingInside c.args.which c.lines_in.new.symbols c.args.bytes.now c.args.frame (Err e)) (sym c.line_fault.ensures) (line_fault_reading c.args.which c.lines_in.new.symbols c.args.bytes.now c.args.frame c.requires.frame c.args.tokens.now c.requires.tokens c.in-Err.stop c.in-Err.ensures.stops)
 
 pub returns-in-Ok-clause-interns : goal.returns-in-Ok-clause-interns
 returns-in-Ok-clause-interns c =

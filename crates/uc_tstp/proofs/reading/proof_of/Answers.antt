@@ -6,10 +6,10 @@ use Rattle.uc_tstp.specs.Reading.{IsReadingInside}
 use Rattle.uc_tstp.proofs.reading.proof_of.Goals as goal
 
 pub returns-in-Ok-clause-reading : goal.returns-in-Ok-clause-reading
-returns-in-Ok-clause-reading c = λ old table lines. proof_reading table c.args.bytes.now c.args.frame c.requires.frame c.args.tokens.now c.requires.tokens c.args.names.now c.args.drafts old lines c.in-Ok.lines c.in-Ok.ensures.resolve
+returns-in-Ok-clause-reading c = λ which old table lines. proof_reading which table c.args.bytes.now c.args.frame c.requires.frame c.args.tokens.now c.requires.tokens c.args.names.now c.args.drafts old lines c.in-Ok.lines c.in-Ok.ensures.resolve
 
 pub returns-in-Ok-clause-few : goal.returns-in-Ok-clause-few
 returns-in-Ok-clause-few c = as_many_lines c.in-Ok.ensures.resolve
 
 pub returns-in-Err-clause-reading : goal.returns-in-Err-clause-reading
-returns-in-Err-clause-reading c = λ old table lines. subst (λ e. IsReadingInside table c.args.bytes.now c.args.frame (Err e)) (sym c.name_fault.ensures) (name_fault_reading table c.args.bytes.now c.args.frame c.requires.frame c.args.tokens.now c.requires.tokens c.args.names.now c.args.drafts old lines c.in-Err.unresolved c.in-Err.ensures.lacks)
+returns-in-Err-clause-reading c = λ which old table lines. subst (λ e. IsReadingInside which table c.args.bytes.now c.args.frame (Err e)) (sym c.name_fault.ensures) (name_fault_reading which table c.args.bytes.now c.args.frame c.requires.frame c.args.tokens.now c.requires.tokens c.args.names.now c.args.drafts old lines c.in-Err.unresolved c.in-Err.ensures.lacks)
