@@ -24,6 +24,7 @@ verb_name verb.Pairs = codes "pairs"
 verb_name verb.Gen = codes "gen"
 verb_name verb.Table = codes "table"
 verb_name verb.Model = codes "model"
+verb_name verb.Certify = codes "certify"
 
 abbrev pub key_name : Key → List ℕ
 key_name key.Root = codes "root"
@@ -38,14 +39,15 @@ key_name key.Steps = codes "steps"
 key_name key.Limit = codes "limit"
 key_name key.Size = codes "size"
 key_name key.Trace = codes "trace"
+key_name key.Certificate = codes "certificate"
 
 abbrev pub all_verbs : List Verb
-all_verbs = verb.Prove ∷ verb.Check ∷ verb.Decide ∷ verb.Show ∷ verb.Rewrite ∷ verb.Order ∷ verb.Pairs ∷ verb.Gen ∷ verb.Table ∷ verb.Model ∷ []
+all_verbs = verb.Prove ∷ verb.Check ∷ verb.Decide ∷ verb.Show ∷ verb.Rewrite ∷ verb.Order ∷ verb.Pairs ∷ verb.Gen ∷ verb.Table ∷ verb.Model ∷ verb.Certify ∷ []
 
 abbrev pub all_keys : List Key
-all_keys = key.Root ∷ key.Order ∷ key.Precedence ∷ key.Weights ∷ key.W0 ∷ key.Budget ∷ key.Pairs ∷ key.Workers ∷ key.Steps ∷ key.Limit ∷ key.Size ∷ key.Trace ∷ []
+all_keys = key.Root ∷ key.Order ∷ key.Precedence ∷ key.Weights ∷ key.W0 ∷ key.Budget ∷ key.Pairs ∷ key.Workers ∷ key.Steps ∷ key.Limit ∷ key.Size ∷ key.Trace ∷ key.Certificate ∷ []
 
--- an option takes one value, the flag none, and neither may stand twice
+-- an option takes one value, a flag none, and neither may stand twice
 abbrev pub action_for : Bool → ArgAction
 action_for flag = if flag then SetTrue else Set
 
@@ -80,7 +82,7 @@ with_command a v = with_subcommand a (command_app v).top
 abbrev pub application : App
 application = fold with_command bare_app all_verbs
 
--- an option in one word: `--name=value`, or `--name` for the flag
+-- an option in one word: `--name=value`, or `--name` for a flag
 abbrev pub value_part : Bool → List ℕ → List ℕ
 value_part true value = []
 value_part false value = 61 ∷ value

@@ -89,6 +89,7 @@ place key.Steps = 8
 place key.Limit = 9
 place key.Size = 10
 place key.Trace = 11
+place key.Certificate = 12
 
 abbrev pub same : Key → Key → Bool
 same a b = place a == place b

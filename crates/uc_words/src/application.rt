@@ -10,7 +10,7 @@ use crate::table::{Key, allows, is_flag};
 use clap::{Arg, ArgAction};
 use std::alloc::{AllocError, Global};
 
-const VERBS: [Verb; 10] = [
+const VERBS: [Verb; 11] = [
     Verb::Prove,
     Verb::Check,
     Verb::Decide,
@@ -21,9 +21,10 @@ const VERBS: [Verb; 10] = [
     Verb::Gen,
     Verb::Table,
     Verb::Model,
+    Verb::Certify,
 ];
 
-const KEYS: [Key; 12] = [
+const KEYS: [Key; 13] = [
     Key::Root,
     Key::Order,
     Key::Precedence,
@@ -36,6 +37,7 @@ const KEYS: [Key; 12] = [
     Key::Limit,
     Key::Size,
     Key::Trace,
+    Key::Certificate,
 ];
 
 /// The name of a command.
@@ -53,6 +55,7 @@ pub fn verb_name<'a>(verb: Verb) -> &'a str
         Verb::Gen => "gen",
         Verb::Table => "table",
         Verb::Model => "model",
+        Verb::Certify => "certify",
     }
 }
 
@@ -73,6 +76,7 @@ pub fn key_name<'a>(key: Key) -> &'a str
         Key::Limit => "limit",
         Key::Size => "size",
         Key::Trace => "trace",
+        Key::Certificate => "certificate",
     }
 }
 

@@ -6,12 +6,12 @@ ghost use Rattle.uc_words.specs.Application.{canonical_of, verb_name};
 ghost use Rattle.uc_words.specs.Lines.{Gives, Line, is_once, value, stands};
 ghost use Rattle.uc_words.specs.Names.{AreNames, AreWeights, Told};
 ghost use Rattle.uc_words.specs.Reads.{is_printable, is_clean, is_within, limited, order_named, is_alone, AreOptional, IsOrder, numbers_fit, is_fit, says, IsCommand, Reads};
-ghost use Rattle.uc_words.specs.Shown.{AreMatches, IsCanonical, IsFaultOf, IsFlag, IsMatch, StandFor, given_of, line_of, positionals_of};
+ghost use Rattle.uc_words.specs.Shown.{AreMatches, IsCanonical, AreFlags, IsFaultOf, IsMatch, StandFor, given_of, line_of, positionals_of};
 ghost use Rattle.uc_words.specs.Sorted.{GivesAs};
 ghost use Rattle.uc_words.specs.Table.{is_flag};
 ghost use Rattle.uc_words.specs.declared.command.Command.{Command};
 ghost use Rattle.uc_words.specs.declared.command.Verb.{Verb};
-ghost use Rattle.uc_words.specs.declared.table.Key.TheVariants.{Precedence, Weights, Trace};
+ghost use Rattle.uc_words.specs.declared.table.Key.TheVariants.{Precedence, Weights};
 
 use crate::application::{application, key_name, verb_name};
 use crate::digits::number;
@@ -106,12 +106,13 @@ fn stands(key: Key, found: &ArgMatches<'_>) -> bool
     value(key, found).is_some()
 }
 
-// Whether clap found the flag.
-fn is_traced(found: &ArgMatches<'_>) -> bool
-    requires { IsFlag found.now }
-    ensures { result ≡ stands Trace (given_of found.now) }
+// Whether clap found a flag.
+fn is_set(key: Key, found: &ArgMatches<'_>) -> bool
+    requires flags { AreFlags found.now }
+    requires flag { is_flag key ≡ true }
+    ensures { result ≡ stands key (given_of found.now) }
 {
-    found.get_flag(key_name(Key::Trace))
+    found.get_flag(key_name(key))
 }
 
 // Copies of words.
@@ -218,7 +219,7 @@ fn optional_text(alloc: Global, text: Option<&str>) -> Result<Option<Text>, Word
 
 // The command that clap's matches stand for.
 fn command(alloc: Global, verb: Verb, found: &ArgMatches<'_>) -> Result<Command, WordsFault>
-    requires { IsFlag found.now }
+    requires { AreFlags found.now }
     ensures { Told (IsCommand verb (line_of found.now)) result }
 {
     let positionals = positionals_of(alloc, found)?;
@@ -244,7 +245,8 @@ fn command(alloc: Global, verb: Verb, found: &ArgMatches<'_>) -> Result<Command,
         steps,
         limit,
         size,
-        trace: is_traced(found),
+        trace: is_set(Key::Trace, found),
+        certificate: is_set(Key::Certificate, found),
     })
 }
 
@@ -327,8 +329,8 @@ fn are_clean(words: &[String]) -> bool
 
 /// Reads the words after the program's name.
 ///
-/// The first word is the command. Items follow in any order: options as `--name value` or `--name=value`, the flag
-/// `--trace`, and positionals; after a word `--` all words are positionals. `Usage` comes exactly where the words have
+/// The first word is the command. Items follow in any order: options as `--name value` or `--name=value`, the flags
+/// `--trace` and `--certificate`, and positionals; after a word `--` all words are positionals. `Usage` comes exactly where the words have
 /// no reading: an item that the command doesn't have, an option that stands twice, a value that is missing, empty or not
 /// allowed, a value that is a word of its own and begins with a dash, too few or too many positionals, an empty one, or
 /// a word with a byte outside 32 to 126 or with 2^31 bytes or more.
