@@ -8,6 +8,8 @@ pub mod Precedence
 pub mod FactTexts
 pub mod FactsOnce
 pub mod SystemOnce
+pub mod Renamed
+pub mod AlikeTables
 pub mod Stays
 pub mod Spellings
 pub mod Decimals
@@ -29,5 +31,6 @@ pub mod FactsRead
 pub mod SymbolsRead
 pub mod SystemsPrintable
 pub mod Headers
+pub mod Interned
 pub mod Compared
 pub mod SymbolLines

@@ -49,12 +49,12 @@ some_or_none o a e f = cc
 
 module _ (table : Table) (header : Header) where
   -- the two read the same of a line
-  same_line : (text : List ℕ) (c d : Cut) (p q : Parts) → first_line text ≡ Some c → first_line text ≡ Some d → IsSymbolLine header.kind c.line p → IsSymbolLine header.kind d.line q → (c ≡ d) × (p ≡ q)
+  pub same_line : (text : List ℕ) (c d : Cut) (p q : Parts) → first_line text ≡ Some c → first_line text ≡ Some d → IsSymbolLine header.kind c.line p → IsSymbolLine header.kind d.line q → (c ≡ d) × (p ≡ q)
   same_line text c d p q e f i j =
       let cuts : c ≡ d = some_once c d (sym e ∙ f) in
       (cuts, parts_once header.kind d.line p q (subst (λ (x : Cut). IsSymbolLine header.kind x.line p) cuts i) j)
 
-  no_symbol_line : (text : List ℕ) (c d : Cut) (q : Parts) → first_line text ≡ Some c → first_line text ≡ Some d → ((p : Parts) → IsSymbolLine header.kind c.line p → ⊥) → IsSymbolLine header.kind d.line q → ⊥
+  pub no_symbol_line : (text : List ℕ) (c d : Cut) (q : Parts) → first_line text ≡ Some c → first_line text ≡ Some d → ((p : Parts) → IsSymbolLine header.kind c.line p → ⊥) → IsSymbolLine header.kind d.line q → ⊥
   no_symbol_line text c d q e f none j = none q (subst (λ (x : Cut). IsSymbolLine header.kind x.line q) (some_once d c (sym f ∙ e)) j)
 
   abbrev outcome_of : List Sym → ℕ → Cut → Parts → Bool → Sym → Outcome Ranked

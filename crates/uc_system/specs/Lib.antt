@@ -9,5 +9,6 @@ pub mod Printing
 pub mod Printable
 pub mod Places
 pub mod Written
-pub mod Reads
 pub mod Unread
+pub mod Interning
+pub mod Reads

@@ -106,6 +106,7 @@ fn fact_of(
     requires known { Each (IsPrintableSymbol symbols.old) known.now.keys }
     ensures reads { ReadsFact symbols.new known.now.keys text.now result }
     ensures grows { Grows symbols.old symbols.new }
+    ensures keeps { IfOk result (λ _. symbols.new ≡ symbols.old) }
 {
     match read_equation(alloc, text, symbols) {
         Ok((left, right)) => checked(alloc, text, left, right, known, symbols),
@@ -313,6 +314,7 @@ fn fact_in(
     requires known { Each (IsPrintableSymbol symbols.old) known.now.keys }
     ensures reads { ReadsFactLine symbols.new known.now.keys number line.now result }
     ensures grows { Grows symbols.old symbols.new }
+    ensures keeps { IfOk result (λ _. symbols.new ≡ symbols.old) }
 {
     let front = fact_front(alloc, number)?;
     let Some(text) = equation_in(front.as_bytes(), line) else {
@@ -349,6 +351,7 @@ pub(crate) fn facts_at(
     requires known { Each (IsPrintableSymbol symbols.old) known.now.keys }
     ensures reads { GivesIn (λ (table : Table). fact_lines table known.now.keys) symbols.new bytes.now at result }
     ensures grows { Grows symbols.old symbols.new }
+    ensures keeps { IfOk result (λ _. symbols.new ≡ symbols.old) }
 {
     let mut facts = Vec::new(alloc);
     let mut here = at;

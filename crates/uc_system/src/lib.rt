@@ -21,8 +21,9 @@ mod symbols;
 mod system;
 
 pub use fault::SystemFault;
-pub use laws::{one_system, system_stays};
+pub use laws::{one_refusal, one_system, one_table, system_stays};
+pub use lines::Cursor;
 pub use printing::print_system;
-pub use reading::read_system;
+pub use reading::{read_system, system_at};
 pub use system::SystemText;
 pub use uc_fact::System;

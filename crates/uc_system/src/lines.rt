@@ -11,9 +11,9 @@ use uc_clause::Place;
 
 /// Where reading stands in a text: at the first byte of the line of this number.
 #[derive(Clone, Copy, PartialEq, Eq, Debug)]
-pub(crate) struct Cursor {
-    pub(crate) from: usize,
-    pub(crate) number: u32,
+pub struct Cursor {
+    pub from: usize,
+    pub number: u32,
 }
 
 // How many bytes stand before the end of the line.

@@ -1,12 +1,13 @@
 //! Reading a system.
 
-ghost use Rattle.std.specs.Prelude.{◌≡◌, ◌<◌, ◌^◌, length, IfOk};
+ghost use Rattle.std.specs.Prelude.{◌≡◌, ◌<◌, ◌^◌, length, drop, IfOk};
 ghost use Rattle.uc_term.specs.Table.{Table, Grows};
 ghost use Rattle.uc_system.specs.Symbols.{weights_in};
 ghost use Rattle.uc_system.specs.Places.{IsAt};
 ghost use Rattle.uc_ordering.specs.Meaning.{meaning_of};
 ghost use Rattle.uc_system.specs.Reading.{IsReading, SaysSystem, IsSystem, precedence_of, system_lines, system_body, spec_of};
 ghost use Rattle.uc_system.specs.Reads.{GivesIn};
+ghost use Rattle.uc_system.specs.Interning.{InternsSymbols, InternsSystem};
 
 use crate::facts::facts_at;
 use crate::header::{Header, Kind, header_at};
@@ -39,7 +40,7 @@ use uc_term::{Seq, Symbols};
 /// `Version`, at the number. `Limit` stands at an arity over 255, and at the first byte of a term that passes 4,096 nodes
 /// before another token departs, where the line's tokens are spelled as they are printed and name symbols that have a line.
 ///
-/// Symbols are interned as they come; after a refusal the table may have grown, and only grown.
+/// The symbols' lines are interned in order, and the facts add no symbol; after a refusal the table may have grown, and only grown.
 pub fn read_system(
     alloc: Global,
     bytes: &[u8],
@@ -50,6 +51,7 @@ pub fn read_system(
     ensures says { IfOk result (λ said. SaysSystem symbols.new bytes.now (precedence_of said.spec) (meaning_of symbols.new said.spec) said.system.facts) }
     ensures system { IfOk result (IsSystem symbols.new) }
     ensures grows { Grows symbols.old symbols.new }
+    ensures interns { IfOk result (λ _. InternsSystem bytes.now symbols.old symbols.new) }
 {
     let start = Cursor { from: 0, number: 1 };
     let (text, end) = system_at(alloc, bytes, start, symbols)?;
@@ -59,8 +61,11 @@ pub fn read_system(
     Ok(text)
 }
 
-// Reads the lines of a system from here on.
-fn system_at(
+/// Reads the lines of a system from here on: the system, and where the line behind its last one begins. What stands there isn't
+/// looked at.
+///
+/// The refusals are those of `read_system`, with the number of the line that is asked for.
+pub fn system_at(
     alloc: Global,
     bytes: &[u8],
     at: Cursor,
@@ -70,6 +75,7 @@ fn system_at(
     requires at { IsAt bytes.now at }
     ensures reads { GivesIn system_lines symbols.new bytes.now at result }
     ensures grows { Grows symbols.old symbols.new }
+    ensures interns { IfOk result (λ _. InternsSystem (drop at.from bytes.now) symbols.old symbols.new) }
 {
     let (header, at) = header_at(bytes, at)?;
     body_at(alloc, bytes, header, at, symbols)
@@ -87,6 +93,7 @@ fn body_at(
     requires at { IsAt bytes.now at }
     ensures reads { GivesIn (λ (table : Table). system_body table header) symbols.new bytes.now at result }
     ensures grows { Grows symbols.old symbols.new }
+    ensures interns { IfOk result (λ _. InternsSymbols header.kind (drop at.from bytes.now) symbols.old symbols.new) }
 {
     let (ranks, at) = symbols_at(alloc, bytes, header, at, symbols)?;
     if let Some(fault) = symbols_fault(header, ranks.ranked.as_slice(), at.number, symbols) {

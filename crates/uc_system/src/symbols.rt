@@ -9,7 +9,8 @@ ghost use Rattle.uc_order.specs.Members.{Each};
 ghost use Rattle.uc_system.specs.Symbols.{begins_symbol, is_bad_weight, weighs_nothing, symbol_fault, symbols_fault, has_light, has_constant, symbols_in, is_one_of, IsFollowed, SymbolAt};
 ghost use Rattle.uc_system.specs.Places.{IsAt};
 ghost use Rattle.uc_system.specs.Written.{HasNoSpace, IsSplit, IsWritten, IsNotWritten, IsNamed, IsNotNamed, IsWordOf, kind_at, AreSame};
-ghost use Rattle.uc_system.specs.Reads.{GivesIn, ReadsSymbols};
+ghost use Rattle.uc_system.specs.Reads.{GivesIn, ReadsSymbols, InternsLine};
+ghost use Rattle.uc_system.specs.Interning.{InternsSymbols};
 
 use crate::SystemFault;
 use crate::header::{Header, Kind, MOST_WEIGHT};
@@ -242,6 +243,7 @@ fn symbol_at(
     ensures further { IfOk result (λ r. at.from < r.1.from) }
     ensures new { IfOk result (λ r. is_one_of r.0.symbol earlier.now.keys ≡ false) }
     ensures grows { Grows symbols.old symbols.new }
+    ensures interns { IfOk result (λ r. InternsLine header.kind (drop at.from bytes.now) (drop r.1.from bytes.now) symbols.old symbols.new) }
 {
     let Some((line, next)) = line_at(bytes, at) else {
         return Err(departs(at.number));
@@ -279,6 +281,7 @@ pub(crate) fn symbols_at(
     ensures reads { ReadsSymbols header symbols.new bytes.now at result }
     ensures known { IfOk result (λ r. AreSame r.0) }
     ensures grows { Grows symbols.old symbols.new }
+    ensures interns { IfOk result (λ _. InternsSymbols header.kind (drop at.from bytes.now) symbols.old symbols.new) }
 {
     let mut ranked = Vec::new(alloc);
     let mut known = IndexSet::new(alloc);

@@ -12,3 +12,6 @@ further-requires-clause-short c = short_unread c.fact_of.new.symbols c.args.know
 
 pub returns-clause-reads : goal.returns-clause-reads
 returns-clause-reads c = rw (c.further.ensures, c.len.ensures) (line_unread c.fact_of.new.symbols c.args.known.now.keys c.args.number c.args.line.now c.in_ok-front.front c.in-Some.text.now c.in_ok-front.ensures (rw c.as_bytes.ensures at c.in-Some.ensures) c.in-Err.unread c.in-Err.ensures.reads)
+
+pub returns-in-Ok-clause-keeps : goal.returns-in-Ok-clause-keeps
+returns-in-Ok-clause-keeps c = c.in-Ok.ensures.keeps

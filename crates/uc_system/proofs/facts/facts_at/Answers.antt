@@ -1,4 +1,4 @@
-use Rattle.std.proofs.Common.{◌+◌, [], ◌∷◌, length, length-append, sym, ap, arith}
+use Rattle.std.proofs.Common.{◌+◌, [], ◌∷◌, length, length-append, refl, sym, ◌∙◌, ap, arith}
 use Rattle.uc_clause.proofs.Tables.{grows_not, grows_twice}
 use Rattle.uc_system.specs.Facts.{end_line, is_no_whole_line}
 use Rattle.uc_system.proofs.Compared.{bytes_same, bytes_differ}
@@ -10,6 +10,7 @@ lines-init c = record {
   stands = c.requires.at;
   few = omega (arith, ap length c.new-facts.ensures.items);
   grows = grows_not c.args.symbols.now;
+  same = refl;
   known_ones = c.requires.known;
   leads = λ later g o h. rw c.new-facts.ensures.items at h;
 }
@@ -34,6 +35,10 @@ lines-preserved c = record {
   stands = c.in-Some.ensures.stands;
   few = omega (arith, ap length c.in_ok-push-in-Ok.ensures.items, length-append c.lines.facts.items (c.in-Ok.fact ∷ []), c.in-Some.ensures.further, c.lines.invariant.few);
   grows = grows_twice c.args.symbols.now c.lines.symbols c.fact_in.new.symbols c.lines.invariant.grows c.in-Ok.ensures.grows;
+  same = c.in-Ok.ensures.keeps ∙ c.lines.invariant.same;
   known_ones = known_later c.lines.symbols c.fact_in.new.symbols c.in-Ok.ensures.grows c.args.known.now.keys c.lines.invariant.known_ones;
   leads = λ later g o h. c.lines.invariant.leads later (grows_twice c.lines.symbols c.fact_in.new.symbols later c.in-Ok.ensures.grows g) o (one_more c.args.known.now.keys c.args.bytes.now c.lines.facts.items c.lines.here c.in-Some.next c.in-Some.line.now c.in-Some.ensures c.fact_in.new.symbols (c.len.result + 1) (omega (arith, c.len.ensures, c.lines.facts.ok.0)) c.in-Ok.fact c.in-Ok.ensures.reads later g o (rw c.in_ok-push-in-Ok.ensures.items at h));
 }
+
+pub returns-then-eq-clause-keeps : goal.returns-then-eq-clause-keeps
+returns-then-eq-clause-keeps c = c.lines.invariant.same

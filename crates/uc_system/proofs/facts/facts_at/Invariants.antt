@@ -1,4 +1,4 @@
-use Rattle.std.proofs.Common.{◌-◌, ◌≤◌, List, [], length, drop}
+use Rattle.std.proofs.Common.{◌≡◌, ◌-◌, ◌≤◌, List, [], length, drop}
 use Rattle.uc_term.specs.declared.equation.Equation.{Equation}
 use Rattle.uc_term.specs.Table.{Table, Grows}
 use Rattle.uc_clause.specs.Printable.{IsPrintableSymbol}
@@ -13,6 +13,7 @@ invariant-lines l = record {
   stands : IsAt l.bytes l.here;
   few : length l.facts.items ≤ l.here.from;
   grows : Grows l.initial.symbols l.symbols;
+  same : l.symbols ≡ l.initial.symbols;
   known_ones : Each (IsPrintableSymbol l.symbols) l.known.keys;
   leads : (later : Table) → Grows l.symbols later → (o : Outcome (List Equation)) → FactsAt later l.known.keys l.facts.items l.here.number (drop l.here.from l.bytes) o → FactsAt later l.known.keys [] l.fn.at.number (drop l.fn.at.from l.bytes) o;
 }

@@ -1,5 +1,6 @@
-use Rattle.std.proofs.Common.{sym, ◌∙◌}
+use Rattle.std.proofs.Common.{drop, sym, ◌∙◌, subst}
 use Rattle.std.proofs.lemmas.Result.{err_from_is_err_and}
+use Rattle.uc_system.specs.Interning.{InternsSymbols}
 use Rattle.uc_system.proofs.Readers.{symbols_fail, of_table, known_printable, incomplete, facts_fail, facts_give}
 use Rattle.uc_system.proofs.reading.body_at.Goals as goal
 
@@ -24,3 +25,6 @@ returns-in_err-facts-clause-reads c =
 
 pub returns-clause-reads : goal.returns-clause-reads
 returns-clause-reads c = facts_give c.args.header c.symbols_at.new.symbols c.args.bytes.now c.args.at c.in_ok-ranks.at c.in_ok-ranks.ranks c.in_ok-ranks.ensures.known c.in_ok-ranks.ensures.reads (rw c.as_slice.ensures.value at (sym c.symbols_fault.ensures ∙ c.in_default.is)) c.facts_at.new.symbols c.in_ok-facts.ensures.grows c.in_ok-facts.facts c.in_ok-facts.at c.in_ok-spec.spec c.in_ok-facts.ensures.reads (rw c.as_slice-2.ensures.value at c.in_ok-spec.ensures)
+
+pub returns-clause-interns : goal.returns-clause-interns
+returns-clause-interns c = subst (InternsSymbols c.args.header.kind (drop c.args.at.from c.args.bytes.now) c.args.symbols.now) (sym c.in_ok-facts.ensures.keeps) c.in_ok-ranks.ensures.interns

@@ -19,3 +19,6 @@ returns-clause-says c = says c.system_at.new.symbols c.args.bytes.now (record { 
 
 pub returns-clause-system : goal.returns-clause-system
 returns-clause-system c = is_system c.system_at.new.symbols c.args.bytes.now (record { from = 0; number = 1 }) refl refl c.in_ok-text.text c.in_ok-text.end c.in_ok-text.ensures.reads
+
+pub returns-clause-interns : goal.returns-clause-interns
+returns-clause-interns c = c.in_ok-text.ensures.interns

@@ -1,6 +1,7 @@
 use Rattle.std.proofs.Common.{arith}
 use Rattle.uc_term.proofs.Grown.{interned_grows}
 use Rattle.uc_system.proofs.SymbolLines.{no_line, no_symbol, no_name, near, wrong_is_so, too_many_arguments, symbol_wrong, symbol_right}
+use Rattle.uc_system.proofs.Interned.{line_interns}
 use Rattle.uc_system.proofs.symbols.symbol_at.Goals as goal
 
 pub returns-in_default-clause-reads : goal.returns-in_default-clause-reads
@@ -39,3 +40,6 @@ returns-clause-reads c =
 
 pub returns-clause-grows : goal.returns-clause-grows
 returns-clause-grows c = interned_grows c.args.symbols.now c.intern.new.self c.as_bytes.result.now c.in-Some-written_in.written.arity c.in_ok-symbol.symbol c.in_ok-symbol.ensures.interned
+
+pub returns-clause-interns : goal.returns-clause-interns
+returns-clause-interns c = line_interns c.args.header.kind c.args.symbols.now c.intern.new.self c.args.bytes.now c.args.at c.in-Some.next c.in-Some.line.now c.in-Some.ensures c.in-Some-written_in.written.spelled.now c.in-Some-written_in.written.arity c.in-Some-written_in.written.weight c.in-Some-written_in.ensures c.in-Some-2.name (rw c.in-Some-2.is at c.in_ok-name.ensures) c.if-arity-gt-MAX_ARITY.false c.in_ok-symbol.symbol (rw c.as_bytes.ensures at c.in_ok-symbol.ensures.interned)

@@ -4,6 +4,7 @@ use Rattle.uc_system.specs.declared.symbols.Ranked.{Ranked}
 use Rattle.uc_system.specs.Lines.{Outcome}
 use Rattle.uc_system.specs.Places.{IsAt}
 use Rattle.uc_system.specs.Symbols.{symbols_in, SymbolsAt}
+use Rattle.uc_system.specs.Interning.{InternsSymbols}
 use Rattle.uc_system.proofs.symbols.symbols_at.Given as goal
 
 abbrev pub invariant-lines : goal.invariant-lines
@@ -11,6 +12,7 @@ invariant-lines l = record {
   stands : IsAt l.bytes l.here;
   same : l.known.keys ≡ symbols_in l.ranked.items;
   grows : Grows l.initial.symbols l.symbols;
+  interns : (last : Table) → InternsSymbols l.header.kind (drop l.here.from l.bytes) l.symbols last → InternsSymbols l.header.kind (drop l.fn.at.from l.bytes) l.initial.symbols last;
   leads : (later : Table) → Grows l.symbols later → (o : Outcome (List Ranked)) → SymbolsAt later l.header l.ranked.items l.here.number (drop l.here.from l.bytes) o → SymbolsAt later l.header [] l.fn.at.number (drop l.fn.at.from l.bytes) o;
 }
 
