@@ -15,6 +15,7 @@ pub mod Canonical
 pub mod SearchOrder
 pub mod SearchVisits
 pub mod SearchRuns
+pub mod SearchReads
 pub mod SearchChains
 pub mod SearchSettling
 pub mod SearchFollowing

@@ -19,6 +19,7 @@ use Rattle.uc_table.specs.declared.search_size.Rules.{Rules}
 use Rattle.uc_table.specs.Tables.{cells_for, MOST_CELLS}
 use Rattle.uc_table.specs.SearchCells.{first_cell, IsRefuted}
 use Rattle.uc_table.specs.SearchSteps.{AreSteps, IsStep}
+use Rattle.uc_table.specs.SearchReads.{AreReadsOf}
 use Rattle.uc_table.specs.SearchForms.{AreFirsts, AreFormsOf, IsFormOf, step_of, steps_of, applied}
 use Rattle.uc_table.specs.SearchPrefixes.{IsOpen, IsVisited, AreFirst, AreAll}
 use Rattle.uc_table.specs.SearchState.{IsRefutedIn, EndsFound, EndsNone, EndsSpent}
@@ -28,7 +29,7 @@ use Rattle.uc_table.proofs.SearchLayouts.{first_within}
 use Rattle.uc_table.proofs.SearchRefuting.{to_forms, from_forms, find}
 use Rattle.uc_table.proofs.SearchMoved.{open_moved, visited_moved, all_moved, first_moved, open_back}
 
-steps_both : (size : ℕ) (xs ys : List Step) → AreSteps size xs → AreSteps size ys → AreSteps size (xs ++ ys)
+pub steps_both : (size : ℕ) (xs ys : List Step) → AreSteps size xs → AreSteps size ys → AreSteps size (xs ++ ys)
 steps_both size [] ys a b = b
 steps_both size (x ∷ xs) ys a b = (a.0, steps_both size xs ys a.1 b)
 
@@ -45,17 +46,17 @@ module _ (symbols : SymbolTable) (size : ℕ) (signature : List Sym) (some : 1 �
   step_fits (Var x) = one-le-pow x size some
   step_fits (App f n) = applied_fits f n (n == arity_of symbols f) refl (first_cell symbols size signature f) refl
 
-  steps_fit : (ns : List Node) → AreSteps size (steps_of symbols size signature ns)
+  pub steps_fit : (ns : List Node) → AreSteps size (steps_of symbols size signature ns)
   steps_fit [] = tt
   steps_fit (n ∷ ns) = steps_both size (steps_of symbols size signature ns) (step_of symbols size signature n ∷ []) (steps_fit ns) (step_fits n, tt)
 
-  pub form_steps : (clauses : List Sourced) (forms : List Form) → AreFormsOf symbols size signature clauses forms → (k : ℕ) (f : Form) → slice_get forms k ≡ Some f → AreSteps size f.steps.items
+  pub form_steps : (clauses : List Sourced) (forms : List Form) → AreFormsOf symbols size signature clauses forms → (k : ℕ) (f : Form) → slice_get forms k ≡ Some f → AreSteps size f.steps.items × AreReadsOf size f.steps.items f.reads
   form_steps clauses forms a k f g =
       let w : k < length forms = slice_get_within forms k f g in
       let m : length forms ≡ length clauses = a.as_many in
       let s = find symbols signature clauses size forms some a clauses k (omega arith) in
       let i : IsFormOf symbols size signature s.0.clause f = a.each k s.0 f s.1 g in
-      subst (AreSteps size) (sym i.steps) (steps_both size (steps_of symbols size signature (flat s.0.clause.right)) (steps_of symbols size signature (flat s.0.clause.left)) (steps_fit (flat s.0.clause.right)) (steps_fit (flat s.0.clause.left)))
+      (subst (AreSteps size) (sym i.steps) (steps_both size (steps_of symbols size signature (flat s.0.clause.left)) (steps_of symbols size signature (flat s.0.clause.right)) (steps_fit (flat s.0.clause.left)) (steps_fit (flat s.0.clause.right))), i.reads)
 
 pub all_cells : (symbols : SymbolTable) (size : ℕ) (signature : List Sym) (firsts : List ℕ) → AreFirsts symbols size signature firsts → get_or firsts (length signature) 0 ≡ cells_for symbols size signature
 all_cells symbols size signature firsts a = a.each (length signature) (omega arith) ∙ ap (cells_for symbols size) (whole signature)

@@ -127,15 +127,22 @@ enrolled_against size prefix forms number a form g l h =
     let same : form ≡ h.form = cc in
     record { number = number; assignment = a; form = h.form; form_is = h.form_is; small = subst (λ (z : Form). a < z.assignments) same l; against = h.against }
 
-pub more_settled : (size : ℕ) (prefix : List ℕ) (forms : List Form) (n : ℕ) (old new : List Entry) → AreFormsSettled size prefix forms 0 n old → Extends old new → AreFormsSettled size prefix forms n (n + 1) new → AreFormsSettled size prefix forms 0 (n + 1) new
-more_settled size prefix forms n old new s x t k a f l m g b = cases (cases_order k n)
+pub none_settled : (size : ℕ) (prefix : List ℕ) (forms : List Form) (n : ℕ) (entries : List Entry) → AreFormsSettled size prefix forms n n entries
+none_settled size prefix forms n entries k a f l m g b = absurd (omega arith)
+
+pub none_of : (forms : List Form) (entries : List Entry) → entries ≡ [] → AreOf forms entries
+none_of forms entries e i x g = let h : slice_get [] i ≡ Some x = subst (λ z. slice_get z i ≡ Some x) e g in cc
+
+-- the instances of one clause before the others
+pub more_settled : (size : ℕ) (prefix : List ℕ) (forms : List Form) (n from to : ℕ) (old new : List Entry) → from ≡ n + 1 → AreFormsSettled size prefix forms from to old → Extends old new → AreFormsSettled size prefix forms n (n + 1) new → AreFormsSettled size prefix forms n to new
+more_settled size prefix forms n from to old new e s x t k a f l m g b = cases (cases_order k n)
   where
     cases : (k ≡ n) ⊎ ((k < n) ⊎ (n < k)) → IsSettledBy size prefix f k a new
-    cases (inl z) = t k a f (omega arith) m g b
-    cases (inr (inl z)) = settled_extends size prefix f k a old new x (s k a f l z g b)
-    cases (inr (inr z)) = absurd (omega arith)
+    cases (inl z) = t k a f (omega arith) (omega arith) g b
+    cases (inr (inl z)) = absurd (omega arith)
+    cases (inr (inr z)) = settled_extends size prefix f k a old new x (s k a f (omega arith) m g b)
 
-pub settled_all : (size : ℕ) (prefix : List ℕ) (forms : List Form) (n : ℕ) (entries : List Entry) → AreFormsSettled size prefix forms 0 n entries → length forms ≤ n → AreSettled size prefix forms entries
+pub settled_all : (size : ℕ) (prefix : List ℕ) (forms : List Form) (n : ℕ) (entries : List Entry) → AreFormsSettled size prefix forms n (length forms) entries → n ≤ 0 → AreSettled size prefix forms entries
 settled_all size prefix forms n entries s l k a f g b =
     let w : k < length forms = slice_get_within forms k f g in
-    s k a f (omega arith) (omega arith) g b
+    s k a f (omega arith) w g b

@@ -160,5 +160,5 @@ module _ (rules : Rules) where
     levels = subst (λ z. AreLevels rules z s.marks.items (length z) s.waiting.entries.items) (sym p) h;
   }
 
-pub ready : (rules : Rules) (room n : ℕ) → 0 < rules.size → rules.cells ≤ MOST_CELLS → AreStepsOf rules → ((k : ℕ) (f : Form) → slice_get rules.forms.items k ≡ Some f → length f.steps.items ≤ n) → n ≡ room → IsReady room rules
-ready rules room n s l h r e = record { some = s; few = l; forms = λ k f g. record { steps = h k f g; short = subst (λ z. length f.steps.items ≤ z) e (r k f g) } }
+pub ready : (rules : Rules) (room n : ℕ) → 0 < rules.size → rules.cells ≤ MOST_CELLS → AreStepsOf rules → ((k : ℕ) (f : Form) → slice_get rules.forms.items k ≡ Some f → length f.steps.items + 2 ≤ n) → n ≡ room → IsReady room rules
+ready rules room n s l h r e = record { some = s; few = l; forms = λ k f g. record { steps = (h k f g).0; reads = (h k f g).1; short = subst (λ z. length f.steps.items + 2 ≤ z) e (r k f g) } }

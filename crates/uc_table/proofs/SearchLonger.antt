@@ -75,7 +75,7 @@ module _ (p q : List ℕ) where
     against = record {
       left = h.against.left;
       right = h.against.right;
-      ran_is = stops_stays (ran size p h.form h.assignment) (ran size (p ++ q) h.form h.assignment) (h.against.left ∷ h.against.right ∷ []) (stays_run size h.assignment h.form.steps.items []) h.against.ran_is;
+      ran_is = stops_stays (ran size p h.form h.assignment) (ran size (p ++ q) h.form h.assignment) (h.against.right ∷ h.against.left ∷ []) (stays_run size h.assignment h.form.steps.items []) h.against.ran_is;
       against = h.against.against;
     };
   }
@@ -88,11 +88,11 @@ settled_open size p forms es s h = (s h.number h.assignment h.form h.form_is h.s
 module _ (size : ℕ) (p : List ℕ) (v : ℕ) (forms : List Form) (old new : List Entry) (x : Extends old new) (below : AreSettledBelow size (p ++ v ∷ []) forms (length p) 0 old new) where
   settled_one : (k a : ℕ) (f : Form) → slice_get forms k ≡ Some f → IsSettledBy size p f k a old → (r t : Ran) → ran size p f a ≡ r → ran size (p ++ v ∷ []) f a ≡ t → Stays (length p) (length (p ++ v ∷ [])) r t → IsSettledBy size (p ++ v ∷ []) f k a new
   settled_one k a f g s (stops st) _ e d stopped = record {
-    not_against = λ h. (let i : ran size (p ++ v ∷ []) f a ≡ stops (h.left ∷ h.right ∷ []) = h.ran_is in s.not_against (record { left = h.left; right = h.right; ran_is = e ∙ sym d ∙ i; against = h.against }));
+    not_against = λ h. (let i : ran size (p ++ v ∷ []) f a ≡ stops (h.right ∷ h.left ∷ []) = h.ran_is in s.not_against (record { left = h.left; right = h.right; ran_is = e ∙ sym d ∙ i; against = h.against }));
     waiting = λ c h. cc;
   }
   settled_one k a f g s (waits c) _ e d (waited l) = record {
-    not_against = λ h. (let i : ran size (p ++ v ∷ []) f a ≡ stops (h.left ∷ h.right ∷ []) = h.ran_is in cc);
+    not_against = λ h. (let i : ran size (p ++ v ∷ []) f a ≡ stops (h.right ∷ h.left ∷ []) = h.ran_is in cc);
     waiting = λ b h. (let same : c ≡ b = one_cell c b d h in subst (λ z. Has new k a z) same (has_extends old new k a c x (s.waiting c e)));
   }
     where
@@ -111,7 +111,7 @@ module _ (size : ℕ) (p : List ℕ) (v : ℕ) (forms : List Form) (old new : Li
           let two : IsSettled size (p ++ v ∷ []) forms k a new = subst (λ u. IsSettled size (p ++ v ∷ []) forms k u new) z one in
           two f g
   settled_one k a f g s breaks _ e d broken = record {
-    not_against = λ h. (let i : ran size (p ++ v ∷ []) f a ≡ stops (h.left ∷ h.right ∷ []) = h.ran_is in cc);
+    not_against = λ h. (let i : ran size (p ++ v ∷ []) f a ≡ stops (h.right ∷ h.left ∷ []) = h.ran_is in cc);
     waiting = λ c h. cc;
   }
 

@@ -12,7 +12,7 @@ use Rattle.uc_table.specs.declared.answers.Searched.TheVariants.{Found, Absent, 
 use Rattle.uc_table.specs.Tables.{AreRows, MOST_CELLS}
 use Rattle.uc_table.specs.Checks.{HasTooMany}
 use Rattle.uc_table.specs.SearchCells.{IsRefuted}
-use Rattle.uc_table.specs.SearchPrefixes.{In}
+use Rattle.uc_order.specs.Members.{In}
 use Rattle.uc_table.specs.Searching.{Holds, cells_at, IsOpenAt, IsVisitedAt, AreAllAt, AreFirstAt, IsWithin, IsReached, is_first, is_next, Searches, is_found, has_too_many_cells, has_too_many_assignments, is_spent, is_absent}
 use Rattle.uc_table.proofs.SearchOrder.{order_of}
 use Rattle.uc_table.proofs.SearchVisits.{in_last}
@@ -101,7 +101,7 @@ module _ (symbols : SymbolTable) (signature : List Sym) (clauses : List Sourced)
     finds : (ps : List (List ℕ)) {t : List ℕ} {table : Table} → IsWithin symbols signature clauses m → AllAt m (ps ++ t ∷ []) → IsOpenAt symbols signature clauses m t → count + length (ps ++ t ∷ []) ≤ budget → Holds symbols signature m t table → Stops m count (Found table)
     has_cells : MOST_CELLS < cells_at symbols signature clauses m → Stops m count (Cells m)
     has_assignments : (k : ℕ) {s : Sourced} → cells_at symbols signature clauses m ≤ MOST_CELLS → slice_get clauses k ≡ Some s → HasTooMany m s → Stops m count (Assignments m)
-    spends : {ps : List (List ℕ)} {p : List ℕ} → IsWithin symbols signature clauses m → AreFirstAt symbols signature clauses m ps → count + length ps ≡ budget → IsVisitedAt symbols signature clauses m p → (In p ps → ⊥) → Stops m count (Spent budget)
+    spends : {ps : List (List ℕ)} {p : List ℕ} → IsWithin symbols signature clauses m → AreFirstAt symbols signature clauses m ps → count + length ps ≡ budget → IsVisitedAt symbols signature clauses m p → (In ps p → ⊥) → Stops m count (Spent budget)
 
   many_within : (m k : ℕ) (s : Sourced) → IsWithin symbols signature clauses m → slice_get clauses k ≡ Some s → HasTooMany m s → ⊥
   many_within m k s w is many = let few = w.assignments k s is in absurd (omega arith)
@@ -110,7 +110,7 @@ module _ (symbols : SymbolTable) (signature : List Sym) (clauses : List Sourced)
   cells_within m w many = let few : cells_at symbols signature clauses m ≤ MOST_CELLS = w.cells in absurd (omega arith)
 
   -- the budget isn't spent where all prefixes are visited within it
-  spent_within : (m count : ℕ) (ps qs : List (List ℕ)) (p : List ℕ) → AreFirstAt symbols signature clauses m ps → count + length ps ≡ budget → IsVisitedAt symbols signature clauses m p → (In p ps → ⊥) → AllAt m qs → count + length qs ≤ budget → ⊥
+  spent_within : (m count : ℕ) (ps qs : List (List ℕ)) (p : List ℕ) → AreFirstAt symbols signature clauses m ps → count + length ps ≡ budget → IsVisitedAt symbols signature clauses m p → (In ps p → ⊥) → AllAt m qs → count + length qs ≤ budget → ⊥
   spent_within m count ps qs p f e v further a few =
       let more : length ps + 1 ≤ length qs = all_more m (cells_at symbols signature clauses m) (IsRefuted symbols signature clauses m) ps qs p f v further a in
       absurd (omega arith)

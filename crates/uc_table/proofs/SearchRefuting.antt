@@ -52,7 +52,7 @@ module _ (symbols : SymbolTable) (signature : List Sym) (clauses : List Sourced)
           let same : (x : ℕ) → x < variable_count (equation_of h.clause.clause) → h.α x ≡ digit symbols size signature p (number_of size h.α (variable_count (equation_of h.clause.clause))) x = λ x l. sym (digit_is size h.α (variable_count (equation_of h.clause.clause)) x some h.assigns l) in
           let a = fixed_same (cell_in symbols size signature p) h.α (digit symbols size signature p (number_of size h.α (variable_count (equation_of h.clause.clause)))) (variable_count (equation_of h.clause.clause)) same h.clause.clause.left (omega arith) in
           let b = fixed_same (cell_in symbols size signature p) h.α (digit symbols size signature p (number_of size h.α (variable_count (equation_of h.clause.clause)))) (variable_count (equation_of h.clause.clause)) same h.clause.clause.right (omega arith) in
-          let r = both_run symbols size signature p (number_of size h.α (variable_count (equation_of h.clause.clause))) h.clause.clause.left h.clause.clause.right h.left h.right (sym a ∙ h.left_is) (sym b ∙ h.right_is) in
+          let r = both_run symbols size signature p (number_of size h.α (variable_count (equation_of h.clause.clause))) h.clause.clause.right h.clause.clause.left h.right h.left (sym b ∙ h.right_is) (sym a ∙ h.left_is) in
           record {
             number = h.number;
             assignment = number_of size h.α (variable_count (equation_of h.clause.clause));
@@ -76,7 +76,7 @@ module _ (symbols : SymbolTable) (signature : List Sym) (clauses : List Sourced)
     where
       made : (s : Sourced) → slice_get clauses h.number ≡ Some s → IsFormOf symbols size signature s.clause h.form → IsRefuted symbols signature clauses size p
       made s g i =
-          let r = run_both symbols size signature p h.assignment s.clause.left s.clause.right h.against.left h.against.right (ap (λ ss. run size h.assignment p ss []) (sym i.steps) ∙ h.against.ran_is) in
+          let r = run_both symbols size signature p h.assignment s.clause.right s.clause.left h.against.right h.against.left (ap (λ ss. run size h.assignment p ss []) (sym i.steps) ∙ h.against.ran_is) in
           record {
             number = h.number;
             clause = s;
@@ -85,7 +85,7 @@ module _ (symbols : SymbolTable) (signature : List Sym) (clauses : List Sourced)
             assigns = λ x. mod-lt (h.assignment / size ^ x) some;
             left = h.against.left;
             right = h.against.right;
-            left_is = r.0;
-            right_is = r.1;
+            left_is = r.1;
+            right_is = r.0;
             against = subst (λ b. AreAgainst b h.against.left h.against.right) i.positive h.against.against;
           }

@@ -47,7 +47,7 @@ module _ (size : ℕ) (prefix : List ℕ) (forms : List Form) (number a : ℕ) (
 
   pub settled_waits : (cell : ℕ) (old new : List Entry) → Waits size prefix form a cell → HasPushed number a cell old new → IsSettled size prefix forms number a new
   settled_waits cell old new h p = settled_as new (record {
-    not_against = λ g. (let r1 : ran size prefix form a ≡ stops (g.left ∷ g.right ∷ []) = g.ran_is in let r2 : ran size prefix form a ≡ waits cell = h.ran_is in cc);
+    not_against = λ g. (let r1 : ran size prefix form a ≡ stops (g.right ∷ g.left ∷ []) = g.ran_is in let r2 : ran size prefix form a ≡ waits cell = h.ran_is in cc);
     waiting = λ c w. record {
       place = length old;
       entry = record { form = number; assignment = a; cell = cell; below = p.below };

@@ -2,30 +2,31 @@
 use Rattle.std.proofs.Common.{◌≡◌, ℕ, ◌+◌, ◌≤◌, ◌<◌, List, [], ◌∷◌, ◌++◌, length, refl, ap, sym, ◌∙◌, arith, inl, inr, subst, append_assoc, length-append}
 use Rattle.std.specs.Prelude.{◌⊎◌}
 use Rattle.uc_table.specs.Tables.{AreValues}
-use Rattle.uc_table.specs.SearchPrefixes.{Before, front, In, here, there, AreOrdered, IsOpen, IsVisited, AreFirst, AreAll, IsSeen}
+use Rattle.uc_order.specs.Members.{In, in_front, in_rest}
+use Rattle.uc_table.specs.SearchPrefixes.{Before, front, AreOrdered, IsOpen, IsVisited, AreFirst, AreAll, IsSeen}
 use Rattle.uc_table.proofs.SearchOrder.{before_trans, before_irrefl, order_of, before_behind, before_more, before_next, next_after, before_first, below_append, below_behind, before_size, front_last, front_behind}
 
-pub in_append : (q : List ℕ) (ps rs : List (List ℕ)) → In q ps → In q (ps ++ rs)
-in_append q (p ∷ ps) rs here = here
-in_append q (p ∷ ps) rs (there i) = there (in_append q ps rs i)
+pub in_append : (q : List ℕ) (ps rs : List (List ℕ)) → In ps q → In (ps ++ rs) q
+in_append q (p ∷ ps) rs in_front = in_front
+in_append q (p ∷ ps) rs (in_rest i) = in_rest (in_append q ps rs i)
 in_append q [] rs i = elim i [ ]
 
-pub in_last : (q : List ℕ) (ps : List (List ℕ)) → In q (ps ++ q ∷ [])
-in_last q [] = here
-in_last q (p ∷ ps) = there (in_last q ps)
+pub in_last : (q : List ℕ) (ps : List (List ℕ)) → In (ps ++ q ∷ []) q
+in_last q [] = in_front
+in_last q (p ∷ ps) = in_rest (in_last q ps)
 
-in_one : (q p : List ℕ) → In q (p ∷ []) → q ≡ p
-in_one q p here = refl
-in_one q p (there i) = elim i [ ]
+in_one : (q p : List ℕ) → In (p ∷ []) q → q ≡ p
+in_one q p in_front = refl
+in_one q p (in_rest i) = elim i [ ]
 
-pub of_append : (q p : List ℕ) (ps : List (List ℕ)) → In q (ps ++ p ∷ []) → In q ps ⊎ (q ≡ p)
+pub of_append : (q p : List ℕ) (ps : List (List ℕ)) → In (ps ++ p ∷ []) q → In ps q ⊎ (q ≡ p)
 of_append q p [] i = inr (in_one q p i)
-of_append q p (r ∷ ps) here = inl here
-of_append q p (r ∷ ps) (there i) = elim (of_append q p ps i) [ inl j ↦ inl (there j) | inr e ↦ inr e ]
+of_append q p (r ∷ ps) in_front = inl in_front
+of_append q p (r ∷ ps) (in_rest i) = elim (of_append q p ps i) [ inl j ↦ inl (in_rest j) | inr e ↦ inr e ]
 
-pub ordered_append : (p : List ℕ) (ps : List (List ℕ)) → AreOrdered ps → ((q : List ℕ) → In q ps → Before q p) → AreOrdered (ps ++ p ∷ [])
+pub ordered_append : (p : List ℕ) (ps : List (List ℕ)) → AreOrdered ps → ((q : List ℕ) → In ps q → Before q p) → AreOrdered (ps ++ p ∷ [])
 ordered_append p [] o b = (λ q i. elim i [ ], tt)
-ordered_append p (r ∷ ps) o b = (λ q i. (elim (of_append q p ps i) [ inl j ↦ o.0 q j | inr e ↦ subst (λ z. Before r z) (sym e) (b r here) ]), ordered_append p ps o.1 (λ q i. b q (there i)))
+ordered_append p (r ∷ ps) o b = (λ q i. (elim (of_append q p ps i) [ inl j ↦ o.0 q j | inr e ↦ subst (λ z. Before r z) (sym e) (b r in_front) ]), ordered_append p ps o.1 (λ q i. b q (in_rest i)))
 
 pub behind : (p : List ℕ) (x : ℕ) (r : List ℕ) → p ++ x ∷ r ≡ (p ++ x ∷ []) ++ r
 behind p x r = sym (append_assoc p (x ∷ []) r)
@@ -68,10 +69,10 @@ module _ (size cells : ℕ) (Refuted : List ℕ → Type 0) (more : (p r : List 
     earlier = λ q r i v b. s.all r v (before_trans r q (p ++ next ∷ []) b (s.before q i));
   }
 
-  pub further : (p : List ℕ) (next : ℕ) (ps : List (List ℕ)) → IsSeen size cells Refuted p next ps → In (p ++ next ∷ []) ps → ⊥
+  pub further : (p : List ℕ) (next : ℕ) (ps : List (List ℕ)) → IsSeen size cells Refuted p next ps → In ps (p ++ next ∷ []) → ⊥
   further p next ps s i = before_irrefl (p ++ next ∷ []) (s.before (p ++ next ∷ []) i)
 
-  visited_more : (p : List ℕ) (next : ℕ) (ps : List (List ℕ)) → At p → IsSeen size cells Refuted p next ps → next < size → length p < cells → (q : List ℕ) → In q (ps ++ (p ++ next ∷ []) ∷ []) → IsVisited size cells Refuted q
+  visited_more : (p : List ℕ) (next : ℕ) (ps : List (List ℕ)) → At p → IsSeen size cells Refuted p next ps → next < size → length p < cells → (q : List ℕ) → In (ps ++ (p ++ next ∷ []) ∷ []) q → IsVisited size cells Refuted q
   visited_more p next ps a s l m q i = elim (of_append q (p ++ next ∷ []) ps i) [
     | inl j ↦ s.visited q j
     | inr e ↦ subst (IsVisited size cells Refuted) (sym e) (visits_next p next ps a s l m)
@@ -93,7 +94,7 @@ module _ (size cells : ℕ) (Refuted : List ℕ → Type 0) (more : (p r : List 
     ]);
     all = λ q v b. (elim (before_next p next q b) [
       | inl c ↦ in_append q ps ((p ++ next ∷ []) ∷ []) (s.all q v c)
-      | inr c ↦ subst (λ z. In z (ps ++ (p ++ next ∷ []) ∷ [])) (sym (ends_there p next q c.0 h v c.1)) (in_last (p ++ next ∷ []) ps)
+      | inr c ↦ subst (λ z. In (ps ++ (p ++ next ∷ []) ∷ []) z) (sym (ends_there p next q c.0 h v c.1)) (in_last (p ++ next ∷ []) ps)
     ]);
     none = λ t o b. (elim (before_next p next t b) [
       | inl c ↦ s.none t o c
@@ -112,7 +113,7 @@ module _ (size cells : ℕ) (Refuted : List ℕ → Type 0) (more : (p r : List 
     ]);
     all = λ q v b. (elim (before_first (p ++ next ∷ []) q b) [
       | inl c ↦ in_append q ps ((p ++ next ∷ []) ∷ []) (s.all q v c)
-      | inr e ↦ subst (λ z. In z (ps ++ (p ++ next ∷ []) ∷ [])) (sym e) (in_last (p ++ next ∷ []) ps)
+      | inr e ↦ subst (λ z. In (ps ++ (p ++ next ∷ []) ∷ []) z) (sym e) (in_last (p ++ next ∷ []) ps)
     ]);
     none = λ t o b. (elim (before_first (p ++ next ∷ []) t b) [
       | inl c ↦ s.none t o c
@@ -128,7 +129,7 @@ module _ (size cells : ℕ) (Refuted : List ℕ → Type 0) (more : (p r : List 
     all = λ q v. (elim (order_of q (p ++ next ∷ [])) [
       | inl c ↦ in_append q ps ((p ++ next ∷ []) ∷ []) (s.all q v c)
       | inr c ↦ (elim c [
-        | inl e ↦ subst (λ z. In z (ps ++ (p ++ next ∷ []) ∷ [])) (sym e) (in_last (p ++ next ∷ []) ps)
+        | inl e ↦ subst (λ z. In (ps ++ (p ++ next ∷ []) ∷ []) z) (sym e) (in_last (p ++ next ∷ []) ps)
         | inr b ↦ absurd (v.is_first (p ++ next ∷ []) (open_whole p next a l m h) b)
       ])
     ]);

@@ -13,6 +13,7 @@ pub mod SearchPrefixes
 pub mod SearchCells
 pub mod Searching
 pub mod SearchSteps
+pub mod SearchReads
 pub mod SearchWaiting
 pub mod SearchInstances
 pub mod SearchState

@@ -17,6 +17,7 @@ use Rattle.uc_table.specs.Tables.{MOST_CELLS, cells_for}
 use Rattle.uc_table.specs.Checks.{variable_count}
 use Rattle.uc_table.specs.Evaluating.{AreNumbers}
 use Rattle.uc_table.specs.SearchCells.{first_cell}
+use Rattle.uc_table.specs.SearchReads.{AreReadsOf}
 
 module _ (symbols : SymbolTable) (size : ℕ) (signature : List Sym) where
   -- for each number how many cells the symbols before it have
@@ -49,7 +50,8 @@ module _ (symbols : SymbolTable) (size : ℕ) (signature : List Sym) where
   steps_of (n ∷ ns) = steps_of ns ++ step_of n ∷ []
 
   pub record IsFormOf (c : Clause) (form : Form) : Type 0 where
-    pub steps : form.steps.items ≡ steps_of (flat c.right) ++ steps_of (flat c.left)
+    pub steps : form.steps.items ≡ steps_of (flat c.left) ++ steps_of (flat c.right)
+    pub reads : AreReadsOf size form.steps.items form.reads
     pub positive : form.positive ≡ c.positive
     pub assignments : form.assignments ≡ size ^ variable_count (equation_of c)
 

@@ -1,11 +1,12 @@
 -- Instances of clauses that are decided by a prefix, or wait at a cell.
-use Rattle.std.specs.Prelude.{ℕ, ◌≡◌, ◌<◌, ◌≤◌, List, [], ◌∷◌, ◌++◌, length, slice_get, Some}
+use Rattle.std.specs.Prelude.{ℕ, ◌≡◌, ◌+◌, ◌<◌, ◌≤◌, List, [], ◌∷◌, ◌++◌, length, slice_get, Some}
 use Rattle.uc_table.specs.declared.search_waiting.Entry.{Entry}
 use Rattle.uc_table.specs.declared.search_instances.Form.{Form}
 use Rattle.uc_table.specs.declared.search_instances.Decided.{Decided}
 use Rattle.uc_table.specs.declared.search_instances.Decided.TheVariants as decided
 use Rattle.uc_table.specs.Tables.{MOST_CELLS}
 use Rattle.uc_table.specs.SearchCells.{AreAgainst}
+use Rattle.uc_table.specs.SearchReads.{AreReadsOf}
 use Rattle.uc_table.specs.SearchSteps.{Ran, stops, waits, run, AreSteps}
 
 -- what the steps of a clause's sides come to
@@ -16,7 +17,7 @@ ran size prefix form assignment = run size assignment prefix form.steps.items []
 pub record IsAgainst (size : ℕ) (prefix : List ℕ) (form : Form) (assignment : ℕ) : Type 0 where
   pub left : ℕ
   pub right : ℕ
-  pub ran_is : ran size prefix form assignment ≡ stops (left ∷ right ∷ [])
+  pub ran_is : ran size prefix form assignment ≡ stops (right ∷ left ∷ [])
   pub against : AreAgainst form.positive left right
 
 -- not both sides have values, or these are not against the clause; and none waits
@@ -36,7 +37,8 @@ IsDecided size prefix form assignment (decided.Waits cell) = Waits size prefix f
 -- the steps can be run on a stack of so much room
 pub record IsForm (size room : ℕ) (form : Form) : Type 0 where
   pub steps : AreSteps size form.steps.items
-  pub short : length form.steps.items ≤ room
+  pub reads : AreReadsOf size form.steps.items form.reads
+  pub short : length form.steps.items + 2 ≤ room
 
 abbrev pub AreForms : ℕ → ℕ → List Form → Type 0
 AreForms size room forms = (k : ℕ) (f : Form) → slice_get forms k ≡ Some f → IsForm size room f

@@ -1,5 +1,6 @@
 -- Prefixes of the cells of a table in lexicographic order, and which of them a search visits.
 use Rattle.std.specs.Prelude.{ℕ, ◌<◌, ◌≤◌, ◌≡◌, ◌⊎◌, List, [], ◌∷◌, ◌++◌, length}
+use Rattle.uc_order.specs.Members.{In}
 use Rattle.uc_table.specs.Tables.{AreValues}
 
 -- p goes before q in lexicographic order, a proper prefix before what it begins
@@ -14,14 +15,10 @@ front [] = []
 front (v ∷ []) = []
 front (v ∷ w ∷ p) = v ∷ front (w ∷ p)
 
-pub data In (p : List ℕ) : List (List ℕ) → Type 0 where
-  here : {ps : List (List ℕ)} → In p (p ∷ ps)
-  there : {q : List ℕ} {ps : List (List ℕ)} → In p ps → In p (q ∷ ps)
-
 -- in lexicographic order, each once
 abbrev pub AreOrdered : List (List ℕ) → Type 0
 AreOrdered [] = Unit {0}
-AreOrdered (p ∷ ps) = ((q : List ℕ) → In q ps → Before p q) × AreOrdered ps
+AreOrdered (p ∷ ps) = ((q : List ℕ) → In ps q → Before p q) × AreOrdered ps
 
 -- The values are below the size, there are so many cells, and these prefixes are refuted.
 module _ (size cells : ℕ) (Refuted : List ℕ → Type 0) where
@@ -42,19 +39,19 @@ module _ (size cells : ℕ) (Refuted : List ℕ → Type 0) where
   -- these are the first of the visited prefixes, in order
   pub record AreFirst (ps : List (List ℕ)) : Type 0 where
     pub ordered : AreOrdered ps
-    pub visited : (p : List ℕ) → In p ps → IsVisited p
-    pub earlier : (p q : List ℕ) → In p ps → IsVisited q → Before q p → In q ps
+    pub visited : (p : List ℕ) → In ps p → IsVisited p
+    pub earlier : (p q : List ℕ) → In ps p → IsVisited q → Before q p → In ps q
 
   -- these are all visited prefixes, in order
   pub record AreAll (ps : List (List ℕ)) : Type 0 where
     pub ordered : AreOrdered ps
-    pub visited : (p : List ℕ) → In p ps → IsVisited p
-    pub all : (p : List ℕ) → IsVisited p → In p ps
+    pub visited : (p : List ℕ) → In ps p → IsVisited p
+    pub all : (p : List ℕ) → IsVisited p → In ps p
 
   -- all visited prefixes before this value at this open prefix are these, and no whole open table goes before it
   pub record IsSeen (p : List ℕ) (next : ℕ) (ps : List (List ℕ)) : Type 0 where
     pub ordered : AreOrdered ps
-    pub visited : (q : List ℕ) → In q ps → IsVisited q
-    pub before : (q : List ℕ) → In q ps → Before q (p ++ next ∷ [])
-    pub all : (q : List ℕ) → IsVisited q → Before q (p ++ next ∷ []) → In q ps
+    pub visited : (q : List ℕ) → In ps q → IsVisited q
+    pub before : (q : List ℕ) → In ps q → Before q (p ++ next ∷ [])
+    pub all : (q : List ℕ) → IsVisited q → Before q (p ++ next ∷ []) → In ps q
     pub none : (t : List ℕ) → IsOpen t → Before t (p ++ next ∷ []) → ⊥

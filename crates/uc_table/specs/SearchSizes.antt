@@ -8,7 +8,7 @@ use Rattle.uc_table.specs.declared.searching.OfSize.{OfSize}
 use Rattle.uc_table.specs.declared.searching.OfSize.TheVariants as of_size
 use Rattle.uc_table.specs.Tables.{MOST_CELLS}
 use Rattle.uc_table.specs.Checks.{HasTooMany}
-use Rattle.uc_table.specs.SearchPrefixes.{In}
+use Rattle.uc_order.specs.Members.{In}
 use Rattle.uc_table.specs.Searching.{Holds, cells_at, IsOpenAt, IsVisitedAt, AreAllAt, AreFirstAt, IsWithin}
 
 module _ (symbols : SymbolTable) (signature : List Sym) (clauses : List Sourced) (m budget : ℕ) where
@@ -36,7 +36,7 @@ module _ (symbols : SymbolTable) (signature : List Sym) (clauses : List Sourced)
     pub count_is : length ps ≡ budget
     pub p : List ℕ
     pub due : IsVisitedAt symbols signature clauses m p
-    pub further : In p ps → ⊥
+    pub further : In ps p → ⊥
 
   pub record TooManyAt : Type 0 where
     pub cells : cells_at symbols signature clauses m ≤ MOST_CELLS

@@ -1,6 +1,8 @@
 -- The state of a search at one size, and what the search of that size ends with.
 use Rattle.std.specs.Prelude.{ℕ, zero, suc, ◌≡◌, ◌+◌, ◌-◌, ◌<◌, ◌≤◌, List, [], ◌∷◌, ◌++◌, length, take, get_or, slice_get, Some}
+use Rattle.uc_order.specs.Members.{In}
 use Rattle.uc_table.specs.SearchSteps.{AreSteps}
+use Rattle.uc_table.specs.SearchReads.{AreReadsOf}
 use Rattle.uc_table.specs.declared.search_waiting.Entry.{Entry}
 use Rattle.uc_table.specs.declared.search_instances.Form.{Form}
 use Rattle.uc_table.specs.declared.search_size.Rules.{Rules}
@@ -8,7 +10,7 @@ use Rattle.uc_table.specs.declared.search_size.State.{State}
 use Rattle.uc_table.specs.declared.search_size.End.{End}
 use Rattle.uc_table.specs.declared.search_size.End.TheVariants as ends
 use Rattle.uc_table.specs.Tables.{AreValues, MOST_CELLS}
-use Rattle.uc_table.specs.SearchPrefixes.{In, IsOpen, IsVisited, AreFirst, AreAll, IsSeen}
+use Rattle.uc_table.specs.SearchPrefixes.{IsOpen, IsVisited, AreFirst, AreAll, IsSeen}
 use Rattle.uc_table.specs.SearchWaiting.{IsWell}
 use Rattle.uc_table.specs.SearchInstances.{AreForms, AreOf, AreSettled, IsRefutedBy}
 
@@ -93,13 +95,13 @@ module _ (rules : Rules) (budget : ℕ) where
     pub count_is : length ps ≡ budget
     pub p : List ℕ
     pub due : IsVisited rules.size rules.cells (IsRefutedIn rules) p
-    pub further : In p ps → ⊥
+    pub further : In ps p → ⊥
 
   abbrev pub Ends : List ℕ → End → Type 0
   Ends table (ends.Found count) = EndsFound table count
   Ends table (ends.None count) = EndsNone count
   Ends table ends.Spent = EndsSpent
 
--- the steps of each clause can be run
+-- the steps of each clause can be run, and its rows are theirs
 abbrev pub AreStepsOf : Rules → Type 0
-AreStepsOf rules = (k : ℕ) (f : Form) → slice_get rules.forms.items k ≡ Some f → AreSteps rules.size f.steps.items
+AreStepsOf rules = (k : ℕ) (f : Form) → slice_get rules.forms.items k ≡ Some f → AreSteps rules.size f.steps.items × AreReadsOf rules.size f.steps.items f.reads

@@ -53,6 +53,6 @@ IsTaken size top list ran taken.Never = ran ≡ breaks
 
 -- two values are left, a cell has no value yet, or neither
 abbrev pub IsOutcome : Ran → Outcome → Type 0
-IsOutcome ran (outcome.Sides left right) = ran ≡ stops (left ∷ right ∷ [])
+IsOutcome ran (outcome.Sides left right) = ran ≡ stops (right ∷ left ∷ [])
 IsOutcome ran (outcome.Waits cell) = (ran ≡ waits cell) × (cell < MOST_CELLS)
 IsOutcome ran outcome.Never = ((left right : ℕ) → ran ≡ stops (left ∷ right ∷ []) → ⊥) × ((cell : ℕ) → ran ≡ waits cell → ⊥)

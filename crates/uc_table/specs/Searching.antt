@@ -4,13 +4,14 @@ use Rattle.std.specs.List.{concat}
 use Rattle.uc_term.specs.declared.node.Sym.{Sym}
 use Rattle.uc_term.specs.Table.{Table as SymbolTable}
 use Rattle.uc_clause.specs.declared.clause.Sourced.{Sourced}
+use Rattle.uc_order.specs.Members.{In}
 use Rattle.uc_table.specs.declared.table.Table.{Table}
 use Rattle.uc_table.specs.declared.answers.Searched.{Searched}
 use Rattle.uc_table.specs.declared.answers.Searched.TheVariants.{Found, Absent, Spent, Cells, Assignments}
 use Rattle.uc_table.specs.Tables.{cells_for, AreRows, MOST_CELLS}
 use Rattle.uc_table.specs.Checks.{AreFewEnough, HasTooMany}
 use Rattle.uc_table.specs.SearchCells.{IsRefuted}
-use Rattle.uc_table.specs.SearchPrefixes.{In, IsOpen, IsVisited, AreFirst, AreAll}
+use Rattle.uc_table.specs.SearchPrefixes.{IsOpen, IsVisited, AreFirst, AreAll}
 
 -- the table has these cells in one row
 pub record Holds (symbols : SymbolTable) (signature : List Sym) (size : ℕ) (cells : List ℕ) (table : Table) : Type 0 where
@@ -55,5 +56,5 @@ module _ (symbols : SymbolTable) (signature : List Sym) (clauses : List Sourced)
       is_found : {m count : ℕ} (ps : List (List ℕ)) {t : List ℕ} {table : Table} → IsReached m count → m ≤ size → IsWithin m → AreAllAt m (ps ++ t ∷ []) → IsOpenAt m t → count + length (ps ++ t ∷ []) ≤ budget → Holds symbols signature m t table → Searches size (Found table)
       has_too_many_cells : {m count : ℕ} → IsReached m count → m ≤ size → MOST_CELLS < cells_at m → Searches size (Cells m)
       has_too_many_assignments : {m count : ℕ} (k : ℕ) {s : Sourced} → IsReached m count → m ≤ size → cells_at m ≤ MOST_CELLS → slice_get clauses k ≡ Some s → HasTooMany m s → Searches size (Assignments m)
-      is_spent : {m count : ℕ} {ps : List (List ℕ)} {p : List ℕ} → IsReached m count → m ≤ size → IsWithin m → AreFirstAt m ps → count + length ps ≡ budget → IsVisitedAt m p → (In p ps → ⊥) → Searches size (Spent budget)
+      is_spent : {m count : ℕ} {ps : List (List ℕ)} {p : List ℕ} → IsReached m count → m ≤ size → IsWithin m → AreFirstAt m ps → count + length ps ≡ budget → IsVisitedAt m p → (In ps p → ⊥) → Searches size (Spent budget)
       is_absent : {count : ℕ} → IsReached (size + 1) count → Searches size Absent

@@ -16,6 +16,7 @@ mod printing;
 mod reading;
 mod search_instances;
 mod search_layout;
+mod search_reads;
 mod search_size;
 mod search_steps;
 mod search_waiting;

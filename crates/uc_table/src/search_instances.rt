@@ -1,20 +1,23 @@
 //! Instances of clauses, evaluated as far as a prefix of the cells has values.
 
-ghost use Rattle.std.specs.Prelude.{◌≡◌, ℕ, ◌+◌, ◌<◌, ◌≤◌, ◌++◌, ◌∷◌, [], length, Some, true, false, IsTrue, IfOk, OnOk, MatchResult};
+ghost use Rattle.std.specs.Prelude.{◌≡◌, ℕ, ◌+◌, ◌<◌, ◌≤◌, ◌^◌, ◌++◌, ◌∷◌, [], length, Some, true, false, IsTrue, IfOk, OnOk, MatchResult};
 ghost use Rattle.std.specs.List.{slice_get};
 ghost use Rattle.uc_table.specs.Tables.{MOST_CELLS, AreValues};
-ghost use Rattle.uc_table.specs.SearchSteps.{AreSteps};
+ghost use Rattle.uc_table.specs.SearchSteps.{AreSteps, IsOutcome};
 ghost use Rattle.uc_table.specs.SearchWaiting.{IsWell};
-ghost use Rattle.uc_table.specs.SearchInstances.{IsDecided, IsForm, AreForms, AreOf, IsSettled, IsAgainstNow, AreSettled, AreSettledBelow, AreFormsSettled, IsRefutedBy, Extends};
+ghost use Rattle.uc_table.specs.SearchInstances.{ran, IsDecided, IsForm, AreForms, AreOf, IsSettled, IsAgainstNow, AreSettled, AreSettledBelow, AreFormsSettled, IsRefutedBy, Extends};
 
+use crate::search_reads::{Reads, read_row};
 use crate::search_steps::{Outcome, Step, run};
 use crate::search_waiting::Waiting;
 use std::alloc::AllocError;
 
-/// A clause: the steps that evaluate its sides, whether it is an axiom, and how many assignments it has.
+/// A clause: the steps that evaluate its sides, the rows of its first instances, whether it is an axiom, and how many assignments it
+/// has.
 #[derive(Drop)]
 pub(crate) struct Form {
     pub steps: Vec<Step>,
+    pub reads: Reads,
     pub positive: bool,
     pub assignments: u32,
 }
@@ -27,14 +30,32 @@ pub(crate) enum Decided {
     Waits(u32),
 }
 
+/// Evaluates both sides of an instance of a clause, by its row if that is kept.
+#[inline(always)]
+fn evaluate(form: &Form, size: u32, assignment: u32, prefix: &[u32], stack: &mut [u32]) -> Outcome
+    requires size { 0 < size }
+    requires form { IsForm size (length stack.old) form.now }
+    requires prefix { AreValues size prefix.now }
+    ensures { IsOutcome (ran size prefix.now form.now assignment) result }
+{
+    match form.reads.row(assignment) {
+        Some(row) => {
+            let places = &mut stack[..row.len()];
+            read_row(row, &form.reads.links, prefix, places)
+        }
+        None => run(&form.steps, size, assignment, prefix, stack),
+    }
+}
+
 /// Decides an instance of a clause.
+#[inline(always)]
 fn decide(form: &Form, size: u32, assignment: u32, prefix: &[u32], stack: &mut [u32]) -> Decided
     requires size { 0 < size }
     requires form { IsForm size (length stack.old) form.now }
     requires prefix { AreValues size prefix.now }
     ensures { IsDecided size prefix.now form.now assignment result }
 {
-    match run(&form.steps, size, assignment, prefix, stack) {
+    match evaluate(form, size, assignment, prefix, stack) {
         Outcome::Sides(left, right) => {
             if (left == right) == form.positive {
                 Decided::For
@@ -48,6 +69,7 @@ fn decide(form: &Form, size: u32, assignment: u32, prefix: &[u32], stack: &mut [
 }
 
 /// Decides an instance, or lets it wait. True comes exactly where it is decided against.
+#[inline(always)]
 fn settle(
     waiting: &mut Waiting,
     forms: &[Form],
@@ -121,6 +143,7 @@ pub(crate) fn follow(
 }
 
 /// Settles all instances of a clause before any cell has a value.
+#[inline(never)]
 fn enroll(
     waiting: &mut Waiting,
     forms: &[Form],
@@ -147,7 +170,8 @@ fn enroll(
     Ok(false)
 }
 
-/// Settles all instances of all clauses before any cell has a value.
+/// Settles all instances of all clauses before any cell has a value, those of the last clause first: so the first clause's are
+/// followed first.
 pub(crate) fn enroll_all(
     waiting: &mut Waiting,
     forms: &[Form],
@@ -155,7 +179,7 @@ pub(crate) fn enroll_all(
     stack: &mut [u32],
 ) -> Result<bool, AllocError>
     requires size { 0 < size }
-    requires few { length forms.now < 4294967296 }
+    requires few { length forms.now ≤ 2 ^ 32 }
     requires forms { AreForms size (length stack.old) forms.now }
     requires well { IsWell waiting.old }
     requires none { waiting.old.entries.items ≡ [] }
@@ -164,8 +188,10 @@ pub(crate) fn enroll_all(
     ensures against { IfOk result (λ a. a ≡ true → IsRefutedBy size [] forms.now) }
     ensures settled { IfOk result (λ a. a ≡ false → AreSettled size [] forms.now waiting.new.entries.items) }
 {
-    for number in 0..forms.len() as u32 {
-        if enroll(waiting, forms, size, stack, number)? {
+    let mut number = forms.len();
+    while number > 0 {
+        number -= 1;
+        if enroll(waiting, forms, size, stack, number as u32)? {
             return Ok(true);
         }
     }

@@ -14,6 +14,7 @@ use crate::checking::variable_count;
 use crate::evaluating::numbers_of;
 use crate::places::lists_of;
 use crate::search_instances::Form;
+use crate::search_reads::reads_of;
 use crate::search_steps::Step;
 use std::alloc::{AllocError, Global};
 use uc_clause::{Clause, Sourced};
@@ -142,7 +143,7 @@ impl Layout {
         Ok(())
     }
 
-    /// The form of a clause.
+    /// The form of a clause. Its left side is evaluated first.
     fn form_of(
         &self,
         alloc: Global,
@@ -155,12 +156,15 @@ impl Layout {
         ensures { IfOk result (IsFormOf symbols.now self.now.size signature.now clause.now) }
     {
         let mut steps = Vec::new(alloc);
-        self.add_steps(symbols, signature, clause.right.as_nodes(), &mut steps)?;
         self.add_steps(symbols, signature, clause.left.as_nodes(), &mut steps)?;
+        self.add_steps(symbols, signature, clause.right.as_nodes(), &mut steps)?;
+        let assignments = lists_of(self.size, variable_count(clause)).unwrap_or(0);
+        let reads = reads_of(alloc, &steps, self.size, assignments)?;
         Ok(Form {
             steps,
+            reads,
             positive: clause.positive,
-            assignments: lists_of(self.size, variable_count(clause)).unwrap_or(0),
+            assignments,
         })
     }
 

@@ -72,7 +72,8 @@ fn take_step(
     }
 }
 
-/// Evaluates the two sides of a clause, whose steps these are, the right side first.
+/// Evaluates the two sides of a clause, whose steps these are, the left side first.
+#[inline(never)]
 pub(crate) fn run(
     steps: &[Step],
     size: u32,
@@ -95,7 +96,7 @@ pub(crate) fn run(
         }
     }
     if stack.len() - top == 2 {
-        return Outcome::Sides(stack[top], stack[top + 1]);
+        return Outcome::Sides(stack[top + 1], stack[top]);
     }
     Outcome::Never
 }

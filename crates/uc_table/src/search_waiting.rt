@@ -38,6 +38,7 @@ impl Waiting {
     }
 
     /// Lets an instance wait at a cell.
+    #[inline(always)]
     pub(crate) fn wait(&mut self, form: u32, assignment: u32, cell: u32) -> Result<(), AllocError>
         requires well { IsWell self.old }
         requires cell { cell < MOST_CELLS }

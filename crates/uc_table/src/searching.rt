@@ -34,13 +34,13 @@ enum OfSize {
     Assignments,
 }
 
-/// The most steps that a form has.
+/// Room for the values of the steps of each form, and for each of its rows.
 fn room_of(forms: &[Form]) -> usize
-    ensures { (k : ℕ) (f : AnyForm) → slice_get forms.now k ≡ Some f → length f.steps.items ≤ result }
+    ensures { (k : ℕ) (f : AnyForm) → slice_get forms.now k ≡ Some f → length f.steps.items + 2 ≤ result }
 {
     let mut room = 0;
     for form in forms {
-        room = form.steps.len().max(room);
+        room = (form.steps.len() + 2).max(room);
     }
     room
 }
@@ -51,12 +51,9 @@ fn search_tables(alloc: Global, rules: &Rules, budget: u32) -> Result<(End, Vec<
     requires cells { 0 < rules.now.cells }
     requires few { rules.now.cells ≤ MOST_CELLS }
     requires steps { AreStepsOf rules.now }
+    requires forms { length rules.now.forms.items ≤ 2 ^ 32 }
     ensures { IfOk result (λ r. Ends rules.now budget r.1.items r.0) }
 {
-    // numbers of clauses have 32 bits
-    if rules.forms.len() > u32::MAX as usize {
-        return Err(AllocError);
-    }
     let mut room = vec![in alloc; 0; room_of(&rules.forms)]?;
     let stack = room.as_mut_slice();
     let mut waiting = Waiting::new(alloc)?;
@@ -192,10 +189,6 @@ pub fn search(
     let clauses = problem.clauses.as_slice();
     let signature = problem.signature.symbols.as_slice();
     see_few(clauses, problem.axioms.as_slice(), problem.goals.as_slice());
-    // numbers of symbols have 32 bits
-    if signature.len() > u32::MAX as usize {
-        return Err(AllocError);
-    }
     let mut visited = 0;
     let mut at = 1;
     while at <= size {

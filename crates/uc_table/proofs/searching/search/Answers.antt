@@ -10,6 +10,7 @@ use Rattle.uc_table.proofs.SearchRows.{some_symbol}
 use Rattle.uc_table.proofs.SearchWhole.{whole_found, whole_cells, whole_assignments, whole_spent, next_size, whole_absent}
 use Rattle.uc_table.specs.declared.answers.Searched.TheVariants.{Found, Absent}
 use Rattle.uc_table.proofs.Readiness.{problem_known}
+use Rattle.uc_table.proofs.Verdicts.{few_symbols}
 use Rattle.uc_table.proofs.SearchShows.{searches_show}
 use Rattle.uc_table.proofs.searching.search.Goals as goal
 
@@ -18,6 +19,9 @@ loop-at-init c = record { reached = is_first; few = omega arith; within = omega 
 
 pub search_size-requires-clause-has : goal.search_size-requires-clause-has
 search_size-requires-clause-has c = subst (λ (z : List Sym). HasAll c.args.symbols.now z) (sym c.as_slice-signature.ensures) (signature_has c.args.symbols.now c.args.problem.now c.requires.agrees)
+
+pub search_size-requires-clause-few : goal.search_size-requires-clause-few
+search_size-requires-clause-few c = subst (λ (z : List Sym). length z < 4294967296) (sym c.as_slice-signature.ensures) (few_symbols c.args.symbols.now c.args.problem.now c.requires.agrees)
 
 pub search_size-requires-clause-nonempty : goal.search_size-requires-clause-nonempty
 search_size-requires-clause-nonempty c =

@@ -38,6 +38,11 @@ search_tables-requires-clause-steps c i f g =
     let are : AreFormsOf sy c.args.size sg c.args.clauses.now c.in_ok-forms_of.field-0.items = subst (λ (z : ℕ). AreFormsOf sy z sg c.args.clauses.now c.in_ok-forms_of.field-0.items) lay.size_is c.in_ok-forms_of.ensures in
     form_steps sy c.args.size sg c.requires.some lay.few c.args.clauses.now c.in_ok-forms_of.field-0.items are i f g
 
+pub search_tables-requires-clause-forms : goal.search_tables-requires-clause-forms
+search_tables-requires-clause-forms c =
+    let n : length c.in_ok-forms_of.field-0.items ≡ length c.args.clauses.now = c.in_ok-forms_of.ensures.as_many in
+    omega (arith, c.requires.clauses)
+
 pub table_of-requires-clause-long : goal.table_of-requires-clause-long
 table_of-requires-clause-long c =
     let sy = c.args.symbols.now in

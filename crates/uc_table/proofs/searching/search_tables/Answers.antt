@@ -1,4 +1,4 @@
-use Rattle.std.proofs.Common.{◌≡◌, ◌≤◌, ◌∙◌, sym, subst, List, ℕ, [], length, rules}
+use Rattle.std.proofs.Common.{◌≡◌, ◌+◌, ◌≤◌, ◌∙◌, sym, subst, List, ℕ, [], length, rules}
 use Rattle.std.specs.Prelude.{slice_get, Some}
 use Rattle.uc_table.specs.declared.search_instances.Form.{Form}
 use Rattle.uc_table.specs.declared.search_size.State.{State}
@@ -12,7 +12,7 @@ enroll_all-requires-clause-forms c k f g =
     let n : length c.as_mut_slice-stack.result.now ≡ c.room_of.result = search rules in
     let g2 : slice_get c.args.rules.now.forms.items k ≡ Some f = subst (λ (z : List Form). slice_get z k ≡ Some f) c.deref-2.ensures.value g in
     let g3 : slice_get c.deref.result.now k ≡ Some f = subst (λ (z : List Form). slice_get z k ≡ Some f) (sym c.deref.ensures.value) g2 in
-    record { steps = c.requires.steps k f g2; short = subst (λ (z : ℕ). length f.steps.items ≤ z) (sym n) (c.room_of.ensures k f g3) }
+    record { steps = (c.requires.steps k f g2).0; reads = (c.requires.steps k f g2).1; short = subst (λ (z : ℕ). length f.steps.items + 2 ≤ z) (sym n) (c.room_of.ensures k f g3) }
 
 pub returns-then-branch : goal.returns-then-branch
 returns-then-branch c =
