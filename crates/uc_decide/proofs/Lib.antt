@@ -15,3 +15,5 @@ pub mod Pairs
 pub mod Derived
 pub mod Replies
 pub mod Verdicts
+pub mod Shares
+pub mod RightReplies

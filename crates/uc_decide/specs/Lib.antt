@@ -2,3 +2,4 @@ pub mod NormalForms
 pub mod Converging
 pub mod Deciding
 pub mod Asking
+pub mod AskingAll

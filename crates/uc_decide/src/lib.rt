@@ -3,10 +3,12 @@
 #![tactic(auto)]
 
 mod asking;
+mod asking_all;
 mod laws;
 mod reply;
 
 pub use asking::ask;
+pub use asking_all::ask_all;
 pub use laws::{
     critical_pairs, decides, ends_join, facts_follow, no_goal_follows, one_reply, one_verdict,
     pair_joins, reply_is_right,
