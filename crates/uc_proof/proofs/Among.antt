@@ -6,7 +6,7 @@ use Rattle.uc_problem.specs.declared.problem.Source.{Source}
 use Rattle.uc_proof.specs.declared.part.Part.{Part}
 use Rattle.uc_proof.specs.declared.part.Part.TheVariants as part
 use Rattle.uc_proof.specs.Parts.{part_of, axioms_where, facts_from, Selects, selects_none, selects, passes}
-use Rattle.uc_proof.specs.Making.{IsAmong, IsNamedPart}
+use Rattle.uc_proof.specs.Making.{IsAmong, IsNamedPart, IsFactPart}
 
 pub among_left : (p : Part) (xs ys : List Part) → IsAmong p xs → IsAmong p (xs ++ ys)
 among_left p [] ys h = absurd h
@@ -75,6 +75,13 @@ named_split steps i step p e = subst (λ (ss : List Step). IsNamedPart ss p ↔ 
 
 pub named_none : (steps : List Step) (i : ℕ) (p : Part) → drop i steps ≡ [] → IsNamedPart (drop i steps) p → ⊥
 named_none steps i p e h = subst (λ (ss : List Step). IsNamedPart ss p) e h
+
+-- the parts of facts
+pub fact_split : (live : List ℕ) (i n : ℕ) (p : Part) → drop i live ≡ n ∷ drop (i + 1) live → IsFactPart (drop i live) p ↔ ((part.Fact n ≡ p) ⊎ IsFactPart (drop (i + 1) live) p)
+fact_split live i n p e = subst (λ (ns : List ℕ). IsFactPart ns p ↔ ((part.Fact n ≡ p) ⊎ IsFactPart (drop (i + 1) live) p)) (sym e) itself
+
+pub fact_none : (live : List ℕ) (i : ℕ) (p : Part) → drop i live ≡ [] → IsFactPart (drop i live) p → ⊥
+fact_none live i p e h = subst (λ (ns : List ℕ). IsFactPart ns p) e h
 
 -- selected parts
 pub selected_among : (Is : Part → Type 0) (ps qs : List Part) (p : Part) → Selects Is ps qs → IsAmong p qs → IsAmong p ps × Is p

@@ -13,14 +13,13 @@ use Rattle.uc_check.specs.declared.proof.LineSource.{LineSource}
 use Rattle.uc_check.specs.declared.proof.LineSource.TheVariants.{File, Chain, Reflexive, EncodeGoal, Refute}
 use Rattle.uc_tstp.specs.Printable.{source_variables, line_variables, renumbered_step, renumbered_source, renumbered_line, CountUp, AreInOrder}
 use Rattle.uc_pair.proofs.Names.{place_new}
-use Rattle.uc_fact.specs.declared.chain.Chain.{Chain as Way}
 use Rattle.uc_fact.specs.declared.fact.Fact.{Fact}
 use Rattle.uc_problem.specs.declared.problem.Problem.{Problem}
 use Rattle.uc_problem.specs.declared.problem.Encoded.{Encoded}
+use Rattle.uc_proof.specs.declared.aim.Aim.{Aim}
 use Rattle.uc_proof.specs.declared.part.Part.{Part}
 use Rattle.uc_proof.specs.Written.{AreWritten}
-use Rattle.uc_proof.specs.Extracted.{IsExtracted}
-use Rattle.uc_proof.specs.Chains.{conclusion_of}
+use Rattle.uc_proof.specs.Extracted.{IsDerivation}
 use Rattle.uc_proof.proofs.Renumbered.{place_named, among_firsts, among_behind}
 
 -- names at different places are different
@@ -119,12 +118,12 @@ line_in_order line =
     let is : line_variables (renumbered_line line) ≡ map (place xs) xs = ap firsts all ∙ mapped_firsts xs [] ys tt (all_among xs ys (λ x e. among_firsts ys x e)) in
     subst (CountUp 0) (sym is) (counts [] [] ys (λ x. refl))
 
-module _ (problem : Problem) (enc : Encoded) (facts : List Fact) (conclusion : Way) (goal : ℕ) (plan : List Part) where
-  written_in_order : (k : ℕ) (ps : List Part) (lines : List Line) → AreWritten problem enc facts conclusion goal plan k ps lines → AreInOrder lines
+module _ (problem : Problem) (enc : Encoded) (facts : List Fact) (aimed : Aim) (plan : List Part) where
+  written_in_order : (k : ℕ) (ps : List Part) (lines : List Line) → AreWritten problem enc facts aimed plan k ps lines → AreInOrder lines
   written_in_order k [] [] w = tt
   written_in_order k [] (l ∷ ls) w = absurd w
   written_in_order k (p ∷ ps) [] w = absurd w
   written_in_order k (p ∷ ps) (l ∷ ls) w = (subst (λ (x : Line). CountUp 0 (line_variables x)) (sym w.0.line_is) (line_in_order w.0.said), written_in_order (k + 1) ps ls w.1)
 
-pub extracted_in_order : (problem : Problem) (enc : Encoded) (facts : List Fact) (left right : Way) (goal : ℕ) (lines : List Line) (files : List (List ℕ)) → IsExtracted problem enc facts left right goal lines files → AreInOrder lines
-extracted_in_order problem enc facts left right goal lines files x = written_in_order problem enc facts (conclusion_of left right) goal x.plan 0 x.plan lines x.written
+pub derivation_in_order : (problem : Problem) (enc : Encoded) (facts : List Fact) (aimed : Aim) (lines : List Line) (files : List (List ℕ)) → IsDerivation problem enc facts aimed lines files → AreInOrder lines
+derivation_in_order problem enc facts aimed lines files x = written_in_order problem enc facts aimed x.plan 0 x.plan lines x.written

@@ -1,5 +1,6 @@
 pub mod Reversal
 pub mod Renumbered
+pub mod FactLines
 pub mod Levels
 pub mod Sources
 pub mod Right

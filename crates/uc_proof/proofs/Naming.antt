@@ -35,7 +35,7 @@ place_low x (y ∷ ys) = go (x == y) (place_low x ys)
     go true l = omega arith
     go false l = omega (arith, l)
 
-place_front : (x : ℕ) (ks rest : List ℕ) → is_among x ks ≡ true → place_of (ks ++ rest) x ≡ place_of ks x
+pub place_front : (x : ℕ) (ks rest : List ℕ) → is_among x ks ≡ true → place_of (ks ++ rest) x ≡ place_of ks x
 place_front x [] rest e = absurd cc
 place_front x (y ∷ ys) rest e = go (x == y) e (place_front x ys rest)
   where

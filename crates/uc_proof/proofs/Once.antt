@@ -16,14 +16,15 @@ use Rattle.uc_problem.specs.declared.problem.Encoded.{Encoded}
 use Rattle.uc_problem.specs.declared.problem.Source.{Source}
 use Rattle.uc_problem.specs.declared.problem.Source.TheVariants as source
 use Rattle.uc_problem.specs.Holds.{numbers_of}
+use Rattle.uc_proof.specs.declared.aim.Aim.{Aim}
+use Rattle.uc_proof.specs.declared.aim.Aim.TheVariants as aim
 use Rattle.uc_proof.specs.declared.part.Part.{Part}
 use Rattle.uc_proof.specs.declared.part.Part.TheVariants as part
-use Rattle.uc_proof.specs.Chains.{conclusion_of}
 use Rattle.uc_proof.specs.Needed.{IsNeeded}
 use Rattle.uc_proof.specs.Files.{part_file}
 use Rattle.uc_proof.specs.Parts.{part_of, is_clause, is_encoding, axioms_where, facts_from, all_parts, Selects, selects_none, selects, passes}
 use Rattle.uc_proof.specs.Written.{line_name, clause_line, equation_line, refute_line, chain_source, IsStepFor, AreStepsFor, Says, says_clause, says_denial, says_reflexive, says_goal, says_fact, says_conclusion, refutes_denied, refutes_encoded, AreWritten}
-use Rattle.uc_proof.specs.Extracted.{IsEncodingOf, IsExtracted}
+use Rattle.uc_proof.specs.Extracted.{IsEncodingOf, IsDerivation}
 use Rattle.uc_proof.proofs.PathOnce.{path_once}
 
 plan_once : (Is : Part → Type 0) (ps qs rs : List Part) → Selects Is ps qs → Selects Is ps rs → qs ≡ rs
@@ -149,9 +150,9 @@ module _ (plan : List Part) (one : (i j : ℕ) (p : Part) → slice_get plan i �
   steps_once u (s ∷ ss) (v ∷ vs) [] a b = absurd b
   steps_once u (s ∷ ss) (v ∷ vs) (w ∷ ws) a b = ap₂ (λ x xs. x ∷ xs) (step_once u s v w a.0 b.0) (steps_once s.to ss vs ws a.1 b.1)
 
-  module _ (problem : Problem) (enc : Encoded) (facts : List Fact) (conclusion : Chain) (goal : ℕ) (name : List ℕ) where
+  module _ (problem : Problem) (enc : Encoded) (facts : List Fact) (aimed : Aim) (name : List ℕ) where
     abbrev Said : Part → Line → Type 0
-    Said p l = Says problem enc facts conclusion goal plan name p l
+    Said p l = Says problem enc facts aimed plan name p l
 
     said_once : (p : Part) (a b : Line) → Said p a → Said p b → a ≡ b
     said_once _ _ b (says_clause {k} {c} {s} at there) y = go b y
@@ -190,43 +191,51 @@ module _ (plan : List Part) (one : (i j : ℕ) (p : Part) → slice_get plan i �
             let q : fact ≡ fact' = let z : Some fact ≡ Some fact' = sym g ∙ g' in cc in
             let s : steps ≡ steps' = steps_once fact.chain.start fact.chain.steps steps steps' a (subst (λ (x : Fact). AreStepsFor plan x.chain.start x.chain.steps steps') (sym q) a') in
             ap₂ (λ (x : Fact) (y : List LineStep). equation_line name (chain_source x.chain.start y) (equation_of x)) q s
-    said_once _ _ b (says_conclusion {e} {steps} g a) y = go b y
+    said_once _ _ b (says_conclusion {chain = way} {goal} {e} {steps} is g a) y = go b y
       where
-        go : (b : Line) → Said part.Conclusion b → equation_line name (chain_source conclusion.start steps) e ≡ b
-        go _ (says_conclusion {e = e'} {steps = steps'} g' a') =
-            let q : e ≡ e' = let z : Some e ≡ Some e' = sym g ∙ g' in cc in
-            ap₂ (λ (x : Equation) (y : List LineStep). equation_line name (chain_source conclusion.start y) x) q (steps_once conclusion.start conclusion.steps steps steps' a a')
-    said_once _ _ b (refutes_denied {c} {denial} {chain} at d h) y = go b y
+        go : (b : Line) → Said part.Conclusion b → equation_line name (chain_source way.start steps) e ≡ b
+        go _ (says_conclusion {chain = way'} {goal = goal'} {e = e'} {steps = steps'} is' g' a') =
+            let z : aim.Goal way goal ≡ aim.Goal way' goal' = sym is ∙ is' in
+            let w : way ≡ way' = cc in
+            let m : goal ≡ goal' = cc in
+            let q : e ≡ e' = let z : Some e ≡ Some e' = sym g ∙ ap (slice_get enc.goals) m ∙ g' in cc in
+            let s : steps ≡ steps' = steps_once way.start way.steps steps steps' a (subst (λ (x : Chain). AreStepsFor plan x.start x.steps steps') (sym w) a') in
+            ap₂ (λ (x : Equation × Chain) (y : List LineStep). equation_line name (chain_source x.1.start y) x.0) (ap₂ (λ (x : Equation) (y : Chain). (x, y)) q w) s
+    said_once _ _ b (refutes_denied {chain = way} {goal} {c} {denial} {proved = chain} is at d h) y = go b y
       where
         go : (b : Line) → Said part.Refutation b → refute_line name (denial ∷ chain ∷ []) ≡ b
-        go _ (refutes_denied {c = c'} {denial = denial'} {chain = chain'} at' d' h') =
-            let n : c ≡ c' = let z : Some (Some c) ≡ Some (Some c') = sym at ∙ at' in cc in
+        go _ (refutes_denied {chain = way'} {goal = goal'} {c = c'} {denial = denial'} {proved = chain'} is' at' d' h') =
+            let k : goal ≡ goal' = let z : aim.Goal way goal ≡ aim.Goal way' goal' = sym is ∙ is' in cc in
+            let n : c ≡ c' = let z : Some (Some c) ≡ Some (Some c') = sym at ∙ ap (slice_get enc.goal_clauses) k ∙ at' in cc in
             let m : denial ≡ denial' = one denial denial' (part.Denial c) d (d' ∙ ap (λ x. Some (part.Denial x)) (sym n)) in
             ap₂ (λ x y. refute_line name (x ∷ y ∷ [])) m (one chain chain' part.Conclusion h h')
-        go _ (refutes_encoded at' h') = let z : Some (Some c) ≡ Some None = sym at ∙ at' in absurd cc
-    said_once _ _ b (refutes_encoded {chain} at h) y = go b y
+        go _ (refutes_encoded {chain = way'} {goal = goal'} is' at' h') =
+            let k : goal ≡ goal' = let z : aim.Goal way goal ≡ aim.Goal way' goal' = sym is ∙ is' in cc in
+            let z : Some (Some c) ≡ Some None = sym at ∙ ap (slice_get enc.goal_clauses) k ∙ at' in absurd cc
+    said_once _ _ b (refutes_encoded {chain = way} {goal} {proved = chain} is at h) y = go b y
       where
         go : (b : Line) → Said part.Refutation b → refute_line name (chain ∷ []) ≡ b
-        go _ (refutes_denied {c = c'} at' d' h') = let z : Some None ≡ Some (Some c') = sym at ∙ at' in absurd cc
-        go _ (refutes_encoded {chain = chain'} at' h') = ap (λ x. refute_line name (x ∷ [])) (one chain chain' part.Conclusion h h')
+        go _ (refutes_denied {chain = way'} {goal = goal'} {c = c'} is' at' d' h') =
+            let k : goal ≡ goal' = let z : aim.Goal way goal ≡ aim.Goal way' goal' = sym is ∙ is' in cc in
+            let z : Some None ≡ Some (Some c') = sym at ∙ ap (slice_get enc.goal_clauses) k ∙ at' in absurd cc
+        go _ (refutes_encoded {proved = chain'} is' at' h') = ap (λ x. refute_line name (x ∷ [])) (one chain chain' part.Conclusion h h')
 
-  module _ (problem : Problem) (enc : Encoded) (facts : List Fact) (conclusion : Chain) (goal : ℕ) where
-    lines_once : (k : ℕ) (ps : List Part) (xs ys : List Line) → AreWritten problem enc facts conclusion goal plan k ps xs → AreWritten problem enc facts conclusion goal plan k ps ys → xs ≡ ys
+  module _ (problem : Problem) (enc : Encoded) (facts : List Fact) (aimed : Aim) where
+    lines_once : (k : ℕ) (ps : List Part) (xs ys : List Line) → AreWritten problem enc facts aimed plan k ps xs → AreWritten problem enc facts aimed plan k ps ys → xs ≡ ys
     lines_once k [] [] [] a b = refl
     lines_once k [] [] (y ∷ ys) a b = absurd b
     lines_once k [] (x ∷ xs) ys a b = absurd a
     lines_once k (p ∷ ps) [] ys a b = absurd a
     lines_once k (p ∷ ps) (x ∷ xs) [] a b = absurd b
     lines_once k (p ∷ ps) (x ∷ xs) (y ∷ ys) a b =
-        ap₂ (λ z zs. z ∷ zs) (a.0.line_is ∙ ap renumbered_line (said_once problem enc facts conclusion goal (line_name k) p a.0.said b.0.said a.0.says b.0.says) ∙ sym b.0.line_is) (lines_once (k + 1) ps xs ys a.1 b.1)
+        ap₂ (λ z zs. z ∷ zs) (a.0.line_is ∙ ap renumbered_line (said_once problem enc facts aimed (line_name k) p a.0.said b.0.said a.0.says b.0.says) ∙ sym b.0.line_is) (lines_once (k + 1) ps xs ys a.1 b.1)
 
-pub extracted_once : (problem : Problem) (enc : Encoded) (facts : List Fact) (left right : Chain) (goal : ℕ) (xs ys : List Line) (fs gs : List (List ℕ)) → IsEncodingOf problem enc → IsExtracted problem enc facts left right goal xs fs → IsExtracted problem enc facts left right goal ys gs → (xs ≡ ys) × (fs ≡ gs)
-extracted_once problem enc facts left right goal xs ys fs gs is a b =
-    let conclusion = conclusion_of left right in
-    let plan : a.plan ≡ b.plan = plan_once (IsNeeded enc facts conclusion goal) (all_parts problem enc (length facts)) a.plan b.plan a.selected b.selected in
+pub derived_once : (problem : Problem) (enc : Encoded) (facts : List Fact) (aimed : Aim) (xs ys : List Line) (fs gs : List (List ℕ)) → IsEncodingOf problem enc → IsDerivation problem enc facts aimed xs fs → IsDerivation problem enc facts aimed ys gs → (xs ≡ ys) × (fs ≡ gs)
+derived_once problem enc facts aimed xs ys fs gs is a b =
+    let plan : a.plan ≡ b.plan = plan_once (IsNeeded enc facts aimed) (all_parts problem enc (length facts)) a.plan b.plan a.selected b.selected in
     let rise : Rises enc.sources (length problem.clauses) (length facts) 0 (all_parts problem enc (length facts)) =
     subst (λ (cs : List ℕ). Rises enc.sources (length problem.clauses) (length facts) 0 (axioms_where is_clause 0 enc.sources ++ (map part.Denial cs ++ (axioms_where is_encoding 0 enc.sources ++ (facts_from 0 (length facts) ++ part.Conclusion ∷ part.Refutation ∷ []))))) (sym is.agrees.goals) (parts_rise enc.sources problem.clauses (length facts)) in
-    let rises = selected_rise enc.sources (length problem.clauses) (length facts) (IsNeeded enc facts conclusion goal) 0 (all_parts problem enc (length facts)) a.plan a.selected rise in
+    let rises = selected_rise enc.sources (length problem.clauses) (length facts) (IsNeeded enc facts aimed) 0 (all_parts problem enc (length facts)) a.plan a.selected rise in
     let one : (i j : ℕ) (p : Part) → slice_get a.plan i ≡ Some p → slice_get a.plan j ≡ Some p → i ≡ j = λ i j p e f. once_at enc.sources (length problem.clauses) (length facts) 0 a.plan i j p rises e f in
-    let written : AreWritten problem enc facts conclusion goal a.plan 0 a.plan ys = subst (λ (ps : List Part). AreWritten problem enc facts conclusion goal ps 0 ps ys) (sym plan) b.written in
-    (lines_once a.plan one problem enc facts conclusion goal 0 a.plan xs ys a.written written, a.files_are ∙ ap (map (part_file problem enc)) plan ∙ sym b.files_are)
+    let written : AreWritten problem enc facts aimed a.plan 0 a.plan ys = subst (λ (ps : List Part). AreWritten problem enc facts aimed ps 0 ps ys) (sym plan) b.written in
+    (lines_once a.plan one problem enc facts aimed 0 a.plan xs ys a.written written, a.files_are ∙ ap (map (part_file problem enc)) plan ∙ sym b.files_are)

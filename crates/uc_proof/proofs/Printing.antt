@@ -25,14 +25,15 @@ use Rattle.uc_fact.specs.declared.chain.Chain.{Chain}
 use Rattle.uc_fact.specs.declared.fact.Fact.{Fact}
 use Rattle.uc_problem.specs.declared.problem.Problem.{Problem}
 use Rattle.uc_problem.specs.declared.problem.Encoded.{Encoded}
+use Rattle.uc_proof.specs.declared.aim.Aim.{Aim}
 use Rattle.uc_proof.specs.declared.part.Part.{Part}
 use Rattle.uc_proof.specs.declared.part.Part.TheVariants as part
 use Rattle.uc_fact.specs.Chains.{steps_back}
 use Rattle.uc_proof.specs.Chains.{conclusion_of}
 use Rattle.uc_proof.specs.Files.{clause_file, source_file, part_file}
 use Rattle.uc_proof.specs.Written.{line_name, clause_line, equation_line, AreStepsFor, Says, says_clause, says_denial, says_reflexive, says_goal, says_fact, says_conclusion, refutes_denied, refutes_encoded, AreWritten}
-use Rattle.uc_proof.specs.Printable.{IsPrintableChain, ArePrintable}
-use Rattle.uc_proof.specs.Extracted.{IsExtracted}
+use Rattle.uc_proof.specs.Printable.{IsPrintableChain, IsPrintableAim, ArePrintableParts}
+use Rattle.uc_proof.specs.Extracted.{IsDerivation}
 
 -- names
 same_number : (m n : ℕ) → m < 2 ^ 32 → n < 2 ^ 32 → line_name m ≡ line_name n → m ≡ n
@@ -109,7 +110,7 @@ module _ (table : Table) where
   all_back u [] h a = tt
   all_back u (s ∷ ss) h a = all_both (steps_back s.to ss) _ (all_back s.to ss a.0 a.1) (h, tt)
 
-  conclusion_printable : (left right : Chain) → IsPrintableChain table left → IsPrintableChain table right → IsPrintableChain table (conclusion_of left right)
+  pub conclusion_printable : (left right : Chain) → IsPrintableChain table left → IsPrintableChain table right → IsPrintableChain table (conclusion_of left right)
   conclusion_printable left right a b = (a.0, all_both left.steps (steps_back right.start right.steps) a.1 (all_back right.start right.steps b.0 b.1))
 
   steps_printable : (plan : List Part) (xs : List ℕ) (u : Tree) (steps : List Step) (ws : List LineStep) → IsPrintable table u → All steps → AreStepsFor plan u steps ws → AllByRecursion (IsPrintableStep table) (map (renumbered_step xs) ws)
@@ -124,11 +125,8 @@ module _ (table : Table) where
     steps_printable plan xs step.to steps ws a.0 a.1 s.1,
   )
 
-  module _ (problem : Problem) (enc : Encoded) (facts : List Fact) (left right : Chain) (goal : ℕ) (plan : List Part) (can : ArePrintable table problem enc facts left right) where
-    abbrev conclusion : Chain
-    conclusion = conclusion_of left right
-
-    line_printable : (name : List ℕ) (p : Part) (said : Line) → Says problem enc facts conclusion goal plan name p said → IsPrintableLine table (part_file problem enc p) (renumbered_line said)
+  module _ (problem : Problem) (enc : Encoded) (facts : List Fact) (aimed : Aim) (plan : List Part) (can : ArePrintableParts table problem enc facts) (chains : IsPrintableAim table aimed) where
+    line_printable : (name : List ℕ) (p : Part) (said : Line) → Says problem enc facts aimed plan name p said → IsPrintableLine table (part_file problem enc p) (renumbered_line said)
     line_printable name _ _ (says_clause {k} {c} {s} at there) =
         let said = clause_line name s.clause in
         let xs = line_variables said in
@@ -156,35 +154,35 @@ module _ (table : Table) where
           body = (refl, numbered xs fact.left sides.0, numbered xs fact.right sides.1);
           source = (numbered xs fact.chain.start chain.0, steps_printable plan xs fact.chain.start fact.chain.steps ws chain.0 chain.1 a);
         }
-    line_printable name _ said (says_conclusion {e} {steps = ws} g a) =
+    line_printable name _ said (says_conclusion {chain = conclusion} {goal} {e} {steps = ws} is g a) =
         let xs = line_variables said in
         let ok = can.goals goal e g in
-        let chain = conclusion_printable left right can.left_chain can.right_chain in
+        let chain = subst (IsPrintableAim table) is chains in
         record {
           body = (refl, numbered xs e.left ok.0, numbered xs e.right ok.1);
           source = (numbered xs conclusion.start chain.0, steps_printable plan xs conclusion.start conclusion.steps ws chain.0 chain.1 a);
         }
-    line_printable name _ _ (refutes_denied at d c) = record { body = (refl, refl, refl); source = tt }
-    line_printable name _ _ (refutes_encoded at c) = record { body = (refl, refl, refl); source = tt }
+    line_printable name _ _ (refutes_denied is at d c) = record { body = (refl, refl, refl); source = tt }
+    line_printable name _ _ (refutes_encoded is at c) = record { body = (refl, refl, refl); source = tt }
 
-    lines_printable : (k : ℕ) (ps : List Part) (lines : List Line) → AreWritten problem enc facts conclusion goal plan k ps lines → ArePrintableLines table (map (part_file problem enc) ps) lines
+    lines_printable : (k : ℕ) (ps : List Part) (lines : List Line) → AreWritten problem enc facts aimed plan k ps lines → ArePrintableLines table (map (part_file problem enc) ps) lines
     lines_printable k [] [] w = tt
     lines_printable k [] (l ∷ ls) w = absurd w
     lines_printable k (p ∷ ps) [] w = absurd w
     lines_printable k (p ∷ ps) (l ∷ ls) w = (subst (IsPrintableLine table (part_file problem enc p)) (sym w.0.line_is) (line_printable (line_name k) p w.0.said w.0.says), lines_printable (k + 1) ps ls w.1)
 
-module _ (problem : Problem) (enc : Encoded) (facts : List Fact) (conclusion : Chain) (goal : ℕ) (plan : List Part) where
-  said_name : (name : List ℕ) (p : Part) (said : Line) → Says problem enc facts conclusion goal plan name p said → said.name ≡ name
+module _ (problem : Problem) (enc : Encoded) (facts : List Fact) (aimed : Aim) (plan : List Part) where
+  said_name : (name : List ℕ) (p : Part) (said : Line) → Says problem enc facts aimed plan name p said → said.name ≡ name
   said_name name _ _ (says_clause at there) = refl
   said_name name _ _ (says_denial there) = refl
   said_name name _ _ (says_reflexive at h) = refl
   said_name name _ _ (says_goal at h d) = refl
   said_name name _ _ (says_fact g a) = refl
-  said_name name _ _ (says_conclusion g a) = refl
-  said_name name _ _ (refutes_denied at d c) = refl
-  said_name name _ _ (refutes_encoded at c) = refl
+  said_name name _ _ (says_conclusion is g a) = refl
+  said_name name _ _ (refutes_denied is at d c) = refl
+  said_name name _ _ (refutes_encoded is at c) = refl
 
-  line_names : (k : ℕ) (ps : List Part) (lines : List Line) → AreWritten problem enc facts conclusion goal plan k ps lines → k + length ps < 2 ^ 32 → AreLineNames (names_below k) (names_in lines)
+  line_names : (k : ℕ) (ps : List Part) (lines : List Line) → AreWritten problem enc facts aimed plan k ps lines → k + length ps < 2 ^ 32 → AreLineNames (names_below k) (names_in lines)
   line_names k [] [] w h = tt
   line_names k [] (l ∷ ls) w h = absurd w
   line_names k (p ∷ ps) [] w h = absurd w
@@ -193,9 +191,9 @@ module _ (problem : Problem) (enc : Encoded) (facts : List Fact) (conclusion : C
       let below : names_below (k + 1) ≡ l.name ∷ names_below k = (let q : k + 1 ≡ suc k = omega arith in ap names_below q) ∙ ap (λ n. n ∷ names_below k) name in
       (subst (λ (n : List ℕ). is_name n ≡ true) name (number_words k (omega arith)), subst (λ (n : List ℕ). list_any (bytes_eq n) (names_below k) ≡ false) name (new_name k k (omega arith) (omega arith)), subst (λ (ns : List (List ℕ)). AreLineNames ns (names_in ls)) below (line_names (k + 1) ps ls w.1 (omega arith)))
 
-pub printable_lines : (table : Table) (problem : Problem) (enc : Encoded) (facts : List Fact) (left right : Chain) (goal : ℕ) (lines : List Line) (files : List (List ℕ)) → IsExtracted problem enc facts left right goal lines files → ArePrintable table problem enc facts left right → ArePrintableLines table files lines
-printable_lines table problem enc facts left right goal lines files x can =
-    subst (λ (fs : List (List ℕ)). ArePrintableLines table fs lines) (sym x.files_are) (lines_printable table problem enc facts left right goal x.plan can 0 x.plan lines x.written)
+pub printable_lines : (table : Table) (problem : Problem) (enc : Encoded) (facts : List Fact) (aimed : Aim) (lines : List Line) (files : List (List ℕ)) → IsDerivation problem enc facts aimed lines files → ArePrintableParts table problem enc facts → IsPrintableAim table aimed → ArePrintableLines table files lines
+printable_lines table problem enc facts aimed lines files x can chains =
+    subst (λ (fs : List (List ℕ)). ArePrintableLines table fs lines) (sym x.files_are) (lines_printable table problem enc facts aimed x.plan can chains 0 x.plan lines x.written)
 
-pub names_of_lines : (problem : Problem) (enc : Encoded) (facts : List Fact) (left right : Chain) (goal : ℕ) (lines : List Line) (files : List (List ℕ)) (x : IsExtracted problem enc facts left right goal lines files) → length x.plan < 2 ^ 32 → AreLineNames [] (names_in lines)
-names_of_lines problem enc facts left right goal lines files x few = line_names problem enc facts (conclusion_of left right) goal x.plan 0 x.plan lines x.written (omega arith)
+pub names_of_lines : (problem : Problem) (enc : Encoded) (facts : List Fact) (aimed : Aim) (lines : List Line) (files : List (List ℕ)) (x : IsDerivation problem enc facts aimed lines files) → length x.plan < 2 ^ 32 → AreLineNames [] (names_in lines)
+names_of_lines problem enc facts aimed lines files x few = line_names problem enc facts aimed x.plan 0 x.plan lines x.written (omega arith)

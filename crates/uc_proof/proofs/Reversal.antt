@@ -11,7 +11,10 @@ use Rattle.uc_fact.specs.declared.fact.Fact.{Fact}
 use Rattle.uc_fact.specs.Chains.{last_term, ReplacesAt, step_back, steps_back}
 use Rattle.uc_rewrite.specs.Replay.{replaced_side, IsReplacement, AreReplacements, LeadsFrom}
 use Rattle.uc_pair.proofs.Replacing.{put_here, put_later, where_is}
-use Rattle.uc_proof.specs.Chains.{conclusion_of}
+use Rattle.uc_problem.specs.declared.problem.Encoded.{Encoded}
+use Rattle.uc_proof.specs.declared.aim.Aim.TheVariants as aim
+use Rattle.uc_proof.specs.Chains.{conclusion_of, ProvesGoal}
+use Rattle.uc_proof.specs.Making.{IsReached}
 
 first : (w d : Tree) → get_or (subterms w) 0 d ≡ w
 first (var x) d = refl
@@ -132,3 +135,7 @@ module _ (axioms : List Equation) (facts : List Fact) where
         end_is = last_of_both left.start left.steps (steps_back right.start right.steps) ∙ ap (λ t. last_term t (steps_back right.start right.steps)) (sym meet) ∙ back_ends right.start right.steps ∙ b.start_is;
         replays = both left.start left.steps (steps_back right.start right.steps) a.replays (subst (λ (t : Tree). AreReplacements axioms facts t (steps_back right.start right.steps)) meet (all_back right.start right.steps b.replays));
       }
+
+-- what proves a goal reaches it
+pub goal_reached : (enc : Encoded) (facts : List Fact) (left right : Chain) (goal : ℕ) → ProvesGoal enc facts goal left right → IsReached enc facts (aim.Goal (conclusion_of left right) goal)
+goal_reached enc facts left right goal p = (p.equation, p.equation_is, conclusion_leads enc.axioms facts left right p.equation.left p.equation.right p.meeting p.left_leads p.right_leads)

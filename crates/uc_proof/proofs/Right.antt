@@ -34,17 +34,18 @@ use Rattle.uc_problem.specs.declared.problem.Source.{Source}
 use Rattle.uc_problem.specs.declared.problem.Source.TheVariants as source
 use Rattle.uc_problem.specs.Marks.{is_open_goal}
 use Rattle.uc_pair.proofs.Replacing.{at_position-apply, apply-put_position}
+use Rattle.uc_proof.specs.declared.aim.Aim.{Aim}
+use Rattle.uc_proof.specs.declared.aim.Aim.TheVariants as aim
 use Rattle.uc_proof.specs.declared.part.Part.{Part}
 use Rattle.uc_proof.specs.declared.part.Part.TheVariants as part
-use Rattle.uc_proof.specs.Chains.{conclusion_of, ProvesGoal}
-use Rattle.uc_proof.specs.Needed.{IsNeeded}
+use Rattle.uc_proof.specs.Needed.{IsGoal, IsNeeded}
 use Rattle.uc_proof.specs.Parts.{part_of, all_parts, axioms_where, facts_from, is_clause, is_encoding, Selects, selects_none, selects, passes}
 use Rattle.uc_proof.specs.Written.{line_name, clause_line, equation_line, refute_line, chain_source, IsStepFor, AreStepsFor, Says, says_clause, says_denial, says_reflexive, says_goal, says_fact, says_conclusion, refutes_denied, refutes_encoded, IsWritten, AreWritten}
-use Rattle.uc_proof.specs.Extracted.{IsEncodingOf, IsExtracted}
+use Rattle.uc_proof.specs.Making.{IsReached}
+use Rattle.uc_proof.specs.Extracted.{IsEncodingOf, IsDerivation}
 use Rattle.uc_proof.proofs.Renumbered.{Covers, covers_left, covers_right, unnumbered, numbered_variants, open_renamed, ground_stays}
 use Rattle.uc_proof.proofs.Levels.{level, source_level, Ascends, lower_earlier, selected_ascend, parts_ascend}
 use Rattle.uc_proof.proofs.Sources.{IsFrom, from_clause, from_reflexive, from_goal, IsAsked, asked_by_clause, asked_by_encoding, axiom_from, goal_asked}
-use Rattle.uc_proof.proofs.Reversal.{conclusion_leads}
 
 -- the equation that is named among the first facts is named among all of them, and its fact is one of the first
 pub fact_before : (facts : List Fact) (n m : ℕ) (e : Equation) → slice_get (map equation_of (take n facts)) m ≡ Some e → (m < n) × (slice_get (map equation_of facts) m ≡ Some e)
@@ -128,54 +129,54 @@ inside [] i x e = absurd cc
 inside (y ∷ ys) zero x e = omega arith
 inside (y ∷ ys) (suc i) x e = let l = inside ys i x e in omega arith
 
-module _ (problem : Problem) (enc : Encoded) (facts : List Fact) (conclusion : Chain) (goal : ℕ) (plan : List Part) where
+module _ (problem : Problem) (enc : Encoded) (facts : List Fact) (aimed : Aim) (plan : List Part) where
   -- the line of a part that is planned, and the part of a line
-  written_at : (n : ℕ) (ps : List Part) (ls : List Line) (k : ℕ) (p : Part) → AreWritten problem enc facts conclusion goal plan n ps ls → slice_get ps k ≡ Some p → (line : Line) × (slice_get ls k ≡ Some line) × IsWritten problem enc facts conclusion goal plan (n + k) p line
+  pub written_at : (n : ℕ) (ps : List Part) (ls : List Line) (k : ℕ) (p : Part) → AreWritten problem enc facts aimed plan n ps ls → slice_get ps k ≡ Some p → (line : Line) × (slice_get ls k ≡ Some line) × IsWritten problem enc facts aimed plan (n + k) p line
   written_at n [] ls k p w e = absurd cc
   written_at n (q ∷ ps) [] k p w e = absurd w
   written_at n (q ∷ ps) (l ∷ ls) zero p w e =
       let same : q ≡ p = cc in
       let number : n ≡ n + 0 = omega arith in
-      (l, refl, subst (λ (r : Part). IsWritten problem enc facts conclusion goal plan (n + 0) r l) same (subst (λ (i : ℕ). IsWritten problem enc facts conclusion goal plan i q l) number w.0))
+      (l, refl, subst (λ (r : Part). IsWritten problem enc facts aimed plan (n + 0) r l) same (subst (λ (i : ℕ). IsWritten problem enc facts aimed plan i q l) number w.0))
   written_at n (q ∷ ps) (l ∷ ls) (suc k) p w e =
       let r = written_at (n + 1) ps ls k p w.1 e in
       let number : n + 1 + k ≡ n + suc k = omega arith in
-      (r.0, r.1, subst (λ (i : ℕ). IsWritten problem enc facts conclusion goal plan i p r.0) number r.2)
+      (r.0, r.1, subst (λ (i : ℕ). IsWritten problem enc facts aimed plan i p r.0) number r.2)
 
-  part_at : (n : ℕ) (ps : List Part) (ls : List Line) (k : ℕ) (line : Line) → AreWritten problem enc facts conclusion goal plan n ps ls → slice_get ls k ≡ Some line → (p : Part) × (slice_get ps k ≡ Some p) × IsWritten problem enc facts conclusion goal plan (n + k) p line
+  pub part_at : (n : ℕ) (ps : List Part) (ls : List Line) (k : ℕ) (line : Line) → AreWritten problem enc facts aimed plan n ps ls → slice_get ls k ≡ Some line → (p : Part) × (slice_get ps k ≡ Some p) × IsWritten problem enc facts aimed plan (n + k) p line
   part_at n [] [] k line w e = absurd cc
   part_at n [] (l ∷ ls) k line w e = absurd w
   part_at n (q ∷ ps) [] k line w e = absurd w
   part_at n (q ∷ ps) (l ∷ ls) zero line w e =
       let same : l ≡ line = cc in
       let number : n ≡ n + 0 = omega arith in
-      (q, refl, subst (λ (x : Line). IsWritten problem enc facts conclusion goal plan (n + 0) q x) same (subst (λ (i : ℕ). IsWritten problem enc facts conclusion goal plan i q l) number w.0))
+      (q, refl, subst (λ (x : Line). IsWritten problem enc facts aimed plan (n + 0) q x) same (subst (λ (i : ℕ). IsWritten problem enc facts aimed plan i q l) number w.0))
   part_at n (q ∷ ps) (l ∷ ls) (suc k) line w e =
       let r = part_at (n + 1) ps ls k line w.1 e in
       let number : n + 1 + k ≡ n + suc k = omega arith in
-      (r.0, r.1, subst (λ (i : ℕ). IsWritten problem enc facts conclusion goal plan i r.0 line) number r.2)
+      (r.0, r.1, subst (λ (i : ℕ). IsWritten problem enc facts aimed plan i r.0 line) number r.2)
 
-  as_long : (n : ℕ) (ps : List Part) (ls : List Line) → AreWritten problem enc facts conclusion goal plan n ps ls → length ps ≡ length ls
+  as_long : (n : ℕ) (ps : List Part) (ls : List Line) → AreWritten problem enc facts aimed plan n ps ls → length ps ≡ length ls
   as_long n [] [] w = refl
   as_long n [] (l ∷ ls) w = absurd w
   as_long n (q ∷ ps) [] w = absurd w
   as_long n (q ∷ ps) (l ∷ ls) w = ap suc (as_long (n + 1) ps ls w.1)
 
-  module _ (lines : List Line) (is : IsEncodingOf problem enc) (written : AreWritten problem enc facts conclusion goal plan 0 plan lines) (ascends : Ascends enc.sources (length facts) 0 plan) where
+  module _ (lines : List Line) (is : IsEncodingOf problem enc) (written : AreWritten problem enc facts aimed plan 0 plan lines) (ascends : Ascends enc.sources (length facts) 0 plan) where
     abbrev rank : Part → ℕ
     rank p = level enc.sources (length facts) p
 
-    at_line : (k : ℕ) (p : Part) → slice_get plan k ≡ Some p → (line : Line) × (slice_get lines k ≡ Some line) × IsWritten problem enc facts conclusion goal plan k p line
+    at_line : (k : ℕ) (p : Part) → slice_get plan k ≡ Some p → (line : Line) × (slice_get lines k ≡ Some line) × IsWritten problem enc facts aimed plan k p line
     at_line k p e =
         let r = written_at 0 plan lines k p written e in
         let q : 0 + k ≡ k = omega arith in
-        (r.0, r.1, subst (λ (i : ℕ). IsWritten problem enc facts conclusion goal plan i p r.0) q r.2)
+        (r.0, r.1, subst (λ (i : ℕ). IsWritten problem enc facts aimed plan i p r.0) q r.2)
 
     earlier : (i k : ℕ) (p q : Part) → slice_get plan i ≡ Some p → slice_get plan k ≡ Some q → rank p < rank q → i < k
     earlier i k p q e f h = lower_earlier enc.sources (length facts) 0 plan i k p q ascends e f h
 
     -- the line of an axiom says its equation
-    says_axiom : (k : ℕ) (e : Equation) (name : List ℕ) (said line : Line) → slice_get enc.axioms k ≡ Some e → line ≡ renumbered_line said → Says problem enc facts conclusion goal plan name (part.Axiom k) said → SaysEquation line e
+    says_axiom : (k : ℕ) (e : Equation) (name : List ℕ) (said line : Line) → slice_get enc.axioms k ≡ Some e → line ≡ renumbered_line said → Says problem enc facts aimed plan name (part.Axiom k) said → SaysEquation line e
     says_axiom k e name _ line h is_line (says_clause {c} {s} at there) = go (axiom_from problem enc is k e h)
       where
         go : IsFrom problem enc k e → SaysEquation line e
@@ -192,7 +193,7 @@ module _ (problem : Problem) (enc : Encoded) (facts : List Fact) (conclusion : C
         let same : e' ≡ e = let z : Some e' ≡ Some e = sym h' ∙ h in cc in
         subst (SaysEquation line) same (says_own (equation_line name (EncodeGoal (denial ∷ [])) e') line is_line refl (λ n. n))
 
-    says_of_fact : (n : ℕ) (e : Equation) (name : List ℕ) (said line : Line) → slice_get (map equation_of facts) n ≡ Some e → line ≡ renumbered_line said → Says problem enc facts conclusion goal plan name (part.Fact n) said → SaysEquation line e
+    says_of_fact : (n : ℕ) (e : Equation) (name : List ℕ) (said line : Line) → slice_get (map equation_of facts) n ≡ Some e → line ≡ renumbered_line said → Says problem enc facts aimed plan name (part.Fact n) said → SaysEquation line e
     says_of_fact n e name _ line h is_line (says_fact {fact} {steps} g a) =
         subst (SaysEquation line) (fact_named facts n e fact h g) (says_own (equation_line name (chain_source fact.chain.start steps) (equation_of fact)) line is_line refl (λ n. n))
 
@@ -313,7 +314,7 @@ module _ (problem : Problem) (enc : Encoded) (facts : List Fact) (conclusion : C
     denial_of : (c i : ℕ) → slice_get plan i ≡ Some (part.Denial c) → IsDenialOf c i
     denial_of c i at = let r = at_line i (part.Denial c) at in go (line_name i) r.2.said r.0 r.1 r.2.line_is r.2.says
       where
-        go : (name : List ℕ) (said line : Line) → slice_get lines i ≡ Some line → line ≡ renumbered_line said → Says problem enc facts conclusion goal plan name (part.Denial c) said → IsDenialOf c i
+        go : (name : List ℕ) (said line : Line) → slice_get lines i ≡ Some line → line ≡ renumbered_line said → Says problem enc facts aimed plan name (part.Denial c) said → IsDenialOf c i
         go name _ line l q (says_denial {s} there) = record {
           sourced = s;
           there = there;
@@ -339,13 +340,14 @@ module _ (problem : Problem) (enc : Encoded) (facts : List Fact) (conclusion : C
       pub parents : List ℕ
       pub source_is : line.source ≡ ByChain start steps parents
 
-    conclusion_at : (e : Equation) (i : ℕ) → slice_get enc.goals goal ≡ Some e → slice_get plan i ≡ Some part.Conclusion → IsConclusionAt e i
-    conclusion_at e i g at = let r = at_line i part.Conclusion at in go (line_name i) r.2.said r.0 r.1 r.2.line_is r.2.says
+    conclusion_at : (way : Chain) (goal : ℕ) (e : Equation) (i : ℕ) → aimed ≡ aim.Goal way goal → slice_get enc.goals goal ≡ Some e → slice_get plan i ≡ Some part.Conclusion → IsConclusionAt e i
+    conclusion_at way goal e i aims g at = let r = at_line i part.Conclusion at in go (line_name i) r.2.said r.0 r.1 r.2.line_is r.2.says
       where
-        go : (name : List ℕ) (said line : Line) → slice_get lines i ≡ Some line → line ≡ renumbered_line said → Says problem enc facts conclusion goal plan name part.Conclusion said → IsConclusionAt e i
-        go name _ line l q (says_conclusion {e = e'} {steps} g' a) =
-            let same : e' ≡ e = let z : Some e' ≡ Some e = sym g' ∙ g in cc in
-            let said = equation_line name (chain_source conclusion.start steps) e' in
+        go : (name : List ℕ) (said line : Line) → slice_get lines i ≡ Some line → line ≡ renumbered_line said → Says problem enc facts aimed plan name part.Conclusion said → IsConclusionAt e i
+        go name _ line l q (says_conclusion {chain = way'} {goal = goal'} {e = e'} {steps} aims' g' a) =
+            let number : goal' ≡ goal = let z : aim.Goal way' goal' ≡ aim.Goal way goal = sym aims' ∙ aims in cc in
+            let same : e' ≡ e = let z : Some e' ≡ Some e = sym g' ∙ ap (slice_get enc.goals) number ∙ g in cc in
+            let said = equation_line name (chain_source way'.start steps) e' in
             let xs = line_variables said in
             record {
               line = line;
@@ -354,7 +356,7 @@ module _ (problem : Problem) (enc : Encoded) (facts : List Fact) (conclusion : C
               left_is = ap (λ (x : Line). x.left) q ∙ ap (λ (x : Equation). renumbered_by xs x.left) same;
               right_is = ap (λ (x : Line). x.right) q ∙ ap (λ (x : Equation). renumbered_by xs x.right) same;
               positive = ap (λ (x : Line). x.positive) q;
-              start = renumbered_by xs conclusion.start;
+              start = renumbered_by xs way'.start;
               steps = map (renumbered_step xs) steps;
               parents = named_by steps;
               source_is = ap (λ (x : Line). x.source) q;
@@ -426,8 +428,8 @@ module _ (problem : Problem) (enc : Encoded) (facts : List Fact) (conclusion : C
             }) refl))
 
     -- the refutation of a ground goal, and of the encoding's
-    ground_refuted : (k c denial chain : ℕ) (e : Equation) (name : List ℕ) (line : Line) → slice_get enc.goals goal ≡ Some e → slice_get plan k ≡ Some part.Refutation → slice_get enc.goal_clauses goal ≡ Some (Some c) → slice_get plan denial ≡ Some (part.Denial c) → slice_get plan chain ≡ Some part.Conclusion → line ≡ renumbered_line (refute_line name (denial ∷ chain ∷ [])) → Tested problem.clauses enc.fresh lines k line line.source None
-    ground_refuted k c denial chain e name line h at_k at d at_chain q = go (goal_asked problem enc is goal e h)
+    ground_refuted : (way : Chain) (goal : ℕ) (k c denial chain : ℕ) (e : Equation) (name : List ℕ) (line : Line) → aimed ≡ aim.Goal way goal → slice_get enc.goals goal ≡ Some e → slice_get plan k ≡ Some part.Refutation → slice_get enc.goal_clauses goal ≡ Some (Some c) → slice_get plan denial ≡ Some (part.Denial c) → slice_get plan chain ≡ Some part.Conclusion → line ≡ renumbered_line (refute_line name (denial ∷ chain ∷ [])) → Tested problem.clauses enc.fresh lines k line line.source None
+    ground_refuted way goal k c denial chain e name line aims h at_k at d at_chain q = go (goal_asked problem enc is goal e h)
       where
         go : IsAsked problem enc goal e → Tested problem.clauses enc.fresh lines k line line.source None
         go (asked_by_encoding marks at' f same) = let z : Some (Some c) ≡ Some None = sym at ∙ at' in absurd cc
@@ -436,7 +438,7 @@ module _ (problem : Problem) (enc : Encoded) (facts : List Fact) (conclusion : C
             let g = denial_of c denial d in
             let s = g.sourced in
             let alike : s' ≡ s = let z : Some s' ≡ Some s = sym there' ∙ ap (slice_get problem.clauses) (sym number) ∙ g.there in cc in
-            let n = conclusion_at e chain h at_chain in
+            let n = conclusion_at way goal e chain aims h at_chain in
             let p : s.clause.positive ≡ false = ap (λ (x : Sourced). x.clause.positive) (sym alike) ∙ negative in
             let sides = or_parts (has_variable s.clause.left) (has_variable s.clause.right) (goal_is_ground s p (ap is_open_goal (sym alike) ∙ closed)) in
             let e_is : e ≡ clause_equation s.clause = sym same ∙ ap (λ (x : Sourced). clause_equation x.clause) alike in
@@ -464,13 +466,13 @@ module _ (problem : Problem) (enc : Encoded) (facts : List Fact) (conclusion : C
               };
             })) refl))
 
-    encoding_refuted : (k chain : ℕ) (e : Equation) (name : List ℕ) (line : Line) → slice_get enc.goals goal ≡ Some e → slice_get plan k ≡ Some part.Refutation → slice_get enc.goal_clauses goal ≡ Some None → slice_get plan chain ≡ Some part.Conclusion → line ≡ renumbered_line (refute_line name (chain ∷ [])) → Tested problem.clauses enc.fresh lines k line line.source None
-    encoding_refuted k chain e name line h at_k at at_chain q = go (goal_asked problem enc is goal e h)
+    encoding_refuted : (way : Chain) (goal : ℕ) (k chain : ℕ) (e : Equation) (name : List ℕ) (line : Line) → aimed ≡ aim.Goal way goal → slice_get enc.goals goal ≡ Some e → slice_get plan k ≡ Some part.Refutation → slice_get enc.goal_clauses goal ≡ Some None → slice_get plan chain ≡ Some part.Conclusion → line ≡ renumbered_line (refute_line name (chain ∷ [])) → Tested problem.clauses enc.fresh lines k line line.source None
+    encoding_refuted way goal k chain e name line aims h at_k at at_chain q = go (goal_asked problem enc is goal e h)
       where
         go : IsAsked problem enc goal e → Tested problem.clauses enc.fresh lines k line line.source None
         go (asked_by_clause c' s' at' there' negative closed same) = let z : Some None ≡ Some (Some c') = sym at ∙ at' in absurd cc
         go (asked_by_encoding marks at' f same) =
-            let n = conclusion_at e chain h at_chain in
+            let n = conclusion_at way goal e chain aims h at_chain in
             let before : chain < k = earlier chain k part.Conclusion part.Refutation at_chain at_k (omega arith) in
             subst (λ (l : Line). Tested problem.clauses enc.fresh lines k l l.source None) (sym q)
             (passes (before, tt) (passes (inr (record {
@@ -488,18 +490,23 @@ module _ (problem : Problem) (enc : Encoded) (facts : List Fact) (conclusion : C
             })) refl))
 
     -- each line passes its tests
-    module _ (replay : FactsReplay enc.axioms facts) (e : Equation) (e_is : slice_get enc.goals goal ≡ Some e) (leads_to : LeadsFrom enc.axioms facts conclusion e.left e.right) where
-      tested : (k : ℕ) (p : Part) (name : List ℕ) (said line : Line) → slice_get plan k ≡ Some p → line ≡ renumbered_line said → Says problem enc facts conclusion goal plan name p said → Tested problem.clauses enc.fresh lines k line line.source None
+    module _ (replay : FactsReplay enc.axioms facts) (reached : IsReached enc facts aimed) where
+      -- the goal, and its chain
+      asked : (way : Chain) (goal : ℕ) → aimed ≡ aim.Goal way goal → (e : Equation) × (slice_get enc.goals goal ≡ Some e) × LeadsFrom enc.axioms facts way e.left e.right
+      asked way goal q = subst (IsReached enc facts) q reached
+
+      tested : (k : ℕ) (p : Part) (name : List ℕ) (said line : Line) → slice_get plan k ≡ Some p → line ≡ renumbered_line said → Says problem enc facts aimed plan name p said → Tested problem.clauses enc.fresh lines k line line.source None
       tested k _ name _ line at_k q (says_clause {c} {s} at there) = clause_tested k c name s line there q
       tested k _ name _ line at_k q (says_denial {c} {s} there) = clause_tested k c name s line there q
       tested k _ name _ line at_k q (says_reflexive {k = j} {e = d} at h) = reflexive_tested k j d name line at h q
       tested k _ name _ line at_k q (says_goal {k = j} {c} {denial} {e = d} at h there) = goal_tested k j c denial d name line at_k at h there q
       tested k _ name _ line at_k q (says_fact {n} {fact} {steps = ws} g a) = chain_tested k (part.Fact n) name (take n facts) fact.chain (equation_of fact) ws at_k (widen_fact n) (replay n fact g) a line q
-      tested k _ name _ line at_k q (says_conclusion {e = d} {steps = ws} g a) =
-          let same : e ≡ d = let z : Some e ≡ Some d = sym e_is ∙ g in cc in
-          chain_tested k part.Conclusion name facts conclusion d ws at_k widen_all (subst (λ (x : Equation). LeadsFrom enc.axioms facts conclusion x.left x.right) same leads_to) a line q
-      tested k _ name _ line at_k q (refutes_denied {c} {denial} {chain} at d at_chain) = ground_refuted k c denial chain e name line e_is at_k at d at_chain q
-      tested k _ name _ line at_k q (refutes_encoded {chain} at at_chain) = encoding_refuted k chain e name line e_is at_k at at_chain q
+      tested k _ name _ line at_k q (says_conclusion {chain = way} {goal} {e = d} {steps = ws} aims g a) =
+          let r = asked way goal aims in
+          let same : r.0 ≡ d = let z : Some r.0 ≡ Some d = sym r.1 ∙ g in cc in
+          chain_tested k part.Conclusion name facts way d ws at_k widen_all (subst (λ (x : Equation). LeadsFrom enc.axioms facts way x.left x.right) same r.2) a line q
+      tested k _ name _ line at_k q (refutes_denied {chain = way} {goal} {c} {denial} {proved = chain} aims at d at_chain) = let r = asked way goal aims in ground_refuted way goal k c denial chain r.0 name line aims r.1 at_k at d at_chain q
+      tested k _ name _ line at_k q (refutes_encoded {chain = way} {goal} {proved = chain} aims at at_chain) = let r = asked way goal aims in encoding_refuted way goal k chain r.0 name line aims r.1 at_k at at_chain q
 
       right_line : (k : ℕ) → IsRightLine problem.clauses enc.fresh lines k
       right_line k line l = let r = part_at 0 plan lines k line written l in tested k r.0 (line_name (0 + k)) r.2.said line r.1 r.2.line_is r.2.says
@@ -508,27 +515,25 @@ module _ (problem : Problem) (enc : Encoded) (facts : List Fact) (conclusion : C
     refutation_at : (k : ℕ) → slice_get plan k ≡ Some part.Refutation → (line : Line) × (slice_get lines k ≡ Some line) × IsRefutation line.source
     refutation_at k at = let r = at_line k part.Refutation at in (r.0, r.1, go (line_name k) r.2.said r.0 r.2.line_is r.2.says)
       where
-        go : (name : List ℕ) (said line : Line) → line ≡ renumbered_line said → Says problem enc facts conclusion goal plan name part.Refutation said → IsRefutation line.source
-        go name _ line q (refutes_denied at' d c) = subst (λ (l : Line). IsRefutation l.source) (sym q) tt
-        go name _ line q (refutes_encoded at' c) = subst (λ (l : Line). IsRefutation l.source) (sym q) tt
+        go : (name : List ℕ) (said line : Line) → line ≡ renumbered_line said → Says problem enc facts aimed plan name part.Refutation said → IsRefutation line.source
+        go name _ line q (refutes_denied aims at' d c) = subst (λ (l : Line). IsRefutation l.source) (sym q) tt
+        go name _ line q (refutes_encoded aims at' c) = subst (λ (l : Line). IsRefutation l.source) (sym q) tt
 
-module _ (problem : Problem) (enc : Encoded) (facts : List Fact) (left right : Chain) (goal : ℕ) (lines : List Line) (files : List (List ℕ)) (is : IsEncodingOf problem enc) (replay : FactsReplay enc.axioms facts) (proves : ProvesGoal enc facts goal left right) (x : IsExtracted problem enc facts left right goal lines files) where
-  ascends : Ascends enc.sources (length facts) 0 x.plan
-  ascends = selected_ascend enc.sources (length facts) (IsNeeded enc facts (conclusion_of left right) goal) 0 (all_parts problem enc (length facts)) x.plan x.selected (parts_ascend enc.sources (length facts) problem.goals)
+module _ (problem : Problem) (enc : Encoded) (facts : List Fact) (aimed : Aim) (lines : List Line) (files : List (List ℕ)) (is : IsEncodingOf problem enc) (x : IsDerivation problem enc facts aimed lines files) where
+  pub ascends : Ascends enc.sources (length facts) 0 x.plan
+  ascends = selected_ascend enc.sources (length facts) (IsNeeded enc facts aimed) 0 (all_parts problem enc (length facts)) x.plan x.selected (parts_ascend enc.sources (length facts) problem.goals)
 
-  pub all_right : AreRightBefore problem.clauses enc.fresh lines (length lines)
-  all_right k h =
-      right_line problem enc facts (conclusion_of left right) goal x.plan lines is x.written ascends replay proves.equation proves.equation_is
-      (conclusion_leads enc.axioms facts left right proves.equation.left proves.equation.right proves.meeting proves.left_leads proves.right_leads) k
+  pub all_right : FactsReplay enc.axioms facts → IsReached enc facts aimed → AreRightBefore problem.clauses enc.fresh lines (length lines)
+  all_right replay reached k h = right_line problem enc facts aimed x.plan lines is x.written ascends replay reached k
 
-  pub refutes_last : EndsInRefutation lines
-  refutes_last =
+  pub refutes_last : IsGoal aimed → EndsInRefutation lines
+  refutes_last goal =
       let front = axioms_where is_clause 0 enc.sources ++ (map part.Denial problem.goals ++ (axioms_where is_encoding 0 enc.sources ++ facts_from 0 (length facts))) in
       let parts : all_parts problem enc (length facts) ≡ front ++ part.Conclusion ∷ part.Refutation ∷ [] = regroup (axioms_where is_clause 0 enc.sources) (map part.Denial problem.goals) (axioms_where is_encoding 0 enc.sources) (facts_from 0 (length facts)) (part.Conclusion ∷ part.Refutation ∷ []) in
-      let two = two_last (IsNeeded enc facts (conclusion_of left right) goal) front x.plan part.Conclusion part.Refutation tt tt (subst (λ (ps : List Part). Selects (IsNeeded enc facts (conclusion_of left right) goal) ps x.plan) parts x.selected) in
+      let two = two_last (IsNeeded enc facts aimed) front x.plan part.Conclusion part.Refutation goal goal (subst (λ (ps : List Part). Selects (IsNeeded enc facts aimed) ps x.plan) parts x.selected) in
       let at : slice_get x.plan (length two.0 + 1) ≡ Some part.Refutation = ap (λ l. slice_get l (length two.0 + 1)) two.1 ∙ at_last two.0 part.Conclusion part.Refutation in
-      let r = refutation_at problem enc facts (conclusion_of left right) goal x.plan lines is x.written ascends (length two.0 + 1) at in
-      let long : length lines ≡ length two.0 + 2 = sym (as_long problem enc facts (conclusion_of left right) goal x.plan 0 x.plan lines x.written) ∙ ap length two.1 ∙ length-append two.0 (part.Conclusion ∷ part.Refutation ∷ []) in
+      let r = refutation_at problem enc facts aimed x.plan lines is x.written ascends (length two.0 + 1) at in
+      let long : length lines ≡ length two.0 + 2 = sym (as_long problem enc facts aimed x.plan 0 x.plan lines x.written) ∙ ap length two.1 ∙ length-append two.0 (part.Conclusion ∷ part.Refutation ∷ []) in
       record {
         last = length two.0 + 1;
         last_is = omega (arith, long);

@@ -15,6 +15,8 @@ use Rattle.uc_problem.specs.declared.problem.Problem.{Problem}
 use Rattle.uc_problem.specs.declared.problem.Encoded.{Encoded}
 use Rattle.uc_problem.specs.declared.problem.Source.{Source}
 use Rattle.uc_problem.specs.declared.problem.Source.TheVariants as source
+use Rattle.uc_proof.specs.declared.aim.Aim.{Aim}
+use Rattle.uc_proof.specs.declared.aim.Aim.TheVariants as aim
 use Rattle.uc_proof.specs.declared.part.Part.{Part}
 use Rattle.uc_proof.specs.declared.part.Part.TheVariants as part
 use Rattle.uc_proof.specs.Written.{clause_line, equation_line, refute_line, Says, says_clause, says_denial, says_reflexive, says_goal, says_fact, says_conclusion, refutes_denied, refutes_encoded}
@@ -57,39 +59,39 @@ as_equation r name s other e same p q h = subst (λ (x : LineSource). IfOk r (λ
 pub as_refutation : {E : Type 0} (r : Result Line E) (name list other : List ℕ) → list ≡ other → IfOk r (λ line. line ≡ refute_line name list) → IfOk r (λ line. line ≡ refute_line name other)
 as_refutation r name list other p h = subst (λ (x : List ℕ). IfOk r (λ line. line ≡ refute_line name x)) p h
 
-module _ (problem : Problem) (enc : Encoded) (facts : List Fact) (conclusion : Chain) (goal : ℕ) (plan : List Part) where
-  pub said_so : {E : Type 0} (r : Result Line E) (name other : List ℕ) (p q : Part) → name ≡ other → p ≡ q → IfOk r (Says problem enc facts conclusion goal plan name p) → IfOk r (Says problem enc facts conclusion goal plan other q)
-  said_so r name other p q e f h = subst (λ (n : List ℕ). IfOk r (Says problem enc facts conclusion goal plan n q)) e (subst (λ (x : Part). IfOk r (Says problem enc facts conclusion goal plan name x)) f h)
+module _ (problem : Problem) (enc : Encoded) (facts : List Fact) (aimed : Aim) (plan : List Part) where
+  pub said_so : {E : Type 0} (r : Result Line E) (name other : List ℕ) (p q : Part) → name ≡ other → p ≡ q → IfOk r (Says problem enc facts aimed plan name p) → IfOk r (Says problem enc facts aimed plan other q)
+  said_so r name other p q e f h = subst (λ (n : List ℕ). IfOk r (Says problem enc facts aimed plan n q)) e (subst (λ (x : Part). IfOk r (Says problem enc facts aimed plan name x)) f h)
 
   -- what is known of the line, by an equation
-  said_as : {E : Type 0} (r : Result Line E) (name : List ℕ) (p : Part) (line : Line) → Says problem enc facts conclusion goal plan name p line → IfOk r (λ l. l ≡ line) → IfOk r (Says problem enc facts conclusion goal plan name p)
-  said_as r name p line s h = IfOk-weaker r (λ l. l ≡ line) (Says problem enc facts conclusion goal plan name p) (λ l e. subst (Says problem enc facts conclusion goal plan name p) (sym e) s) h
+  said_as : {E : Type 0} (r : Result Line E) (name : List ℕ) (p : Part) (line : Line) → Says problem enc facts aimed plan name p line → IfOk r (λ l. l ≡ line) → IfOk r (Says problem enc facts aimed plan name p)
+  said_as r name p line s h = IfOk-weaker r (λ l. l ≡ line) (Says problem enc facts aimed plan name p) (λ l e. subst (Says problem enc facts aimed plan name p) (sym e) s) h
 
   module _ {E : Type 0} (r : Result Line E) (name : List ℕ) where
-    pub clause_said : (k c : ℕ) → slice_get enc.sources k ≡ Some (source.Clause c) → (s : Sourced) × (slice_get problem.clauses c ≡ Some s) → ((s : Sourced) → slice_get problem.clauses c ≡ Some s → IfOk r (λ line. line ≡ clause_line name s.clause)) → IfOk r (Says problem enc facts conclusion goal plan name (part.Axiom k))
+    pub clause_said : (k c : ℕ) → slice_get enc.sources k ≡ Some (source.Clause c) → (s : Sourced) × (slice_get problem.clauses c ≡ Some s) → ((s : Sourced) → slice_get problem.clauses c ≡ Some s → IfOk r (λ line. line ≡ clause_line name s.clause)) → IfOk r (Says problem enc facts aimed plan name (part.Axiom k))
     clause_said k c at there h = said_as r name (part.Axiom k) (clause_line name there.0.clause) (says_clause at there.1) (h there.0 there.1)
 
-    pub denial_said : (c : ℕ) → (s : Sourced) × (slice_get problem.clauses c ≡ Some s) → ((s : Sourced) → slice_get problem.clauses c ≡ Some s → IfOk r (λ line. line ≡ clause_line name s.clause)) → IfOk r (Says problem enc facts conclusion goal plan name (part.Denial c))
+    pub denial_said : (c : ℕ) → (s : Sourced) × (slice_get problem.clauses c ≡ Some s) → ((s : Sourced) → slice_get problem.clauses c ≡ Some s → IfOk r (λ line. line ≡ clause_line name s.clause)) → IfOk r (Says problem enc facts aimed plan name (part.Denial c))
     denial_said c there h = said_as r name (part.Denial c) (clause_line name there.0.clause) (says_denial there.1) (h there.0 there.1)
 
-    pub reflexive_said : (k : ℕ) (e : Equation) → slice_get enc.sources k ≡ Some source.Reflexive → slice_get enc.axioms k ≡ Some e → IfOk r (λ line. line ≡ equation_line name (Reflexive []) e) → IfOk r (Says problem enc facts conclusion goal plan name (part.Axiom k))
+    pub reflexive_said : (k : ℕ) (e : Equation) → slice_get enc.sources k ≡ Some source.Reflexive → slice_get enc.axioms k ≡ Some e → IfOk r (λ line. line ≡ equation_line name (Reflexive []) e) → IfOk r (Says problem enc facts aimed plan name (part.Axiom k))
     reflexive_said k e at there h = said_as r name (part.Axiom k) (equation_line name (Reflexive []) e) (says_reflexive at there) h
 
-    pub goal_said : (k c denial : ℕ) (e : Equation) → slice_get enc.sources k ≡ Some (source.Goal c) → slice_get enc.axioms k ≡ Some e → slice_get plan denial ≡ Some (part.Denial c) → IfOk r (λ line. line ≡ equation_line name (EncodeGoal (denial ∷ [])) e) → IfOk r (Says problem enc facts conclusion goal plan name (part.Axiom k))
+    pub goal_said : (k c denial : ℕ) (e : Equation) → slice_get enc.sources k ≡ Some (source.Goal c) → slice_get enc.axioms k ≡ Some e → slice_get plan denial ≡ Some (part.Denial c) → IfOk r (λ line. line ≡ equation_line name (EncodeGoal (denial ∷ [])) e) → IfOk r (Says problem enc facts aimed plan name (part.Axiom k))
     goal_said k c denial e at there has h = said_as r name (part.Axiom k) (equation_line name (EncodeGoal (denial ∷ [])) e) (says_goal at there has) h
 
-    pub fact_said : (n : ℕ) (fact : Fact) → slice_get facts n ≡ Some fact → IfOk r (IsChainLine plan fact.chain name (equation_of fact)) → IfOk r (Says problem enc facts conclusion goal plan name (part.Fact n))
+    pub fact_said : (n : ℕ) (fact : Fact) → slice_get facts n ≡ Some fact → IfOk r (IsChainLine plan fact.chain name (equation_of fact)) → IfOk r (Says problem enc facts aimed plan name (part.Fact n))
     fact_said n fact at h =
-        IfOk-weaker r (IsChainLine plan fact.chain name (equation_of fact)) (Says problem enc facts conclusion goal plan name (part.Fact n))
-        (λ line i. subst (Says problem enc facts conclusion goal plan name (part.Fact n)) (sym (i.line_is ∙ ap (λ (s : LineSource). equation_line name s (equation_of fact)) i.is_source.written_is)) (says_fact at i.is_source.are_steps)) h
+        IfOk-weaker r (IsChainLine plan fact.chain name (equation_of fact)) (Says problem enc facts aimed plan name (part.Fact n))
+        (λ line i. subst (Says problem enc facts aimed plan name (part.Fact n)) (sym (i.line_is ∙ ap (λ (s : LineSource). equation_line name s (equation_of fact)) i.is_source.written_is)) (says_fact at i.is_source.are_steps)) h
 
-    pub conclusion_said : (e : Equation) → slice_get enc.goals goal ≡ Some e → IfOk r (IsChainLine plan conclusion name e) → IfOk r (Says problem enc facts conclusion goal plan name part.Conclusion)
-    conclusion_said e at h =
-        IfOk-weaker r (IsChainLine plan conclusion name e) (Says problem enc facts conclusion goal plan name part.Conclusion)
-        (λ line i. subst (Says problem enc facts conclusion goal plan name part.Conclusion) (sym (i.line_is ∙ ap (λ (s : LineSource). equation_line name s e) i.is_source.written_is)) (says_conclusion at i.is_source.are_steps)) h
+    pub conclusion_said : (chain : Chain) (goal : ℕ) (e : Equation) → aimed ≡ aim.Goal chain goal → slice_get enc.goals goal ≡ Some e → IfOk r (IsChainLine plan chain name e) → IfOk r (Says problem enc facts aimed plan name part.Conclusion)
+    conclusion_said chain goal e is at h =
+        IfOk-weaker r (IsChainLine plan chain name e) (Says problem enc facts aimed plan name part.Conclusion)
+        (λ line i. subst (Says problem enc facts aimed plan name part.Conclusion) (sym (i.line_is ∙ ap (λ (s : LineSource). equation_line name s e) i.is_source.written_is)) (says_conclusion is at i.is_source.are_steps)) h
 
-    pub denied_said : (c denial chain : ℕ) → slice_get enc.goal_clauses goal ≡ Some (Some c) → slice_get plan denial ≡ Some (part.Denial c) → slice_get plan chain ≡ Some part.Conclusion → IfOk r (λ line. line ≡ refute_line name (denial ∷ chain ∷ [])) → IfOk r (Says problem enc facts conclusion goal plan name part.Refutation)
-    denied_said c denial chain at has last h = said_as r name part.Refutation (refute_line name (denial ∷ chain ∷ [])) (refutes_denied at has last) h
+    pub denied_said : (way : Chain) (goal c denial chain : ℕ) → aimed ≡ aim.Goal way goal → slice_get enc.goal_clauses goal ≡ Some (Some c) → slice_get plan denial ≡ Some (part.Denial c) → slice_get plan chain ≡ Some part.Conclusion → IfOk r (λ line. line ≡ refute_line name (denial ∷ chain ∷ [])) → IfOk r (Says problem enc facts aimed plan name part.Refutation)
+    denied_said way goal c denial chain is at has last h = said_as r name part.Refutation (refute_line name (denial ∷ chain ∷ [])) (refutes_denied is at has last) h
 
-    pub encoded_said : (chain : ℕ) → slice_get enc.goal_clauses goal ≡ Some None → slice_get plan chain ≡ Some part.Conclusion → IfOk r (λ line. line ≡ refute_line name (chain ∷ [])) → IfOk r (Says problem enc facts conclusion goal plan name part.Refutation)
-    encoded_said chain at last h = said_as r name part.Refutation (refute_line name (chain ∷ [])) (refutes_encoded at last) h
+    pub encoded_said : (way : Chain) (goal chain : ℕ) → aimed ≡ aim.Goal way goal → slice_get enc.goal_clauses goal ≡ Some None → slice_get plan chain ≡ Some part.Conclusion → IfOk r (λ line. line ≡ refute_line name (chain ∷ [])) → IfOk r (Says problem enc facts aimed plan name part.Refutation)
+    encoded_said way goal chain is at last h = said_as r name part.Refutation (refute_line name (chain ∷ [])) (refutes_encoded is at last) h

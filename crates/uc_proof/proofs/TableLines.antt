@@ -20,21 +20,23 @@ use Rattle.uc_fact.specs.declared.fact.Fact.{Fact}
 use Rattle.uc_fact.specs.Chains.{steps_back}
 use Rattle.uc_problem.specs.declared.problem.Problem.{Problem}
 use Rattle.uc_problem.specs.declared.problem.Encoded.{Encoded}
+use Rattle.uc_proof.specs.declared.aim.Aim.{Aim}
+use Rattle.uc_proof.specs.declared.aim.Aim.TheVariants as aim
 use Rattle.uc_proof.specs.declared.part.Part.{Part}
 use Rattle.uc_proof.specs.Chains.{conclusion_of}
 use Rattle.uc_proof.specs.Files.{part_file}
 use Rattle.uc_proof.specs.Written.{clause_line, equation_line, line_name, AreStepsFor, Says, says_clause, says_denial, says_reflexive, says_goal, says_fact, says_conclusion, refutes_denied, refutes_encoded, AreWritten}
-use Rattle.uc_proof.specs.Extracted.{IsExtracted}
+use Rattle.uc_proof.specs.Extracted.{IsDerivation}
 
 -- as many lines as parts, and as files
-written_length : (problem : Problem) (enc : Encoded) (facts : List Fact) (conclusion : Chain) (goal : ℕ) (plan : List Part) (k : ℕ) (ps : List Part) (lines : List Line) → AreWritten problem enc facts conclusion goal plan k ps lines → length ps ≡ length lines
-written_length problem enc facts conclusion goal plan k [] [] w = refl
-written_length problem enc facts conclusion goal plan k [] (l ∷ ls) w = absurd w
-written_length problem enc facts conclusion goal plan k (p ∷ ps) [] w = absurd w
-written_length problem enc facts conclusion goal plan k (p ∷ ps) (l ∷ ls) w = omega (arith, written_length problem enc facts conclusion goal plan (k + 1) ps ls w.1)
+written_length : (problem : Problem) (enc : Encoded) (facts : List Fact) (aimed : Aim) (plan : List Part) (k : ℕ) (ps : List Part) (lines : List Line) → AreWritten problem enc facts aimed plan k ps lines → length ps ≡ length lines
+written_length problem enc facts aimed plan k [] [] w = refl
+written_length problem enc facts aimed plan k [] (l ∷ ls) w = absurd w
+written_length problem enc facts aimed plan k (p ∷ ps) [] w = absurd w
+written_length problem enc facts aimed plan k (p ∷ ps) (l ∷ ls) w = omega (arith, written_length problem enc facts aimed plan (k + 1) ps ls w.1)
 
-pub as_many_files : (problem : Problem) (enc : Encoded) (facts : List Fact) (left right : Chain) (goal : ℕ) (lines : List Line) (files : List (List ℕ)) → IsExtracted problem enc facts left right goal lines files → length files ≡ length lines
-as_many_files problem enc facts left right goal lines files x = ap length x.files_are ∙ length-map x.plan (part_file problem enc) ∙ written_length problem enc facts (conclusion_of left right) goal x.plan 0 x.plan lines x.written
+pub as_many_files : (problem : Problem) (enc : Encoded) (facts : List Fact) (aimed : Aim) (lines : List Line) (files : List (List ℕ)) → IsDerivation problem enc facts aimed lines files → length files ≡ length lines
+as_many_files problem enc facts aimed lines files x = ap length x.files_are ∙ length-map x.plan (part_file problem enc) ∙ written_length problem enc facts aimed x.plan 0 x.plan lines x.written
 
 -- numbers of lines
 all_firsts : (P : ℕ → Type 0) (seen xs : List ℕ) → AllByRecursion P xs → AllByRecursion P (firsts_after seen xs)
@@ -91,21 +93,23 @@ module _ (table : Table) where
     steps_of plan xs step.to steps ws a.1 s.1,
   )
 
-  -- what the proof is made of
-  pub record ArePartsOf (problem : Problem) (enc : Encoded) (facts : List Fact) (left right : Chain) : Type 0 where
+  -- what lines are made of
+  pub record ArePartsOf (problem : Problem) (enc : Encoded) (facts : List Fact) : Type 0 where
     pub clauses : (c : ℕ) (s : Sourced) → slice_get problem.clauses c ≡ Some s → IsOf table s.clause.left × IsOf table s.clause.right
     pub axioms : (k : ℕ) (e : Equation) → slice_get enc.axioms k ≡ Some e → IsOf table e.left × IsOf table e.right
     pub goals : (k : ℕ) (e : Equation) → slice_get enc.goals k ≡ Some e → IsOf table e.left × IsOf table e.right
     pub fact_sides : (n : ℕ) (fact : Fact) → slice_get facts n ≡ Some fact → IsOf table fact.left × IsOf table fact.right
     pub fact_chains : (n : ℕ) (fact : Fact) → slice_get facts n ≡ Some fact → IsChainOf fact.chain
-    pub left_chain : IsChainOf left
-    pub right_chain : IsChainOf right
 
-  module _ (problem : Problem) (enc : Encoded) (facts : List Fact) (left right : Chain) (goal : ℕ) (plan : List Part) (are : ArePartsOf problem enc facts left right) where
-    abbrev conclusion : Chain
-    conclusion = conclusion_of left right
+  abbrev pub IsAimOf : Aim → Type 0
+  IsAimOf (aim.Goal chain goal) = IsChainOf chain
+  IsAimOf (aim.Facts live) = Unit {0}
 
-    line_of : (name : List ℕ) (p : Part) (said : Line) → Says problem enc facts conclusion goal plan name p said → IsLineOf table (length plan) (renumbered_line said)
+  pub conclusion_of_table : (left right : Chain) → IsChainOf left → IsChainOf right → IsChainOf (conclusion_of left right)
+  conclusion_of_table left right a b = (a.0, both_of left.steps (steps_back right.start right.steps) a.1 (back_of right.start right.steps b.0 b.1))
+
+  module _ (problem : Problem) (enc : Encoded) (facts : List Fact) (aimed : Aim) (plan : List Part) (are : ArePartsOf problem enc facts) (chains : IsAimOf aimed) where
+    line_of : (name : List ℕ) (p : Part) (said : Line) → Says problem enc facts aimed plan name p said → IsLineOf table (length plan) (renumbered_line said)
     line_of name _ _ (says_clause {c = c} {s = s} at there) = let xs = line_variables (clause_line name s.clause) in let ok = are.clauses c s there in record { left = numbered_of xs s.clause.left ok.0; right = numbered_of xs s.clause.right ok.1; source = tt }
     line_of name _ _ (says_denial {c = c} {s = s} there) = let xs = line_variables (clause_line name s.clause) in let ok = are.clauses c s there in record { left = numbered_of xs s.clause.left ok.0; right = numbered_of xs s.clause.right ok.1; source = tt }
     line_of name _ _ (says_reflexive {k = k} {e = e} at h) = let xs = line_variables (equation_line name (Reflexive []) e) in let ok = are.axioms k e h in record { left = numbered_of xs e.left ok.0; right = numbered_of xs e.right ok.1; source = tt }
@@ -119,24 +123,25 @@ module _ (table : Table) where
           right = numbered_of xs fact.right sides.1;
           source = (numbered_of xs fact.chain.start chain.0, steps_of plan xs fact.chain.start fact.chain.steps ws chain.1 a, all_firsts (λ n. n < length plan) [] (map (λ (w : LineStep). w.by) ws) (named_within plan fact.chain.start fact.chain.steps ws a));
         }
-    line_of name _ said (says_conclusion {e = e} {steps = ws} g a) =
+    line_of name _ said (says_conclusion {chain = way} {goal = goal} {e = e} {steps = ws} is g a) =
+        let chain = subst IsAimOf is chains in
         let xs = line_variables said in
         let ok = are.goals goal e g in
         record {
           left = numbered_of xs e.left ok.0;
           right = numbered_of xs e.right ok.1;
-          source = (numbered_of xs left.start are.left_chain.0, steps_of plan xs left.start conclusion.steps ws (both_of left.steps (steps_back right.start right.steps) are.left_chain.1 (back_of right.start right.steps are.right_chain.0 are.right_chain.1)) a, all_firsts (λ n. n < length plan) [] (map (λ (w : LineStep). w.by) ws) (named_within plan left.start conclusion.steps ws a));
+          source = (numbered_of xs way.start chain.0, steps_of plan xs way.start way.steps ws chain.1 a, all_firsts (λ n. n < length plan) [] (map (λ (w : LineStep). w.by) ws) (named_within plan way.start way.steps ws a));
         }
-    line_of name _ _ (refutes_denied at d c) = record { left = tt; right = tt; source = (slice_get_within plan _ _ d, (slice_get_within plan _ _ c, tt)) }
-    line_of name _ _ (refutes_encoded at c) = record { left = tt; right = tt; source = (slice_get_within plan _ _ c, tt) }
+    line_of name _ _ (refutes_denied is at d c) = record { left = tt; right = tt; source = (slice_get_within plan _ _ d, (slice_get_within plan _ _ c, tt)) }
+    line_of name _ _ (refutes_encoded is at c) = record { left = tt; right = tt; source = (slice_get_within plan _ _ c, tt) }
 
-    lines_of : (k : ℕ) (ps : List Part) (lines : List Line) → AreWritten problem enc facts conclusion goal plan k ps lines → AllByRecursion (IsLineOf table (length plan)) lines
+    lines_of : (k : ℕ) (ps : List Part) (lines : List Line) → AreWritten problem enc facts aimed plan k ps lines → AllByRecursion (IsLineOf table (length plan)) lines
     lines_of k [] [] w = tt
     lines_of k [] (l ∷ ls) w = absurd w
     lines_of k (p ∷ ps) [] w = absurd w
     lines_of k (p ∷ ps) (l ∷ ls) w = (subst (IsLineOf table (length plan)) (sym w.0.line_is) (line_of (line_name k) p w.0.said w.0.says), lines_of (k + 1) ps ls w.1)
 
-  pub proof_lines_of : (problem : Problem) (enc : Encoded) (facts : List Fact) (left right : Chain) (goal : ℕ) (lines : List Line) (files : List (List ℕ)) → ArePartsOf problem enc facts left right → IsExtracted problem enc facts left right goal lines files → AreLinesOf table lines
-  proof_lines_of problem enc facts left right goal lines files are x =
-      let many = written_length problem enc facts (conclusion_of left right) goal x.plan 0 x.plan lines x.written in
-      subst (λ n. AllByRecursion (IsLineOf table n) lines) many (lines_of problem enc facts left right goal x.plan are 0 x.plan lines x.written)
+  pub proof_lines_of : (problem : Problem) (enc : Encoded) (facts : List Fact) (aimed : Aim) (lines : List Line) (files : List (List ℕ)) → ArePartsOf problem enc facts → IsAimOf aimed → IsDerivation problem enc facts aimed lines files → AreLinesOf table lines
+  proof_lines_of problem enc facts aimed lines files are chains x =
+      let many = written_length problem enc facts aimed x.plan 0 x.plan lines x.written in
+      subst (λ n. AllByRecursion (IsLineOf table n) lines) many (lines_of problem enc facts aimed x.plan are chains 0 x.plan lines x.written)

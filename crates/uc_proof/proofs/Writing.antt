@@ -15,6 +15,7 @@ use Rattle.uc_fact.specs.declared.fact.Fact.{Fact}
 use Rattle.uc_fact.specs.Chains.{last_term, step_back, steps_back}
 use Rattle.uc_problem.specs.declared.problem.Problem.{Problem}
 use Rattle.uc_problem.specs.declared.problem.Encoded.{Encoded}
+use Rattle.uc_proof.specs.declared.aim.Aim.{Aim}
 use Rattle.uc_proof.specs.declared.part.Part.{Part}
 use Rattle.uc_proof.specs.Parts.{part_of}
 use Rattle.uc_proof.specs.Written.{IsStepFor, AreStepsFor, IsWritten, AreWritten}
@@ -92,23 +93,23 @@ parent_seen steps i step d xs ys h is e f =
     added = f ∙ ap (λ b. if b then xs else xs ++ step.by ∷ []) (list_any-among step.by xs) ∙ go (is_among step.by xs) refl
 
 -- lines
-module _ (problem : Problem) (enc : Encoded) (facts : List Fact) (conclusion : Chain) (goal : ℕ) (plan : List Part) where
-  written_more : (k : ℕ) (ps : List Part) (ls : List Line) (p : Part) (line : Line) → AreWritten problem enc facts conclusion goal plan k ps ls → IsWritten problem enc facts conclusion goal plan (k + length ps) p line → AreWritten problem enc facts conclusion goal plan k (ps ++ p ∷ []) (ls ++ line ∷ [])
-  written_more k [] [] p line w h = (let q : k + 0 ≡ k = omega arith in subst (λ (n : ℕ). IsWritten problem enc facts conclusion goal plan n p line) q h, tt)
+module _ (problem : Problem) (enc : Encoded) (facts : List Fact) (aimed : Aim) (plan : List Part) where
+  written_more : (k : ℕ) (ps : List Part) (ls : List Line) (p : Part) (line : Line) → AreWritten problem enc facts aimed plan k ps ls → IsWritten problem enc facts aimed plan (k + length ps) p line → AreWritten problem enc facts aimed plan k (ps ++ p ∷ []) (ls ++ line ∷ [])
+  written_more k [] [] p line w h = (let q : k + 0 ≡ k = omega arith in subst (λ (n : ℕ). IsWritten problem enc facts aimed plan n p line) q h, tt)
   written_more k [] (l ∷ ls) p line w h = absurd w
   written_more k (q ∷ ps) [] p line w h = absurd w
   written_more k (q ∷ ps) (l ∷ ls) p line w h =
       let e : k + suc (length ps) ≡ k + 1 + length ps = omega arith in
-      (w.0, written_more (k + 1) ps ls p line w.1 (subst (λ (n : ℕ). IsWritten problem enc facts conclusion goal plan n p line) e h))
+      (w.0, written_more (k + 1) ps ls p line w.1 (subst (λ (n : ℕ). IsWritten problem enc facts aimed plan n p line) e h))
 
   take_length : (ps : List Part) (i : ℕ) → i ≤ length ps → length (take i ps) ≡ i
   take_length ps zero h = refl
   take_length [] (suc i) h = absurd (omega arith)
   take_length (p ∷ ps) (suc i) h = ap suc (take_length ps i (omega arith))
 
-  pub written_on : (ps : List Part) (i : ℕ) (p d : Part) (ls next : List Line) (line : Line) → i < length ps → p ≡ get_or ps i d → AreWritten problem enc facts conclusion goal plan 0 (take i ps) ls → IsWritten problem enc facts conclusion goal plan i p line → next ≡ ls ++ line ∷ [] → AreWritten problem enc facts conclusion goal plan 0 (take (i + 1) ps) next
+  pub written_on : (ps : List Part) (i : ℕ) (p d : Part) (ls next : List Line) (line : Line) → i < length ps → p ≡ get_or ps i d → AreWritten problem enc facts aimed plan 0 (take i ps) ls → IsWritten problem enc facts aimed plan i p line → next ≡ ls ++ line ∷ [] → AreWritten problem enc facts aimed plan 0 (take (i + 1) ps) next
   written_on ps i p d ls next line h is w one e =
       let more : take (i + 1) ps ≡ take i ps ++ p ∷ [] = take_more ps i d h ∙ ap (λ y. take i ps ++ y ∷ []) (sym is) in
       let n : i ≡ 0 + length (take i ps) = let l = take_length ps i (omega arith) in omega (arith, l) in
-      subst (λ (l : List Line). AreWritten problem enc facts conclusion goal plan 0 (take (i + 1) ps) l) (sym e)
-      (subst (λ (q : List Part). AreWritten problem enc facts conclusion goal plan 0 q (ls ++ line ∷ [])) (sym more) (written_more 0 (take i ps) ls p line w (subst (λ (m : ℕ). IsWritten problem enc facts conclusion goal plan m p line) n one)))
+      subst (λ (l : List Line). AreWritten problem enc facts aimed plan 0 (take (i + 1) ps) l) (sym e)
+      (subst (λ (q : List Part). AreWritten problem enc facts aimed plan 0 q (ls ++ line ∷ [])) (sym more) (written_more 0 (take i ps) ls p line w (subst (λ (m : ℕ). IsWritten problem enc facts aimed plan m p line) n one)))

@@ -1,5 +1,6 @@
--- The chain between the two sides of a goal whose ends have met.
-use Rattle.std.specs.Prelude.{ℕ, ◌≡◌, ◌++◌, List, slice_get, Some}
+-- The chain between the two sides of a goal whose ends have met, and facts that are there.
+use Rattle.std.specs.Prelude.{ℕ, ◌≡◌, ◌<◌, ◌++◌, List, length, slice_get, Some}
+use Rattle.std.specs.List.{AllByRecursion}
 use Rattle.uc_term.specs.Tree.{Tree}
 use Rattle.uc_term.specs.declared.equation.Equation.{Equation}
 use Rattle.uc_fact.specs.declared.chain.Chain.{Chain}
@@ -19,3 +20,7 @@ pub record ProvesGoal (encoded : Encoded) (facts : List Fact) (goal : ℕ) (left
   pub meeting : Tree
   pub left_leads : LeadsFrom encoded.axioms facts left equation.left meeting
   pub right_leads : LeadsFrom encoded.axioms facts right equation.right meeting
+
+-- each of these is the number of a fact
+abbrev pub AreBorn : List Fact → List ℕ → Type 0
+AreBorn facts live = AllByRecursion (λ n. n < length facts) live

@@ -1,6 +1,6 @@
 -- How the lines of a proof are made: which parts are needed, what is found in a plan, and what a line is made of.
-use Rattle.std.specs.Prelude.{ℕ, ◌≡◌, ◌+◌, ◌<◌, ◌⊎◌, ◌++◌, List, [], ◌∷◌, Option, Some, None, slice_get}
-use Rattle.std.specs.List.{flat_map}
+use Rattle.std.specs.Prelude.{ℕ, ◌≡◌, ◌+◌, ◌<◌, ◌⊎◌, ◌++◌, length, List, [], ◌∷◌, Option, Some, None, slice_get}
+use Rattle.std.specs.List.{flat_map, AllByRecursion}
 use Rattle.uc_term.specs.Tree.{Tree, nodes}
 use Rattle.uc_term.specs.Variables.{variables}
 use Rattle.uc_term.specs.declared.equation.Equation.{Equation}
@@ -16,9 +16,13 @@ use Rattle.uc_problem.specs.declared.problem.Problem.{Problem}
 use Rattle.uc_problem.specs.declared.problem.Encoded.{Encoded}
 use Rattle.uc_problem.specs.declared.problem.Source.{Source}
 use Rattle.uc_problem.specs.declared.problem.Source.TheVariants as source
+use Rattle.uc_proof.specs.declared.aim.Aim.{Aim}
+use Rattle.uc_proof.specs.declared.aim.Aim.TheVariants as aim
 use Rattle.uc_proof.specs.declared.part.Part.{Part}
 use Rattle.uc_proof.specs.declared.part.Part.TheVariants as part
+use Rattle.uc_proof.specs.Chains.{AreBorn}
 use Rattle.uc_proof.specs.Needed.{IsUsed}
+use Rattle.uc_rewrite.specs.Replay.{LeadsFrom}
 use Rattle.uc_proof.specs.Parts.{part_of, Selects}
 use Rattle.uc_proof.specs.Written.{equation_line, chain_source, AreStepsFor}
 
@@ -33,10 +37,33 @@ IsNamedPart [] p = ⊥
 IsNamedPart (step ∷ steps) p = (part_of step.by ≡ p) ⊎ IsNamedPart steps p
 
 -- an axiom or a fact that is used
-abbrev pub IsUsedPart : List Fact → Chain → Part → Type 0
-IsUsedPart facts conclusion (part.Axiom k) = IsUsed facts conclusion (AxiomOf k)
-IsUsedPart facts conclusion (part.Fact n) = IsUsed facts conclusion (FactOf n)
-IsUsedPart facts conclusion other = ⊥
+abbrev pub IsUsedPart : List Fact → Aim → Part → Type 0
+IsUsedPart facts a (part.Axiom k) = IsUsed facts a (AxiomOf k)
+IsUsedPart facts a (part.Fact n) = IsUsed facts a (FactOf n)
+IsUsedPart facts a other = ⊥
+
+-- the part is one of these facts
+abbrev pub IsFactPart : List ℕ → Part → Type 0
+IsFactPart [] p = ⊥
+IsFactPart (n ∷ ns) p = (part.Fact n ≡ p) ⊎ IsFactPart ns p
+
+-- an axiom or a fact that the aim names
+abbrev pub IsAimedPart : Aim → Part → Type 0
+IsAimedPart (aim.Goal chain goal) p = IsNamedPart chain.steps p
+IsAimedPart (aim.Facts live) p = IsFactPart live p
+
+-- the aim's goal is one of the encoded problem
+abbrev pub IsWithin : Encoded → Aim → Type 0
+IsWithin encoded (aim.Goal chain goal) = goal < length encoded.goal_clauses
+IsWithin encoded (aim.Facts live) = Unit {0}
+
+-- of a goal: its clause, where it is one of the problem's, its chain and the refutation
+abbrev pub IsGoalPart : Encoded → Aim → Part → Type 0
+IsGoalPart encoded (aim.Goal chain goal) (part.Denial c) = slice_get encoded.goal_clauses goal ≡ Some (Some c)
+IsGoalPart encoded (aim.Goal chain goal) part.Conclusion = Unit {0}
+IsGoalPart encoded (aim.Goal chain goal) part.Refutation = Unit {0}
+IsGoalPart encoded (aim.Goal chain goal) other = ⊥
+IsGoalPart encoded (aim.Facts live) p = ⊥
 
 -- each fact's chain names earlier facts alone
 abbrev pub NameEarlier : List Fact → Type 0
@@ -56,6 +83,10 @@ IsDeniedFrom n (s ∷ ss) parts p = (IsAmong (part.Axiom n) parts × IsGoalOf s 
 abbrev pub IsClauseOf : Option ℕ → Part → Type 0
 IsClauseOf None p = ⊥
 IsClauseOf (Some c) p = part.Denial c ≡ p
+
+-- each of these facts is among the parts
+abbrev pub HaveParts : List Part → List ℕ → Type 0
+HaveParts parts live = AllByRecursion (λ n. IsAmong (part.Fact n) parts) live
 
 -- of these parts those are added that are so, in order
 pub record Adds (Is : Part → Type 0) (parts old new : List Part) : Type 0 where
@@ -100,13 +131,22 @@ IsGoalReady plan (Some (Some c)) = IsAmong (part.Denial c) plan
 IsGoalReady plan (Some None) = Unit {0}
 IsGoalReady plan None = ⊥
 
+-- what the lines of a goal's chain and of the refutation need
+abbrev pub IsConclusionReady : Encoded → List Part → Aim → Type 0
+IsConclusionReady encoded plan (aim.Goal chain goal) = (e : Equation) × (slice_get encoded.goals goal ≡ Some e) × IsReady plan chain
+IsConclusionReady encoded plan (aim.Facts live) = ⊥
+
+abbrev pub IsRefutationReady : Encoded → List Part → Aim → Type 0
+IsRefutationReady encoded plan (aim.Goal chain goal) = IsAmong part.Conclusion plan × IsGoalReady plan (slice_get encoded.goal_clauses goal)
+IsRefutationReady encoded plan (aim.Facts live) = ⊥
+
 -- the line of the part can be written
-abbrev pub IsPartReady : Problem → Encoded → List Fact → Chain → ℕ → List Part → Part → Type 0
-IsPartReady problem encoded facts conclusion goal plan (part.Axiom k) = (e : Equation) × (slice_get encoded.axioms k ≡ Some e) × IsSourceReady problem plan (slice_get encoded.sources k)
-IsPartReady problem encoded facts conclusion goal plan (part.Denial c) = (s : Sourced) × (slice_get problem.clauses c ≡ Some s)
-IsPartReady problem encoded facts conclusion goal plan (part.Fact n) = (fact : Fact) × (slice_get facts n ≡ Some fact) × IsReady plan fact.chain
-IsPartReady problem encoded facts conclusion goal plan part.Conclusion = (e : Equation) × (slice_get encoded.goals goal ≡ Some e) × IsReady plan conclusion
-IsPartReady problem encoded facts conclusion goal plan part.Refutation = IsAmong part.Conclusion plan × IsGoalReady plan (slice_get encoded.goal_clauses goal)
+abbrev pub IsPartReady : Problem → Encoded → List Fact → Aim → List Part → Part → Type 0
+IsPartReady problem encoded facts a plan (part.Axiom k) = (e : Equation) × (slice_get encoded.axioms k ≡ Some e) × IsSourceReady problem plan (slice_get encoded.sources k)
+IsPartReady problem encoded facts a plan (part.Denial c) = (s : Sourced) × (slice_get problem.clauses c ≡ Some s)
+IsPartReady problem encoded facts a plan (part.Fact n) = (fact : Fact) × (slice_get facts n ≡ Some fact) × IsReady plan fact.chain
+IsPartReady problem encoded facts a plan part.Conclusion = IsConclusionReady encoded plan a
+IsPartReady problem encoded facts a plan part.Refutation = IsRefutationReady encoded plan a
 
 -- the line of a chain between the two sides of an equation
 pub record IsChainLine (plan : List Part) (chain : Chain) (name : List ℕ) (e : Equation) (line : Line) : Type 0 where
@@ -117,3 +157,8 @@ pub record IsChainLine (plan : List Part) (chain : Chain) (name : List ℕ) (e :
 -- the variables of steps, from left to right, each as often as it occurs
 abbrev pub step_variables : List LineStep → List ℕ
 step_variables steps = flat_map (λ (s : LineStep). variables s.to) steps
+
+-- What the aim asks is there: the goal, with a chain that leads from its left to its right side; or the facts.
+abbrev pub IsReached : Encoded → List Fact → Aim → Type 0
+IsReached encoded facts (aim.Goal chain goal) = (e : Equation) × (slice_get encoded.goals goal ≡ Some e) × LeadsFrom encoded.axioms facts chain e.left e.right
+IsReached encoded facts (aim.Facts live) = AreBorn facts live

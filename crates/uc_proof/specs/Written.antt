@@ -18,6 +18,8 @@ use Rattle.uc_fact.specs.Live.{equation_of}
 use Rattle.uc_problem.specs.declared.problem.Problem.{Problem}
 use Rattle.uc_problem.specs.declared.problem.Encoded.{Encoded}
 use Rattle.uc_problem.specs.declared.problem.Source.TheVariants as source
+use Rattle.uc_proof.specs.declared.aim.Aim.{Aim}
+use Rattle.uc_proof.specs.declared.aim.Aim.TheVariants as aim
 use Rattle.uc_proof.specs.declared.part.Part.{Part}
 use Rattle.uc_proof.specs.declared.part.Part.TheVariants as part
 use Rattle.uc_proof.specs.Parts.{part_of}
@@ -57,22 +59,22 @@ module _ (plan : List Part) where
   AreStepsFor before steps ws = ⊥
 
 -- What the line of a part says, where the parts of the lines are planned so: with the variables of its clauses and chains.
-module _ (problem : Problem) (encoded : Encoded) (facts : List Fact) (conclusion : Chain) (goal : ℕ) (plan : List Part) (name : List ℕ) where
+module _ (problem : Problem) (encoded : Encoded) (facts : List Fact) (a : Aim) (plan : List Part) (name : List ℕ) where
   pub data Says : Part → Line → Type 0 where
     says_clause : {k c : ℕ} {s : Sourced} → slice_get encoded.sources k ≡ Some (source.Clause c) → slice_get problem.clauses c ≡ Some s → Says (part.Axiom k) (clause_line name s.clause)
     says_denial : {c : ℕ} {s : Sourced} → slice_get problem.clauses c ≡ Some s → Says (part.Denial c) (clause_line name s.clause)
     says_reflexive : {k : ℕ} {e : Equation} → slice_get encoded.sources k ≡ Some source.Reflexive → slice_get encoded.axioms k ≡ Some e → Says (part.Axiom k) (equation_line name (Reflexive []) e)
     says_goal : {k c denial : ℕ} {e : Equation} → slice_get encoded.sources k ≡ Some (source.Goal c) → slice_get encoded.axioms k ≡ Some e → slice_get plan denial ≡ Some (part.Denial c) → Says (part.Axiom k) (equation_line name (EncodeGoal (denial ∷ [])) e)
     says_fact : {n : ℕ} {fact : Fact} {steps : List LineStep} → slice_get facts n ≡ Some fact → AreStepsFor plan fact.chain.start fact.chain.steps steps → Says (part.Fact n) (equation_line name (chain_source fact.chain.start steps) (equation_of fact))
-    says_conclusion : {e : Equation} {steps : List LineStep} → slice_get encoded.goals goal ≡ Some e → AreStepsFor plan conclusion.start conclusion.steps steps → Says part.Conclusion (equation_line name (chain_source conclusion.start steps) e)
-    refutes_denied : {c denial chain : ℕ} → slice_get encoded.goal_clauses goal ≡ Some (Some c) → slice_get plan denial ≡ Some (part.Denial c) → slice_get plan chain ≡ Some part.Conclusion → Says part.Refutation (refute_line name (denial ∷ chain ∷ []))
-    refutes_encoded : {chain : ℕ} → slice_get encoded.goal_clauses goal ≡ Some None → slice_get plan chain ≡ Some part.Conclusion → Says part.Refutation (refute_line name (chain ∷ []))
+    says_conclusion : {chain : Chain} {goal : ℕ} {e : Equation} {steps : List LineStep} → a ≡ aim.Goal chain goal → slice_get encoded.goals goal ≡ Some e → AreStepsFor plan chain.start chain.steps steps → Says part.Conclusion (equation_line name (chain_source chain.start steps) e)
+    refutes_denied : {chain : Chain} {goal c denial proved : ℕ} → a ≡ aim.Goal chain goal → slice_get encoded.goal_clauses goal ≡ Some (Some c) → slice_get plan denial ≡ Some (part.Denial c) → slice_get plan proved ≡ Some part.Conclusion → Says part.Refutation (refute_line name (denial ∷ proved ∷ []))
+    refutes_encoded : {chain : Chain} {goal proved : ℕ} → a ≡ aim.Goal chain goal → slice_get encoded.goal_clauses goal ≡ Some None → slice_get plan proved ≡ Some part.Conclusion → Says part.Refutation (refute_line name (proved ∷ []))
 
-module _ (problem : Problem) (encoded : Encoded) (facts : List Fact) (conclusion : Chain) (goal : ℕ) (plan : List Part) where
+module _ (problem : Problem) (encoded : Encoded) (facts : List Fact) (a : Aim) (plan : List Part) where
   -- the line says what its part does, with its variables numbered by first occurrence
   pub record IsWritten (k : ℕ) (p : Part) (line : Line) : Type 0 where
     pub said : Line
-    pub says : Says problem encoded facts conclusion goal plan (line_name k) p said
+    pub says : Says problem encoded facts a plan (line_name k) p said
     pub line_is : line ≡ renumbered_line said
 
   -- the lines of these parts, where the first has this number

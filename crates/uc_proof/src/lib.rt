@@ -1,7 +1,8 @@
 //! Extraction of proofs: from the chains of facts and of a goal to a proof whose lines are right, with the ancestors of its
-//! refutation alone.
+//! refutation alone; and from the chains of facts to their derivation.
 #![tactic(auto)]
 
+mod aim;
 mod conclusion;
 mod extraction;
 mod files;
@@ -13,5 +14,5 @@ mod plan;
 mod renumbering;
 mod steps;
 
-pub use extraction::{Extracted, extract_from};
+pub use extraction::{Extracted, extract_facts_from, extract_from};
 pub use laws::{extraction_is_right, one_extraction};

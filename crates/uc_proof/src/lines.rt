@@ -3,14 +3,17 @@
 ghost use Rattle.std.specs.Prelude.{◌≡◌, ◌<◌, ◌+◌, ◌^◌, ◌∷◌, [], ℕ, List, map, Some, slice_get, IfOk};
 ghost use Rattle.uc_term.specs.declared.equation.Equation.{Equation};
 ghost use Rattle.uc_clause.specs.declared.clause.Sourced.{Sourced};
-ghost use Rattle.uc_fact.specs.declared.chain.Chain.{Chain};
+ghost use Rattle.uc_fact.specs.declared.chain.Chain.{Chain as AnyChain};
 ghost use Rattle.uc_fact.specs.declared.fact.Fact.{Fact};
 ghost use Rattle.uc_fact.specs.Live.{equation_of};
 ghost use Rattle.uc_problem.specs.declared.problem.Problem.{Problem};
+ghost use Rattle.uc_proof.specs.declared.aim.Aim.{Aim as AnyAim};
+ghost use Rattle.uc_proof.specs.declared.aim.Aim.TheVariants as aim;
 ghost use Rattle.uc_proof.specs.declared.part.Part.TheVariants as part;
 ghost use Rattle.uc_proof.specs.Written.{line_name, clause_line, equation_line, refute_line, Says};
-ghost use Rattle.uc_proof.specs.Making.{IsAmong, IsPartReady, IsSourceReady, IsGoalReady, IsReady, IsChainLine};
+ghost use Rattle.uc_proof.specs.Making.{IsAmong, IsPartReady, IsSourceReady, IsGoalReady, IsConclusionReady, IsRefutationReady, IsReady, IsChainLine};
 
+use crate::aim::Aim;
 use crate::part::Part;
 use crate::plan::Plan;
 use crate::steps::chain_source;
@@ -29,22 +32,21 @@ pub(crate) fn line_of(
     problem: &Problem,
     encoded: &Encoded,
     facts: &[&Fact],
-    conclusion: &Chain,
-    goal: u32,
+    aim: &Aim,
     number: usize,
     part: Part,
 ) -> Result<Line, AllocError>
     requires few { number < 2 ^ 32 }
-    requires ready { IsPartReady problem.now encoded.now (map (λ f. f.now) facts.now) conclusion.now goal plan.now part }
-    ensures { IfOk result (Says problem.now encoded.now (map (λ f. f.now) facts.now) conclusion.now goal plan.now (line_name number) part) }
+    requires ready { IsPartReady problem.now encoded.now (map (λ f. f.now) facts.now) aim.now plan.now part }
+    ensures { IfOk result (Says problem.now encoded.now (map (λ f. f.now) facts.now) aim.now plan.now (line_name number) part) }
 {
     let name = line_name(alloc, number)?;
     match part {
         Part::Axiom(axiom) => axiom_line(alloc, plan, problem, encoded, axiom, name),
         Part::Denial(clause) => denial_line(alloc, problem, clause, name),
         Part::Fact(fact) => fact_line(alloc, plan, facts[fact as usize], name),
-        Part::Conclusion => conclusion_line(alloc, plan, encoded, conclusion, goal, name),
-        Part::Refutation => refutation_line(alloc, plan, encoded, goal, name),
+        Part::Conclusion => conclusion_line(alloc, plan, encoded, aim, name),
+        Part::Refutation => refutation_line(alloc, plan, encoded, aim, name),
     }
 }
 
@@ -69,7 +71,7 @@ fn axiom_line(
     name: Text,
 ) -> Result<Line, AllocError>
     requires { (e : Equation) × (slice_get encoded.now.axioms number ≡ Some e) × IsSourceReady problem.now plan.now (slice_get encoded.now.sources number) }
-    ensures { (facts : List Fact) (conclusion : Chain) (goal : ℕ) → IfOk result (Says problem.now encoded.now facts conclusion goal plan.now name (part.Axiom number)) }
+    ensures { (facts : List Fact) (a : AnyAim) → IfOk result (Says problem.now encoded.now facts a plan.now name (part.Axiom number)) }
 {
     let equation = &encoded.axioms.as_slice()[number as usize];
     match encoded.sources.as_slice()[number as usize] {
@@ -125,18 +127,35 @@ fn fact_line(alloc: Global, plan: &Plan, fact: &Fact, name: Text) -> Result<Line
     line(alloc, name, source, &fact.left, &fact.right)
 }
 
+// The line of a goal's chain.
 fn conclusion_line(
     alloc: Global,
     plan: &Plan,
     encoded: &Encoded,
-    conclusion: &Chain,
+    aim: &Aim,
+    name: Text,
+) -> Result<Line, AllocError>
+    requires { IsConclusionReady encoded.now plan.now aim.now }
+    ensures { (problem : Problem) (facts : List Fact) → IfOk result (Says problem encoded.now facts aim.now plan.now name part.Conclusion) }
+{
+    match aim {
+        Aim::Goal { chain, goal } => goal_line(alloc, plan, encoded, chain, *goal, name),
+        Aim::Facts(_) => unreachable!(),
+    }
+}
+
+fn goal_line(
+    alloc: Global,
+    plan: &Plan,
+    encoded: &Encoded,
+    chain: &Chain,
     goal: u32,
     name: Text,
 ) -> Result<Line, AllocError>
-    requires { (e : Equation) × (slice_get encoded.now.goals goal ≡ Some e) × IsReady plan.now conclusion.now }
-    ensures { (e : Equation) → slice_get encoded.now.goals goal ≡ Some e → IfOk result (IsChainLine plan.now conclusion.now name e) }
+    requires { (e : Equation) × (slice_get encoded.now.goals goal ≡ Some e) × IsReady plan.now chain.now }
+    ensures { (e : Equation) → slice_get encoded.now.goals goal ≡ Some e → IfOk result (IsChainLine plan.now chain.now name e) }
 {
-    let source = chain_source(alloc, plan, conclusion)?;
+    let source = chain_source(alloc, plan, chain)?;
     equation_line(
         alloc,
         name,
@@ -174,7 +193,24 @@ fn line(
     })
 }
 
+// The line of a goal's refutation.
 fn refutation_line(
+    alloc: Global,
+    plan: &Plan,
+    encoded: &Encoded,
+    aim: &Aim,
+    name: Text,
+) -> Result<Line, AllocError>
+    requires { IsRefutationReady encoded.now plan.now aim.now }
+    ensures { (problem : Problem) (facts : List Fact) → IfOk result (Says problem encoded.now facts aim.now plan.now name part.Refutation) }
+{
+    match aim {
+        Aim::Goal { goal, .. } => refuted_line(alloc, plan, encoded, *goal, name),
+        Aim::Facts(_) => unreachable!(),
+    }
+}
+
+fn refuted_line(
     alloc: Global,
     plan: &Plan,
     encoded: &Encoded,
@@ -182,7 +218,7 @@ fn refutation_line(
     name: Text,
 ) -> Result<Line, AllocError>
     requires { IsAmong part.Conclusion plan.now × IsGoalReady plan.now (slice_get encoded.now.goal_clauses goal) }
-    ensures { (problem : Problem) (facts : List Fact) (conclusion : Chain) → IfOk result (Says problem encoded.now facts conclusion goal plan.now name part.Refutation) }
+    ensures { (problem : Problem) (facts : List Fact) (chain : AnyChain) → IfOk result (Says problem encoded.now facts (aim.Goal chain goal) plan.now name part.Refutation) }
 {
     let chain = plan.number(Part::Conclusion);
     match encoded.goal_clauses.as_slice()[goal as usize] {

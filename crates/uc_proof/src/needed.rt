@@ -1,18 +1,19 @@
-//! What a proof needs.
+//! What an aim needs.
 
 ghost use Rattle.std.specs.Prelude.{◌≡◌, ◌<◌, ◌^◌, ◌↔◌, ◌⊎◌, [], map, List, ℕ, Some, None, IsTrue, OnOk, IfOk, length, slice_get};
-ghost use Rattle.uc_fact.specs.declared.chain.Chain.{Chain};
+ghost use Rattle.uc_proof.specs.declared.aim.Aim.{Aim};
 ghost use Rattle.uc_proof.specs.declared.part.Part.{Part};
 ghost use Rattle.uc_proof.specs.declared.part.Part.TheVariants as part;
 ghost use Rattle.uc_proof.specs.Needed.{IsNeeded};
 ghost use Rattle.uc_proof.specs.Parts.{part_of};
-ghost use Rattle.uc_proof.specs.Making.{IsAmong, IsNamedPart, IsUsedPart, NameEarlier, IsDeniedFrom, IsGoalOf, IsClauseOf};
+ghost use Rattle.uc_proof.specs.Making.{IsAmong, IsNamedPart, IsUsedPart, IsFactPart, IsAimedPart, IsGoalPart, IsWithin, NameEarlier, IsDeniedFrom, IsGoalOf, IsClauseOf};
 
+use crate::aim::Aim;
 use crate::part::Part;
 use indexmap::IndexSet;
 use std::alloc::{AllocError, Global};
 use std::marker::Model;
-use uc_fact::{By, Chain, Fact, Step};
+use uc_fact::{By, Fact, Step};
 use uc_problem::{Encoded, Source};
 
 // The parts for which a proof has lines, in no order that matters.
@@ -54,36 +55,53 @@ impl Needed {
     }
 }
 
-/// The parts that the proof of a goal needs. Facts name earlier facts alone, so one pass from the last fact to the first finds
+/// The parts that an aim needs. Facts name earlier facts alone, so one pass from the last fact to the first finds
 /// all that are used: it takes as many turns as there are facts, and as many as the used chains have steps.
 pub(crate) fn needed_for(
     alloc: Global,
     facts: &[&Fact],
-    conclusion: &Chain,
+    aim: &Aim,
     encoded: &Encoded,
-    goal: u32,
 ) -> Result<Needed, AllocError>
     requires few { length facts.now < 2 ^ 32 }
     requires sources { length encoded.now.sources < 2 ^ 32 }
     requires earlier { NameEarlier (map (λ f. f.now) facts.now) }
-    requires goal { goal < length encoded.now.goal_clauses }
-    ensures { IfOk result (λ parts. (p : Part) → IsAmong p parts ↔ IsNeeded encoded.now (map (λ f. f.now) facts.now) conclusion.now goal p) }
+    requires goal { IsWithin encoded.now aim.now }
+    ensures { IfOk result (λ parts. (p : Part) → IsAmong p parts ↔ IsNeeded encoded.now (map (λ f. f.now) facts.now) aim.now p) }
 {
     let mut needed = Needed::new(alloc);
-    add_named(&mut needed, conclusion.steps.as_slice())?;
+    add_aimed(&mut needed, aim)?;
     add_used(&mut needed, facts)?;
     add_denied(&mut needed, encoded.sources.as_slice())?;
-    add_goal(&mut needed, encoded.goal_clauses.as_slice()[goal as usize])?;
-    needed.add(Part::Conclusion)?;
-    needed.add(Part::Refutation)?;
+    add_goal(&mut needed, aim, encoded)?;
     Ok(needed)
+}
+
+// What the aim names.
+fn add_aimed(needed: &mut Needed, aim: &Aim) -> Result<(), AllocError>
+    ensures { OnOk result ((p : Part) → IsAmong p needed.new ↔ (IsAmong p needed.old ⊎ IsAimedPart aim.now p)) }
+{
+    match aim {
+        Aim::Goal { chain, .. } => add_named(needed, chain.steps.as_slice()),
+        Aim::Facts(live) => add_facts(needed, live.as_slice()),
+    }
+}
+
+// Facts.
+fn add_facts(needed: &mut Needed, live: &[u32]) -> Result<(), AllocError>
+    ensures { OnOk result ((p : Part) → IsAmong p needed.new ↔ (IsAmong p needed.old ⊎ IsFactPart live.now p)) }
+{
+    for number in live {
+        needed.add(Part::Fact(*number))?;
+    }
+    Ok(())
 }
 
 // What the chains of used facts name, from the last fact on.
 fn add_used(needed: &mut Needed, facts: &[&Fact]) -> Result<(), AllocError>
     requires few { length facts.now < 2 ^ 32 }
     requires earlier { NameEarlier (map (λ f. f.now) facts.now) }
-    ensures { OnOk result ((conclusion : Chain) → ((p : Part) → IsAmong p needed.old ↔ IsNamedPart conclusion.steps p) → (p : Part) → IsAmong p needed.new ↔ IsUsedPart (map (λ f. f.now) facts.now) conclusion p) }
+    ensures { OnOk result ((a : Aim) → ((p : Part) → IsAmong p needed.old ↔ IsAimedPart a p) → (p : Part) → IsAmong p needed.new ↔ IsUsedPart (map (λ f. f.now) facts.now) a p) }
 {
     let mut number = facts.len();
     while number > 0 {
@@ -140,8 +158,23 @@ fn add_source(needed: &mut Needed, number: u32, source: Source) -> Result<(), Al
     }
 }
 
+// Of a goal its clause, where it is one of the problem's, its chain and the refutation.
+fn add_goal(needed: &mut Needed, aim: &Aim, encoded: &Encoded) -> Result<(), AllocError>
+    requires { IsWithin encoded.now aim.now }
+    ensures { OnOk result ((p : Part) → IsAmong p needed.new ↔ (IsAmong p needed.old ⊎ IsGoalPart encoded.now aim.now p)) }
+{
+    match aim {
+        Aim::Goal { goal, .. } => {
+            add_clause(needed, encoded.goal_clauses.as_slice()[*goal as usize])?;
+            needed.add(Part::Conclusion)?;
+            needed.add(Part::Refutation)
+        }
+        Aim::Facts(_) => Ok(()),
+    }
+}
+
 // The clause of the goal, where it is one of the problem's.
-fn add_goal(needed: &mut Needed, clause: Option<u32>) -> Result<(), AllocError>
+fn add_clause(needed: &mut Needed, clause: Option<u32>) -> Result<(), AllocError>
     ensures { OnOk result ((p : Part) → IsAmong p needed.new ↔ (IsAmong p needed.old ⊎ IsClauseOf clause p)) }
 {
     match clause {

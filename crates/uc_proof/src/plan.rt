@@ -5,7 +5,8 @@ ghost use Rattle.uc_problem.specs.declared.problem.Source.{Source};
 ghost use Rattle.uc_proof.specs.declared.part.Part.{Part};
 ghost use Rattle.uc_proof.specs.declared.part.Part.TheVariants as part;
 ghost use Rattle.uc_proof.specs.Parts.{is_clause, is_encoding, axioms_where, facts_from, all_parts, Selects};
-ghost use Rattle.uc_proof.specs.Making.{IsAmong, Adds, AreNumbered};
+ghost use Rattle.uc_proof.specs.Extracted.{AreNumbersOf};
+ghost use Rattle.uc_proof.specs.Making.{IsAmong, Adds, AreNumbered, HaveParts};
 
 use crate::needed::Needed;
 use crate::part::Part;
@@ -13,6 +14,7 @@ use indexmap::IndexMap;
 use std::alloc::{AllocError, Global};
 use std::marker::Model;
 use uc_problem::{Encoded, Problem, Source};
+use uc_term::Seq;
 
 // The parts of a proof in the order of their lines, and the number of each part's line.
 #[derive(Drop)]
@@ -55,6 +57,18 @@ impl Plan {
         ensures { result.now ≡ self.now }
     {
         self.parts.as_slice()
+    }
+
+    /// The number of each fact's line.
+    pub(crate) fn numbers_of(&self, alloc: Global, facts: &[u32]) -> Result<Seq<u32>, AllocError>
+        requires { HaveParts self.now facts.now }
+        ensures { IfOk result (AreNumbersOf self.now facts.now) }
+    {
+        let mut numbers = Vec::new(alloc);
+        for fact in facts {
+            numbers.push(self.number(Part::Fact(*fact)))?;
+        }
+        Ok(Seq::from_vec(numbers))
     }
 
     /// The number of the part's line.

@@ -1,77 +1,37 @@
-use Rattle.std.proofs.Common.{◌≡◌, ◌+◌, ◌<◌, ◌≤◌, ◌∷◌, ◌++◌, [], ℕ, List, length, map, take, get_or, slice_get, Some, refl, sym, ap, ◌∙◌, subst, arith}
-use Rattle.std.proofs.lemmas.List.{length-map}
-use Rattle.std.proofs.lemmas.Option.{slice_get-get_or}
-use Rattle.uc_check.specs.declared.proof.Line.{Line}
+use Rattle.std.proofs.Common.{List, map, sym, subst}
 use Rattle.uc_fact.specs.declared.chain.Chain.{Chain}
 use Rattle.uc_fact.specs.declared.fact.Fact.{Fact}
-use Rattle.uc_problem.specs.declared.problem.Problem.{Problem}
-use Rattle.uc_problem.specs.declared.problem.Encoded.{Encoded}
-use Rattle.uc_proof.specs.declared.part.Part.{Part}
-use Rattle.uc_tstp.specs.Printable.{renumbered_line}
-use Rattle.uc_proof.specs.Parts.{all_parts}
-use Rattle.uc_proof.specs.Files.{part_file}
-use Rattle.uc_proof.specs.Making.{IsAmong}
-use Rattle.uc_proof.specs.Written.{line_name, Says, AreWritten}
-use Rattle.uc_proof.proofs.Among.{selected_length}
-use Rattle.uc_proof.proofs.Adding.{parts_count}
-use Rattle.uc_proof.proofs.Sources.{goal_asked}
-use Rattle.uc_proof.proofs.Ready.{names_earlier, goal_within}
+use Rattle.uc_proof.specs.declared.aim.Aim.TheVariants as aim
+use Rattle.uc_proof.specs.Chains.{conclusion_of}
+use Rattle.uc_proof.specs.Making.{IsReached}
+use Rattle.uc_proof.specs.Extracted.{IsDerivation}
+use Rattle.uc_proof.proofs.Reversal.{goal_reached}
 use Rattle.uc_proof.proofs.Right.{all_right, refutes_last}
-use Rattle.uc_proof.proofs.InOrder.{extracted_in_order}
-use Rattle.uc_proof.proofs.Writing.{written_on}
-use Rattle.uc_proof.proofs.Making.{part_ready, made}
+use Rattle.uc_proof.proofs.InOrder.{derivation_in_order}
 use Rattle.uc_proof.proofs.extraction.extract_from.Goals as goal
 
-planned_at : (plan parts : List Part) (i : ℕ) (d : Part) → parts ≡ plan → i < length parts → slice_get plan i ≡ Some (get_or parts i d)
-planned_at plan parts i d e h = ap (λ l. slice_get l i) (sym e) ∙ slice_get-get_or parts i d h
-
-all_written : (problem : Problem) (encoded : Encoded) (facts : List Fact) (conclusion : Chain) (goal : ℕ) (plan parts : List Part) (i : ℕ) (lines all : List Line) → parts ≡ plan → all ≡ lines → AreWritten problem encoded facts conclusion goal parts 0 (take i parts) lines → AreWritten problem encoded facts conclusion goal plan 0 (take i plan) all
-all_written problem encoded facts conclusion goal plan parts i lines all e q w =
-    subst (λ (ls : List Line). AreWritten problem encoded facts conclusion goal plan 0 (take i plan) ls) (sym q) (subst (λ (ps : List Part). AreWritten problem encoded facts conclusion goal ps 0 (take i ps) lines) e w)
-
-one_more_written : (problem : Problem) (encoded : Encoded) (facts : List Fact) (conclusion : Chain) (goal : ℕ) (plan parts : List Part) (i : ℕ) (p d : Part) (lines next : List Line) (said line : Line) → parts ≡ plan → i < length parts → p ≡ get_or parts i d → AreWritten problem encoded facts conclusion goal parts 0 (take i parts) lines → Says problem encoded facts conclusion goal plan (line_name i) p said → line ≡ renumbered_line said → next ≡ lines ++ line ∷ [] → AreWritten problem encoded facts conclusion goal parts 0 (take (i + 1) parts) next
-one_more_written problem encoded facts conclusion goal plan parts i p d lines next said line e h is w says q pushed =
-    written_on problem encoded facts conclusion goal parts parts i p d lines next line h is w
-    (record { said = said; says = subst (λ (ps : List Part). Says problem encoded facts conclusion goal ps (line_name i) p said) (sym e) says; line_is = q }) pushed
-
-pub needed_for-requires-clause-earlier : goal.needed_for-requires-clause-earlier
-needed_for-requires-clause-earlier c = names_earlier c.args.encoded.now.axioms (map (λ f. f.now) c.args.facts.now) c.requires.facts
-
-pub needed_for-requires-clause-goal : goal.needed_for-requires-clause-goal
-needed_for-requires-clause-goal c =
-    goal_within c.args.problem.now c.args.encoded.now c.args.goal c.requires.goal.equation
-    (goal_asked c.args.problem.now c.args.encoded.now c.requires.encoding c.args.goal c.requires.goal.equation c.requires.goal.equation_is)
-
-pub line_of-requires-clause-few : goal.line_of-requires-clause-few
-line_of-requires-clause-few c =
-    let few = selected_length (λ p. IsAmong p c.in_ok-needed.needed) (all_parts c.args.problem.now c.args.encoded.now (length c.args.facts.now)) c.in_ok-plan.plan (length c.args.encoded.now.sources + length c.args.problem.now.goals + length c.args.facts.now + 2) c.in_ok-plan.ensures (parts_count c.args.encoded.now.sources c.args.problem.now.goals (length c.args.facts.now)) in
-    let most = c.requires.few in
-    let within = c.loop-number-test.true in
-    let same : length c.parts-parts.result.now ≡ length c.in_ok-plan.plan = ap length c.parts-parts.ensures in
-    omega arith
-
-pub line_of-requires-clause-ready : goal.line_of-requires-clause-ready
-line_of-requires-clause-ready c =
-    part_ready c.args.problem.now c.args.encoded.now (map (λ f. f.now) c.args.facts.now) c.args.left.now c.args.right.now c.args.goal c.in_ok-conclusion.conclusion c.in_ok-conclusion.ensures c.in_ok-needed.needed c.in_ok-plan.plan (length c.args.facts.now) (sym (length-map c.args.facts.now (λ f. f.now)))
-    c.in_ok-needed.ensures c.in_ok-plan.ensures c.requires.encoding c.requires.facts c.requires.goal c.loop-number.number _ (planned_at c.in_ok-plan.plan c.parts-parts.result.now c.loop-number.number _ c.parts-parts.ensures c.loop-number-test.true)
-
-pub loop-number-preserved : goal.loop-number-preserved
-loop-number-preserved c =
-    one_more_written c.args.problem.now c.args.encoded.now (map (λ f. f.now) c.args.facts.now) c.in_ok-conclusion.conclusion c.args.goal c.in_ok-plan.plan c.parts-parts.result.now c.loop-number.number _ _ c.loop-number.lines.items c.push.new.self.items c.in_ok-line.line c.in_ok-renumbered.field-0
-    c.parts-parts.ensures c.loop-number-test.true refl c.loop-number.invariant c.in_ok-line.ensures c.in_ok-renumbered.ensures c.in_ok-push.ensures.items
+pub derivation-requires-clause-reached : goal.derivation-requires-clause-reached
+derivation-requires-clause-reached c =
+    let facts : List Fact = map (λ f. f.now) c.args.facts.now in
+    subst (λ (way : Chain). IsReached c.args.encoded.now facts (aim.Goal way c.args.goal)) (sym c.in_ok-chain.ensures) (goal_reached c.args.encoded.now facts c.args.left.now c.args.right.now c.args.goal c.requires.goal)
 
 pub returns-clause-extracted : goal.returns-clause-extracted
 returns-clause-extracted c =
-    made c.args.problem.now c.args.encoded.now (map (λ f. f.now) c.args.facts.now) c.args.left.now c.args.right.now c.args.goal c.in_ok-conclusion.conclusion c.in_ok-conclusion.ensures c.in_ok-needed.needed c.in_ok-plan.plan (length c.args.facts.now) (sym (length-map c.args.facts.now (λ f. f.now)))
-    c.in_ok-needed.ensures c.in_ok-plan.ensures c.loop-number.number c.from_vec.result c.in_ok-files.field-0 (subst (λ (ps : List Part). length ps ≤ c.loop-number.number) c.parts-parts.ensures c.loop-number-test.false)
-    (all_written c.args.problem.now c.args.encoded.now (map (λ f. f.now) c.args.facts.now) c.in_ok-conclusion.conclusion c.args.goal c.in_ok-plan.plan c.parts-parts.result.now c.loop-number.number c.loop-number.lines.items c.from_vec.result c.parts-parts.ensures c.from_vec.ensures c.loop-number.invariant)
-    (c.in_ok-files.ensures ∙ ap (map (part_file c.args.problem.now c.args.encoded.now)) c.parts-parts.ensures)
+    let facts : List Fact = map (λ f. f.now) c.args.facts.now in
+    subst (λ (way : Chain). IsDerivation c.args.problem.now c.args.encoded.now facts (aim.Goal way c.args.goal) c.in_ok-extracted.extracted.proof.lines c.in_ok-extracted.extracted.files) c.in_ok-chain.ensures c.in_ok-extracted.ensures.0
 
 pub returns-clause-right : goal.returns-clause-right
-returns-clause-right c = all_right c.args.problem.now c.args.encoded.now (map (λ f. f.now) c.args.facts.now) c.args.left.now c.args.right.now c.args.goal c.from_vec.result c.in_ok-files.field-0 c.requires.encoding c.requires.facts c.requires.goal (returns-clause-extracted c)
+returns-clause-right c =
+    let facts : List Fact = map (λ f. f.now) c.args.facts.now in
+    all_right c.args.problem.now c.args.encoded.now facts (aim.Goal (conclusion_of c.args.left.now c.args.right.now) c.args.goal) c.in_ok-extracted.extracted.proof.lines c.in_ok-extracted.extracted.files c.requires.encoding (returns-clause-extracted c) c.requires.facts
+    (goal_reached c.args.encoded.now facts c.args.left.now c.args.right.now c.args.goal c.requires.goal)
 
 pub returns-clause-refutes : goal.returns-clause-refutes
-returns-clause-refutes c = refutes_last c.args.problem.now c.args.encoded.now (map (λ f. f.now) c.args.facts.now) c.args.left.now c.args.right.now c.args.goal c.from_vec.result c.in_ok-files.field-0 c.requires.encoding c.requires.facts c.requires.goal (returns-clause-extracted c)
+returns-clause-refutes c =
+    let facts : List Fact = map (λ f. f.now) c.args.facts.now in
+    refutes_last c.args.problem.now c.args.encoded.now facts (aim.Goal (conclusion_of c.args.left.now c.args.right.now) c.args.goal) c.in_ok-extracted.extracted.proof.lines c.in_ok-extracted.extracted.files c.requires.encoding (returns-clause-extracted c) tt
 
 pub returns-clause-in_order : goal.returns-clause-in_order
-returns-clause-in_order c = extracted_in_order c.args.problem.now c.args.encoded.now (map (λ f. f.now) c.args.facts.now) c.args.left.now c.args.right.now c.args.goal c.from_vec.result c.in_ok-files.field-0 (returns-clause-extracted c)
+returns-clause-in_order c =
+    let facts : List Fact = map (λ f. f.now) c.args.facts.now in
+    derivation_in_order c.args.problem.now c.args.encoded.now facts (aim.Goal (conclusion_of c.args.left.now c.args.right.now) c.args.goal) c.in_ok-extracted.extracted.proof.lines c.in_ok-extracted.extracted.files (returns-clause-extracted c)

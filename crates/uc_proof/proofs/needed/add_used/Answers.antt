@@ -17,7 +17,7 @@ loop-number-preserved c =
     )
 
 pub returns : goal.returns
-returns c conclusion named p =
+returns c aimed named p =
     let none = c.loop-number-test.false in
     let e : c.loop-number.number ≡ 0 = omega arith in
-    uses_all (map (λ f. f.now) c.args.facts.now) c.args.needed.now c.loop-number.needed (subst (λ (n : ℕ). Uses (map (λ f. f.now) c.args.facts.now) c.args.needed.now n c.loop-number.needed) e c.loop-number.invariant.1) conclusion named p
+    uses_all (map (λ f. f.now) c.args.facts.now) c.args.needed.now c.loop-number.needed (subst (λ (n : ℕ). Uses (map (λ f. f.now) c.args.facts.now) c.args.needed.now n c.loop-number.needed) e c.loop-number.invariant.1) aimed named p
