@@ -121,7 +121,7 @@ module _ (m : Meaning) where
         let top = renamed_over (place_of names) (peak o) (unified_over outer.from outer_from) in
         (l, r, subst (ChainHas m Any) (sym by.numbered.chain_is) (l, (top, (r, tt))))
 
-  pair_over : (a b : Equation) (overlap : Overlap) (formation : Formation) → IsEquationOver a → IsEquationOver b → IsPairOf a b overlap formation → FormsOver formation
+  pub pair_over : (a b : Equation) (overlap : Overlap) (formation : Formation) → IsEquationOver a → IsEquationOver b → IsPairOf a b overlap formation → FormsOver formation
   pair_over a b overlap TooLarge x y f = tt
   pair_over a b overlap (Forms left right chain) x y (forms_pair o fits by) =
       formed_over (read_from overlap.outer overlap.outer_side a) (read_from overlap.inner overlap.inner_side b) overlap.position.0 o

@@ -1,8 +1,10 @@
 -- The end of a task that is out alone.
-use Rattle.std.proofs.Common.{◌≡◌, ℕ, ◌+◌, ◌-◌, ◌^◌, ◌<◌, List, [], ◌∷◌, length, take, min, Some, sym, ap, ◌∙◌, subst}
+use Rattle.std.proofs.Common.{◌≡◌, ℕ, ◌+◌, ◌-◌, ◌^◌, ◌<◌, List, [], ◌∷◌, length, take, min, Some, refl, sym, ap, ◌∙◌, subst}
+use Rattle.std.proofs.Math.Seq.{take-length}
 use Rattle.uc_order.specs.Laws.{Meaning}
 use Rattle.uc_term.specs.declared.equation.Equation.{Equation}
 use Rattle.uc_shelf.specs.declared.entry.Entry.{Entry}
+use Rattle.uc_shelf.specs.Sights.{Sight}
 use Rattle.uc_machine.specs.declared.task.Job.{Job}
 use Rattle.uc_machine.specs.State.{Opening, State, Out, out_at}
 use Rattle.uc_machine.specs.Effects.{reclaims}
@@ -15,7 +17,7 @@ use Rattle.uc_book.specs.declared.answer.Receipt.{Receipt}
 use Rattle.uc_book.specs.declared.answer.CommitFault.{CommitFault}
 use Rattle.uc_book.specs.declared.answer.CommitFault.TheVariants.{NotOut, NoMemory}
 use Rattle.uc_book.specs.Openings.{PassView}
-use Rattle.uc_book.specs.Answers.{IsRight, IsCommitted, IsReclaimed, IsNotOutTo}
+use Rattle.uc_book.specs.Answers.{IsRight, IsCommitted, IsRefused, IsReclaimed, IsNotOutTo}
 use Rattle.uc_search.specs.declared.working.Turn.TheVariants.{Ends}
 use Rattle.uc_search.specs.declared.working.Ended.TheVariants.{NoMemory as LacksMemory}
 use Rattle.uc_search.specs.Working.{IsDoneFor, task_out, Counts, CommitsResult, EndsTask, is_put_back}
@@ -47,6 +49,16 @@ counted o w t d s u receipt old new e same is c few =
     let worker : c.task.worker ≡ old.worker = ap (λ (x : Out). x.worker) (committed_is o w t d s u receipt e c) ∙ same in
     let made : commits_by old.worker u.history ≡ commits_by old.worker s.history + 1 = subst (λ v. commits_by v u.history ≡ commits_by v s.history + 1) worker (commit_commits o c.task d.found s u c.commits) in
     record { more = 1; made = made; counted = ap (λ (p : PassView). p.commits) is; few = few old.worker }
+
+-- the result of the task that is out, over all entries, isn't one of a task that isn't out
+pub is_out_for : {A : Type 0} (w : ℕ) (t : Task) (d : Done) (s : State) (fault : CommitFault) (n : ℕ) → s.out ≡ task_out w t ∷ [] → IsDoneFor t d → t.front.entries ≡ s.entries → IsRefused s w d fault → fault ≡ NotOut n → A
+is_out_for w t d s NoMemory n e is whole h f = absurd cc
+is_out_for w t d s (NotOut k) n e is whole h f = absurd (h.1 (task_out w t) (record {
+  at = subst (λ i. out_at i s.out ≡ Some (task_out w t)) (sym is.ticket) (at_one (task_out w t) s.out e);
+  worker = refl;
+  job_is = sym is.job;
+  front_is = subst (λ es. take (length t.front.entries) es ≡ d.front.entries) whole (take-length t.front.entries ∙ ap (λ (f : Sight). f.entries) (sym is.front));
+}))
 
 -- the only task that is out is put back
 pub put_back_is : (s u : State) (w ticket : ℕ) (t : Out) → s.out ≡ t ∷ [] → IsReclaimed s w ticket u → u ≡ reclaims t s

@@ -116,8 +116,9 @@ fn round<R: Threads + Wait + Sync, O: Order + Sync>(
     }
 }
 
-/// Makes the final pass over a drained book, by the threads of so many workers: audits what is missing, or closes the book. None
-/// where no verdict stands then. It counts the final pass. Where memory is refused, the first of the equations that are missing may have been audited.
+/// Makes the final pass over a drained book, by the threads of so many workers, and counts it. Then it audits the missing
+/// equations, or closes the book. Returns None where no verdict stands then. On an error the first missing equations may have
+/// been audited.
 pub fn end_round<R: Threads + Wait + Sync, O: Order + Sync>(
     rt: &R,
     alloc: Global,

@@ -11,7 +11,7 @@ ghost use Rattle.uc_search.specs.Working.{Counts, IsSamePass, IsToCompute, EndsA
 use crate::computing::compute;
 use std::alloc::{AllocError, Global};
 use std::sync::Wait;
-use uc_book::{Book, Drawn, Pass, Task};
+use uc_book::{Book, CommitFault, Drawn, Pass, Task};
 use uc_order::Order;
 use uc_problem::Encoded;
 use uc_shelf::Shelf;
@@ -118,6 +118,7 @@ fn end_task<R: Wait, O: Order>(
     requires shelf { book.old.opening.shelf ≡ shelf.now }
     requires order { book.old.order ≡ order.now }
     requires task { IsToCompute (O.meaning book.old.order) book.old.opening task.now }
+    requires front { task.now.front ≡ book.old.front }
     requires out { book.old.state.out ≡ task_out pass.old.worker task.now ∷ [] }
     ensures turned { EndsTask (O.meaning book.old.order) (opening_of book.old.opening) (task_out pass.old.worker task.now) book.old.state result book.new.state }
     ensures none_out { book.new.state.out ≡ [] }
@@ -135,7 +136,8 @@ fn end_task<R: Wait, O: Order>(
     }
 }
 
-/// Computes the task that is out and commits its result.
+/// Computes the task that is out and commits its result. It fails for want of memory alone, since the book takes the result of
+/// a task that is out.
 fn finish<R: Wait, O: Order>(
     rt: &R,
     alloc: Global,
@@ -151,6 +153,7 @@ fn finish<R: Wait, O: Order>(
     requires shelf { book.old.opening.shelf ≡ shelf.now }
     requires order { book.old.order ≡ order.now }
     requires task { IsToCompute (O.meaning book.old.order) book.old.opening task.now }
+    requires front { task.now.front ≡ book.old.front }
     requires out { book.old.state.out ≡ task_out pass.old.worker task.now ∷ [] }
     ensures commits { OnOk result (CommitsResult (O.meaning book.old.order) (opening_of book.old.opening) (task_out pass.old.worker task.now) book.old.state book.new.state) }
     ensures none_out { OnOk result (book.new.state.out ≡ []) }
@@ -159,13 +162,15 @@ fn finish<R: Wait, O: Order>(
     ensures pass { IsSamePass pass.old pass.new }
     ensures count { OnOk result (Counts pass.old pass.new book.old.state book.new.state) }
 {
+    has_front_of_state(book);
     let done = compute(alloc, task, shelf, problem, order)?;
     match book.commit(rt, alloc, pass, done) {
         Ok(_) => {
             has_few_commits(book, pass);
             Ok(())
         }
-        Err(_) => Err(AllocError),
+        Err((_, CommitFault::NoMemory)) => Err(AllocError),
+        Err((_, CommitFault::NotOut(_))) => unreachable!(),
     }
 }
 
@@ -176,6 +181,13 @@ pub(crate) fn has_few_commits<O: Order>(book: &Book<O>, pass: &Pass)
 {
     let _events = book.history().len();
     let _commits = pass.commits();
+}
+
+/// The book's front has the entries of its state.
+fn has_front_of_state<O: Order>(book: &Book<O>)
+    ensures { book.now.front.entries ≡ book.now.state.entries }
+{
+    let _front = book.front();
 }
 
 /// Lets the task that is out wait again.

@@ -44,8 +44,8 @@ impl Model for Front {
 }
 
 impl Shelf {
-    /// Puts one more entry on the shelf, at the end of the front, by one push. For want of memory the entry is dropped and
-    /// the front stays; the shelf may then hold an entry that no front has.
+    /// Puts one more entry on the shelf, at the end of the front, by one push. On an error the entry is dropped and the front is
+    /// unchanged; the shelf may then hold an entry that no front has. Memory is wanting, or all of 2^31 entries would be births.
     pub fn publish<R: Wait>(
         &self,
         rt: &R,

@@ -1,5 +1,5 @@
 -- A search by one worker, and one by several, are searches by so many workers.
-use Rattle.std.proofs.Common.{◌≡◌, ◌≢◌, ℕ, ◌<◌, ◌≤◌, List, ◌∷◌, Option, Some, sum, refl, sym, ap, ◌∙◌, arith}
+use Rattle.std.proofs.Common.{◌≡◌, ◌≢◌, ℕ, ◌<◌, ◌≤◌, List, ◌∷◌, Option, Some, sum, refl, sym, ap, ◌∙◌, inl, inr, arith}
 use Rattle.uc_order.specs.Laws.{Meaning}
 use Rattle.uc_machine.specs.declared.event.Verdict.{Verdict}
 use Rattle.uc_machine.specs.declared.task.Missing.{Missing}
@@ -19,6 +19,7 @@ use Rattle.uc_runs.proofs.Saturating.{saturated}
 use Rattle.uc_worker.specs.Commits.{commits_of, shares_of, AreOfFirst}
 use Rattle.uc_worker.specs.Ends.{HasEnded, IsSearchedBy}
 use Rattle.uc_worker.specs.Hands.{hands_of}
+use Rattle.uc_worker.proofs.AfterVerdict.{nothing_comes}
 use Rattle.uc_worker.proofs.Others.{until_others}
 use Rattle.uc_worker.proofs.Totals.{shares_sum}
 
@@ -86,5 +87,8 @@ by_many m o workers v s shares many h e is total = record {
   verdict = let same : Some h.verdict ≡ Some v = sym h.stands ∙ e in cc;
   shares = sym (ap sum is) ∙ total;
   alone = λ one. absurd (many one);
-  last = λ one. absurd (many one);
+  last = λ x. elim x [
+    | inl one ↦ absurd (many one)
+    | inr none ↦ sym (nothing_comes h.verdict m o h.came.then_ s h.came.verdict none h.came.later)
+  ];
 }

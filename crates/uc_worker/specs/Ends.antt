@@ -1,5 +1,5 @@
 -- How a search ends, whatever the number of its workers.
-use Rattle.std.specs.Prelude.{◌≡◌, ℕ, [], Some, sum}
+use Rattle.std.specs.Prelude.{◌≡◌, ◌⊎◌, ℕ, [], Some, sum}
 use Rattle.uc_order.specs.Laws.{Meaning}
 use Rattle.uc_machine.specs.declared.event.Verdict.{Verdict}
 use Rattle.uc_machine.specs.declared.event.Verdict.TheVariants.{Saturated}
@@ -24,10 +24,10 @@ pub record HasEnded (m : Meaning) (o : Opening) (s : State) : Type 0 where
 
 -- By this order, over a book with this opening, a search by so many workers ended with this verdict in this state, in whatever order
 -- they came to the book. The shares of all hands are the commits of its history. One worker makes the one search that worker 0
--- makes alone, and its verdict comes last.
+-- makes alone. Where there is one worker, or where no task was out when the verdict came, nothing comes after the verdict.
 pub record IsSearchedBy (m : Meaning) (o : Opening) (workers : ℕ) (v : Verdict) (s : State) : Type 0 where
   pub ended : HasEnded m o s
   pub verdict : ended.verdict ≡ v
   pub shares : sum (shares_of (hands_of workers) s.history) ≡ commits_of s.history
   pub alone : workers ≡ 1 → IsSearched m o 0 v s
-  pub last : workers ≡ 1 → ended.came.then_ ≡ s
+  pub last : (workers ≡ 1) ⊎ (ended.came.then_.out ≡ []) → ended.came.then_ ≡ s

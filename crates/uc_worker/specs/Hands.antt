@@ -6,6 +6,7 @@ pub record HandView : Type 0 where
   pub worker : ℕ
   pub commits : ℕ
 
--- One worker alone is worker 0. Of more, each has a hand beside that of worker 0, who ends their rounds.
+-- how many hands so many workers have: worker 0's, who ends each round, and one for each worker with a thread; a single worker is
+-- worker 0
 abbrev pub hands_of : ℕ → ℕ
 hands_of n = cond (n == 1) 1 (n + 1)

@@ -18,7 +18,7 @@ use uc_problem::Encoded;
 use uc_search::search_alone;
 use uc_shelf::Shelf;
 
-/// Holds a book whose search has ended, its verdict, and how many commits each hand made, from that of worker 0 on.
+/// The book of a search that has ended, its verdict, and the number of commits of each hand, worker 0's first.
 #[derive(Drop)]
 pub struct Searched<'a, O: Order> {
     pub book: Book<'a, O>,
@@ -26,9 +26,11 @@ pub struct Searched<'a, O: Order> {
     pub shares: Vec<u64>,
 }
 
-/// Searches with some workers, from the start of the book to its verdict, whatever the order in which they come to the book. One
-/// worker does all in this thread, as worker 0, and passes no gate. Of more, each has a thread of its own and passes the gate
-/// between a draw and its computation; worker 0 ends each round in this thread.
+/// Runs a search by so many workers, from the start of the book to its verdict. The contract holds for every interleaving.
+///
+/// A single worker is worker 0: it works in the calling thread and passes no gate. Several workers have a thread each and the
+/// numbers from 1 on, and pass the gate between a draw and its computation, with no lock held; worker 0 ends each round in the
+/// calling thread.
 pub fn search<'a, O: Order + Sync, G: Gate + Sync, R: Threads + Wait + Sync>(
     rt: &R,
     alloc: Global,

@@ -28,7 +28,7 @@ use uc_shelf::Shelf;
 /// The most workers that have a thread.
 const MOST_WORKERS: usize = 64;
 
-/// The workers of these hands work at once, until each has ended.
+/// Runs the workers of these hands, each in a thread of its own, until all have ended.
 fn together<
     'a,
     O: Order + Sync,
@@ -193,7 +193,7 @@ fn has_ended<'a, O: Order, K: NamesOrder<O>>(held: &Held<'a, O, K>)
     let _ = held.history();
 }
 
-/// The book and its hands under one name: what `search` does.
+/// Makes the rounds over a book and its hands, which have one name.
 fn search_as<
     'a,
     O: Order + Sync,
@@ -242,8 +242,8 @@ fn search_as<
     Ok((held.into_book(), shares))
 }
 
-/// The rounds of some workers, from the start of the book to its verdict. The shares are the commits of each hand, from that of
-/// worker 0 on.
+/// Starts a book and makes rounds by so many workers until it has a verdict. Returns the book and the number of commits of each
+/// hand, worker 0's first.
 pub(crate) fn search_together<'a, O: Order + Sync, G: Gate + Sync, R: Threads + Wait + Sync>(
     rt: &R,
     alloc: Global,
@@ -279,7 +279,7 @@ pub(crate) fn search_together<'a, O: Order + Sync, G: Gate + Sync, R: Threads + 
     )
 }
 
-/// How many hands so many workers have: worker 0 has one beside those of the workers with threads.
+/// Returns how many hands so many workers have: one each, and worker 0's where they are several.
 fn hands_for(workers: u32) -> u32
     requires { (0 < workers) × (workers ≤ 64) }
     ensures value { result ≡ hands_of workers }

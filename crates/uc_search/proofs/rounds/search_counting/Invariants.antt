@@ -1,10 +1,7 @@
-use Rattle.std.proofs.Common.{◌≡◌, ◌≤◌, ℕ, ◌+◌, []}
+use Rattle.std.proofs.Common.{◌≡◌, ◌≤◌, []}
 use Rattle.uc_book.specs.Openings.{opening_of}
 use Rattle.uc_book.specs.Answers.{IsSameBook}
-use Rattle.uc_machine.specs.declared.event.Verdict.{Verdict}
-use Rattle.uc_machine.specs.State.{State}
 use Rattle.uc_search.specs.Working.{Counts, IsSamePass}
-use Rattle.uc_search.specs.Bounds.{counted_on}
 use Rattle.uc_search.proofs.Rounding.{LeadsOn}
 use Rattle.uc_search.proofs.rounds.search_counting.Given as goal
 
