@@ -1,0 +1,6 @@
+pub mod Names
+pub mod Constants
+pub mod Signature
+pub mod Axioms
+pub mod Problems
+pub mod Once
