@@ -39,3 +39,5 @@ pub mod OneReply
 pub mod OneVerdict
 pub mod LeastConstants
 pub mod PrintableSteps
+pub mod OneCertifiedLine
+pub mod CertifiedLines

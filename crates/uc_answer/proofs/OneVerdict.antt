@@ -17,7 +17,9 @@ use Rattle.uc_machine.specs.declared.event.Verdict.{Verdict}
 use Rattle.uc_machine.specs.declared.event.Verdict.TheVariants.{Proved, Saturated}
 use Rattle.uc_machine.specs.State.{State, Target}
 use Rattle.uc_proof.specs.Extracted.{IsExtracted}
-use Rattle.uc_proof.proofs.Once.{extracted_once}
+use Rattle.uc_proof.specs.declared.aim.Aim.TheVariants as aim
+use Rattle.uc_proof.specs.Chains.{conclusion_of}
+use Rattle.uc_proof.proofs.Once.{derived_once}
 use Rattle.uc_words.specs.declared.command.Command.{Command}
 use Rattle.uc_answer.specs.StatusLines.{status_line}
 use Rattle.uc_answer.specs.LimitLines.{overlap_line, IsLimitLine, budget_is_spent, limit_is_passed, pair_is_large, step_is_large}
@@ -44,7 +46,7 @@ module _ (table : Table) (command : Command) (name : List ℕ) (problem : Proble
   proof_once goal p q =
       let targets : q.target ≡ p.target = some_once q.target_is p.target_is in
       let there = subst (λ (t : Target). IsExtracted problem encoded (born s.entries) t.left t.right goal q.lines q.files) targets q.extracted in
-      let once = extracted_once problem encoded (born s.entries) p.target.left p.target.right goal p.lines q.lines p.files q.files (record { table = table; agrees = agrees; encodes = encodes }) p.extracted there in
+      let once = derived_once problem encoded (born s.entries) (aim.Goal (conclusion_of p.target.left p.target.right) goal) p.lines q.lines p.files q.files (record { table = table; agrees = agrees; encodes = encodes }) p.extracted there in
       p.text_is ∙ ap₂ (proof_text table name) once.1 once.0 ∙ sym q.text_is
 
   pub verdict_once : {v : Verdict} {x y : List ℕ} → VerdictAnswers table command name problem encoded spec s v x → VerdictAnswers table command name problem encoded spec s v y → x ≡ y

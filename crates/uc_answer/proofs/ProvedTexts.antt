@@ -28,6 +28,7 @@ use Rattle.uc_machine.specs.declared.event.Verdict.TheVariants.{Proved}
 use Rattle.uc_machine.specs.Lists.{map_option}
 use Rattle.uc_machine.specs.State.{State, Target}
 use Rattle.uc_proof.specs.Chains.{conclusion_of, ProvesGoal}
+use Rattle.uc_proof.specs.declared.aim.Aim.TheVariants as aim
 use Rattle.uc_proof.specs.Needed.{IsNeeded}
 use Rattle.uc_proof.specs.Parts.{all_parts}
 use Rattle.uc_proof.specs.Extracted.{IsExtracted}
@@ -38,7 +39,7 @@ use Rattle.uc_words.specs.declared.command.Command.{Command}
 use Rattle.uc_answer.specs.PrintableProblems.{CanBePrinted}
 use Rattle.uc_answer.specs.VerdictLines.{HasEnded, IsProofText}
 use Rattle.uc_answer.specs.Promises.{Certifies}
-use Rattle.uc_answer.proofs.SearchEnds.{replay, parts_of, parts_printable, proved_goal, proves_goal}
+use Rattle.uc_answer.proofs.SearchEnds.{replay, parts_of, chain_of, parts_printable, chain_printable, proved_goal, proves_goal}
 use Rattle.uc_proof.proofs.TableLines.{proof_lines_of, as_many_files}
 
 pub fresh_for : (table : Table) (problem : Problem) → Agrees table problem → (fresh : Option Fresh) → Marks table problem (Ok fresh) → AreFresh fresh problem.clauses
@@ -81,10 +82,10 @@ module _ (table : Table) (command : Command) (problem : Problem) (encoded : Enco
       there = subst (λ (c : Chain). IsExtracted problem encoded (born s.entries) target.left c goal lines files) (sym right_is) (subst (λ (c : Chain). IsExtracted problem encoded (born s.entries) c right goal lines files) (sym left_is) (subst (λ (fs : List Fact). IsExtracted problem encoded fs left right goal lines files) are x))
 
       pub lines_of_table : AreLinesOf table lines
-      lines_of_table = proof_lines_of table problem encoded (born s.entries) target.left target.right goal lines files (parts_of table command problem encoded spec (Proved goal) s h goal target target_is) there
+      lines_of_table = proof_lines_of table problem encoded (born s.entries) (aim.Goal (conclusion_of target.left target.right) goal) lines files (parts_of table command problem encoded spec (Proved goal) s h) (chain_of table command problem encoded spec (Proved goal) s h goal target target_is) there
 
       pub many_files : length files ≡ length lines
-      many_files = as_many_files problem encoded facts left right goal lines files x
+      many_files = as_many_files problem encoded facts (aim.Goal (conclusion_of left right) goal) lines files x
 
       module _ (name text : List ℕ) where
         pub text_so : text ≡ proof_text table name files lines → IsProofText table command name problem encoded spec s goal text
@@ -92,13 +93,13 @@ module _ (table : Table) (command : Command) (problem : Problem) (encoded : Enco
 
         module _ (few : length encoded.sources + length problem.goals + length facts + 2 < 2 ^ 32) (right_lines : AreRightBefore problem.clauses encoded.fresh lines (length lines)) (refutes : EndsInRefutation lines) (in_order : AreInOrder lines) (reads : IsPrintableProof table name files lines → AreInOrder lines → ReadsProof table text (Ok (record { lines = lines }))) (can : CanBePrinted table name problem) where
           few_parts : length x.plan < 2 ^ 32
-          few_parts = omega (arith, few, selected_length (IsNeeded encoded facts (conclusion_of left right) goal) (all_parts problem encoded (length facts)) x.plan (length encoded.sources + length problem.goals + length facts + 2) x.selected (parts_count encoded.sources problem.goals (length facts)))
+          few_parts = omega (arith, few, selected_length (IsNeeded encoded facts (aim.Goal (conclusion_of left right) goal)) (all_parts problem encoded (length facts)) x.plan (length encoded.sources + length problem.goals + length facts + 2) x.selected (parts_count encoded.sources problem.goals (length facts)))
 
           printable : IsPrintableProof table name files lines
           printable = record {
             name = can.name;
-            names = names_of_lines problem encoded facts left right goal lines files x few_parts;
-            lines = printable_lines table problem encoded (born s.entries) target.left target.right goal lines files there (parts_printable table command problem encoded spec (Proved goal) s h can.clauses goal target target_is);
+            names = names_of_lines problem encoded facts (aim.Goal (conclusion_of left right) goal) lines files x few_parts;
+            lines = printable_lines table problem encoded (born s.entries) (aim.Goal (conclusion_of target.left target.right) goal) lines files there (parts_printable table command problem encoded spec (Proved goal) s h can.clauses) (chain_printable table command problem encoded spec (Proved goal) s h can.clauses goal target target_is);
           }
 
           pub certifies : Certifies table problem text

@@ -31,9 +31,9 @@ use Rattle.uc_runs.specs.Proved.{IsProved}
 use Rattle.uc_runs.proofs.Replaying.{chains_replay}
 use Rattle.uc_runs.proofs.OverRuns.{stays_over}
 use Rattle.uc_runs.proofs.ProvedGoals.{proved}
-use Rattle.uc_proof.specs.Chains.{ProvesGoal}
+use Rattle.uc_proof.specs.Chains.{conclusion_of, ProvesGoal}
 use Rattle.uc_proof.specs.Extracted.{IsEncodingOf}
-use Rattle.uc_proof.specs.Printable.{ArePrintable}
+use Rattle.uc_proof.specs.Printable.{IsPrintableChain, ArePrintableParts}
 use Rattle.uc_words.specs.declared.command.Command.{Command}
 use Rattle.uc_ordering.specs.Fits.{Fits}
 use Rattle.uc_ordering.specs.Meaning.{meaning_of}
@@ -45,7 +45,8 @@ use Rattle.uc_answer.proofs.Saturation.{searched_reaches, searched_verdict}
 use Rattle.uc_answer.proofs.OverSignature.{IsEquationOver, encoded_problem_over}
 use Rattle.uc_answer.proofs.PrintableFiles.{printable_at}
 use Rattle.uc_answer.proofs.PrintableSymbols.{symbols_printable, encoded_symbols}
-use Rattle.uc_proof.proofs.TableLines.{ArePartsOf}
+use Rattle.uc_proof.proofs.Printing.{conclusion_printable}
+use Rattle.uc_proof.proofs.TableLines.{ArePartsOf, IsChainOf, conclusion_of_table}
 
 each_at : {A : Type 0} (P : A → Type 0) (xs : List A) → Each P xs → (n : ℕ) (x : A) → slice_get xs n ≡ Some x → P x
 each_at P [] h n x e = absurd cc
@@ -135,40 +136,47 @@ module _ (table : Table) (command : Command) (problem : Problem) (encoded : Enco
     target_is_over : (n : ℕ) (g : Target) → slice_get s.goals n ≡ Some g → IsTargetOver m g
     target_is_over n g at = each_in_at (IsTargetOver m) s.goals over.goals n g at
 
-  -- all parts of a proof are of the table
-  pub parts_of : (n : ℕ) (g : Target) → slice_get s.goals n ≡ Some g → ArePartsOf table problem encoded (born s.entries) g.left g.right
-  parts_of n g at =
+  -- what lines are made of is of the table
+  pub parts_of : ArePartsOf table problem encoded (born s.entries)
+  parts_of =
       let P : Sym → Type 0 = Has table in
       let each = h.fits.of_table in
-      let target = target_is_over P each n g at in
       record {
         clauses = clause_sides (IsOf table) problem.clauses h.agrees.over;
         axioms = equations_are P each encoded.axioms opens.axioms;
         goals = equations_are P each encoded.goals opens.goals;
         fact_sides = fact_sides_are P each;
         fact_chains = fact_chain_is P each;
-        left_chain = chain_is P each g.left target.left;
-        right_chain = chain_is P each g.right target.right;
       }
+
+  -- so is the chain of a goal
+  pub chain_of : (n : ℕ) (g : Target) → slice_get s.goals n ≡ Some g → IsChainOf table (conclusion_of g.left g.right)
+  chain_of n g at =
+      let P : Sym → Type 0 = Has table in
+      let target = target_is_over P h.fits.of_table n g at in
+      conclusion_of_table table g.left g.right (chain_is P h.fits.of_table g.left target.left) (chain_is P h.fits.of_table g.right target.right)
 
   -- and where the problem can be printed, so can they
   module _ (printable : ArePrintableSourced table problem.clauses) where
     pub each_printable : Each (IsPrintableSymbol table) known
     each_printable = subst (Each (IsPrintableSymbol table)) (sym (encoded_symbols table problem encoded h.encodes)) (symbols_printable table problem h.agrees printable encoded h.encodes)
 
-    pub parts_printable : (n : ℕ) (g : Target) → slice_get s.goals n ≡ Some g → ArePrintable table problem encoded (born s.entries) g.left g.right
-    parts_printable n g at =
+    pub parts_printable : ArePrintableParts table problem encoded (born s.entries)
+    parts_printable =
         let P : Sym → Type 0 = IsPrintableSymbol table in
-        let target = target_is_over P each_printable n g at in
         record {
           clauses = λ c x e. (let p = printable_at table problem.clauses c x printable e in (p.0, p.1));
           axioms = equations_are P each_printable encoded.axioms opens.axioms;
           goals = equations_are P each_printable encoded.goals opens.goals;
           fact_sides = fact_sides_are P each_printable;
           fact_chains = fact_chain_is P each_printable;
-          left_chain = chain_is P each_printable g.left target.left;
-          right_chain = chain_is P each_printable g.right target.right;
         }
+
+    pub chain_printable : (n : ℕ) (g : Target) → slice_get s.goals n ≡ Some g → IsPrintableChain table (conclusion_of g.left g.right)
+    chain_printable n g at =
+        let P : Sym → Type 0 = IsPrintableSymbol table in
+        let target = target_is_over P each_printable n g at in
+        conclusion_printable table g.left g.right (chain_is P each_printable g.left target.left) (chain_is P each_printable g.right target.right)
 
   pub encoding : IsEncodingOf problem encoded
   encoding = record { table = table; agrees = h.agrees; encodes = h.encodes }

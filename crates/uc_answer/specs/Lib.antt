@@ -18,3 +18,4 @@ pub mod ReplyLines
 pub mod RightReplies
 pub mod TableLines
 pub mod ModelLines
+pub mod CertifyLines

@@ -2,7 +2,6 @@
 use Rattle.std.specs.Prelude.{ℕ, ◌≡◌, List, ◌++◌, codes, decimal, slice_get, Some}
 use Rattle.uc_term.specs.Equations.{side_of}
 use Rattle.uc_term.specs.Positions.{IsPlaceOf}
-use Rattle.uc_tstp.specs.Printing.{path_text}
 use Rattle.uc_fact.specs.declared.fact.Fact.{Fact}
 use Rattle.uc_fact.specs.declared.fact.Overlap.{Overlap}
 use Rattle.uc_fact.specs.Live.{equation_of}
@@ -11,8 +10,7 @@ use Rattle.uc_machine.specs.declared.event.Verdict.{Verdict}
 use Rattle.uc_machine.specs.declared.event.Verdict.TheVariants.{BudgetOut, PairsOut, LargeOverlap, LargeGoal}
 use Rattle.uc_machine.specs.State.{State}
 use Rattle.uc_words.specs.declared.command.Command.{Command}
-use Rattle.uc_answer.specs.Lines.{spaced}
-use Rattle.uc_answer.specs.PairLines.{side_letter}
+use Rattle.uc_answer.specs.PairLines.{overlap_words}
 
 abbrev pub budget_line : ℕ → ℕ → List ℕ
 budget_line counted budget = codes "% budget " ++ decimal counted ++ codes " of " ++ decimal budget ++ codes "\n"
@@ -22,7 +20,7 @@ pairs_line waiting more limit = codes "% pairs " ++ decimal waiting ++ codes " p
 
 -- the overlap, at the position of this path
 abbrev pub overlap_line : Overlap → List ℕ → List ℕ
-overlap_line o path = codes "% size overlap " ++ decimal o.outer ++ spaced (side_letter o.outer_side) ++ spaced (decimal o.inner) ++ spaced (side_letter o.inner_side) ++ spaced (path_text path) ++ codes "\n"
+overlap_line o path = codes "% size overlap " ++ overlap_words o path ++ codes "\n"
 
 abbrev pub goal_line : ℕ → List ℕ
 goal_line goal = codes "% size goal " ++ decimal goal ++ codes "\n"

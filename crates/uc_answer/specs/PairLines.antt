@@ -31,10 +31,13 @@ abbrev pub IsFormationOver : Table → Formation → Type 0
 IsFormationOver table (Pair left right chain) = IsOf table left × IsOf table right
 IsFormationOver table TooLarge = Unit {0}
 
--- the line of an overlap at the position of this path: the outer axiom and its side, the inner axiom and its side, the position,
--- and what its pair comes to
+-- an overlap at the position of this path: the outer equation and its side, the inner equation and its side, and the position
+abbrev pub overlap_words : Overlap → List ℕ → List ℕ
+overlap_words o path = decimal o.outer ++ spaced (side_letter o.outer_side) ++ spaced (decimal o.inner) ++ spaced (side_letter o.inner_side) ++ spaced (path_text path)
+
+-- the line of an overlap of axioms at the position of this path, and of what its pair comes to
 abbrev pub pair_line : Table → Overlap → List ℕ → Formation → List ℕ
-pair_line table o path formation = decimal o.outer ++ spaced (side_letter o.outer_side) ++ spaced (decimal o.inner) ++ spaced (side_letter o.inner_side) ++ spaced (path_text path) ++ spaced (formation_text table formation) ++ codes "\n"
+pair_line table o path formation = overlap_words o path ++ spaced (formation_text table formation) ++ codes "\n"
 
 -- the line of an overlap of the outer equation a and the inner one b
 pub record IsPairLine (table : Table) (a b : Equation) (o : Overlap) (line : List ℕ) : Type 0 where

@@ -5,6 +5,7 @@
 #![tactic(auto)]
 
 mod answer;
+mod certify_lines;
 mod chaining;
 mod choosing;
 mod clause_lines;
@@ -26,6 +27,7 @@ mod word_lines;
 pub use answer::{
     Answer, DONE, NO, READ_FAULT, REFUSED, STOPPED, USAGE, WANT_OF_MEMORY, of_line, usage_answer,
 };
+pub use certify_lines::{cert_fault_answer, certified_answer};
 pub use chaining::chain_lines;
 pub use choosing::choice_answer;
 pub use clause_lines::shown_lines;

@@ -13,8 +13,8 @@ ghost use Rattle.uc_answer.specs.LimitLines.{budget_line, pairs_line, overlap_li
 ghost use Rattle.uc_answer.specs.StatusLines.{status_line};
 ghost use Rattle.uc_answer.specs.VerdictLines.{verdict_status};
 
-use crate::chaining::{write_number, write_path};
-use crate::pair_lines::{side_letter, side_of};
+use crate::chaining::write_number;
+use crate::pair_lines::{side_of, write_overlap};
 use crate::szs::status_line;
 use crate::trace_lines::write_count;
 use std::alloc::{AllocError, Global};
@@ -122,15 +122,7 @@ fn overlap_line(alloc: Global, overlap: &Overlap, outer: &Equation) -> Result<Te
 {
     let path = side_of(outer, overlap.outer_side).path(alloc, overlap.position)?;
     let mut line = Text::from_bytes(alloc, b"% size overlap ")?;
-    write_number(&mut line, overlap.outer)?;
-    line.extend(b" ")?;
-    line.extend(side_letter(overlap.outer_side))?;
-    line.extend(b" ")?;
-    write_number(&mut line, overlap.inner)?;
-    line.extend(b" ")?;
-    line.extend(side_letter(overlap.inner_side))?;
-    line.extend(b" ")?;
-    write_path(&mut line, path.as_slice())?;
+    write_overlap(&mut line, overlap, path.as_slice())?;
     line.extend(b"\n")?;
     Ok(line)
 }

@@ -212,7 +212,7 @@ pub fn proof_line(alloc: Global, file: &[u8], fault: ProofFault) -> Result<Text,
     }
 }
 
-fn cause_word(cause: Cause) -> &'static [u8]
+pub(crate) fn cause_word(cause: Cause) -> &'static [u8]
     ensures { result.now ≡ cause_word cause }
 {
     match cause {
@@ -226,7 +226,7 @@ fn cause_word(cause: Cause) -> &'static [u8]
 }
 
 // The name of the line of this number, or `-` for none.
-fn name_or_dash(lines: &[Line], number: Option<u32>) -> &[u8]
+pub(crate) fn name_or_dash(lines: &[Line], number: Option<u32>) -> &[u8]
     ensures { result.now ≡ name_or_dash (line_of_number lines.now number) }
 {
     let Some(number) = number else {

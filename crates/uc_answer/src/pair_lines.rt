@@ -1,12 +1,12 @@
 //! The lines of the pairs of equations.
 
-ghost use Rattle.std.specs.Prelude.{◌≡◌, ◌<◌, ◌^◌, length, slice_get, Some, All, IfOk};
+ghost use Rattle.std.specs.Prelude.{◌≡◌, ◌<◌, ◌^◌, ◌++◌, length, slice_get, Some, All, IfOk, OnOk};
 ghost use Rattle.uc_term.specs.Equations.{side_of};
 ghost use Rattle.uc_term.specs.Table.{IsOf};
 ghost use Rattle.uc_pair.specs.Overlapping.{IsOverlapOf, IsFormedOf};
 ghost use Rattle.uc_answer.specs.Axioms.{AreEquationsOf};
 ghost use Rattle.uc_answer.specs.Lines.{joined};
-ghost use Rattle.uc_answer.specs.PairLines.{side_letter, formation_text, pair_line, IsFormationOver, IsPairLine, ArePairLines, ArePairsOf, AreInnerLines, AreOuterLines};
+ghost use Rattle.uc_answer.specs.PairLines.{side_letter, overlap_words, formation_text, pair_line, IsFormationOver, IsPairLine, ArePairLines, ArePairsOf, AreInnerLines, AreOuterLines};
 
 use crate::chaining::{write_number, write_path};
 use std::alloc::{AllocError, Global};
@@ -51,6 +51,25 @@ fn formation_text(
     }
 }
 
+// An overlap at the position of this path.
+pub(crate) fn write_overlap(
+    out: &mut Text,
+    overlap: &Overlap,
+    path: &[u32],
+) -> Result<(), AllocError>
+    ensures { OnOk result (out.new ≡ out.old ++ overlap_words overlap.now path.now) }
+{
+    write_number(out, overlap.outer)?;
+    out.extend(b" ")?;
+    out.extend(side_letter(overlap.outer_side))?;
+    out.extend(b" ")?;
+    write_number(out, overlap.inner)?;
+    out.extend(b" ")?;
+    out.extend(side_letter(overlap.inner_side))?;
+    out.extend(b" ")?;
+    write_path(out, path)
+}
+
 // The line of an overlap at the position of this path, whose pair comes to this.
 fn pair_line(
     alloc: Global,
@@ -64,15 +83,7 @@ fn pair_line(
 {
     let said = formation_text(alloc, formation, symbols)?;
     let mut line = Text::new(alloc);
-    write_number(&mut line, overlap.outer)?;
-    line.extend(b" ")?;
-    line.extend(side_letter(overlap.outer_side))?;
-    line.extend(b" ")?;
-    write_number(&mut line, overlap.inner)?;
-    line.extend(b" ")?;
-    line.extend(side_letter(overlap.inner_side))?;
-    line.extend(b" ")?;
-    write_path(&mut line, path)?;
+    write_overlap(&mut line, overlap, path)?;
     line.extend(b" ")?;
     line.extend(said.as_bytes())?;
     line.extend(b"\n")?;

@@ -18,8 +18,10 @@ use crate::answer::{DONE, STOPPED};
 use crate::chaining::{term_line, write_number};
 use crate::question_word::Question;
 use std::alloc::{AllocError, Global};
+use std::thread::Threads;
 use uc_clause::print_term;
-use uc_decide::{Reply, ask};
+use uc_decide::{Reply, ask_all};
+use uc_edge::Gate;
 use uc_fact::System;
 use uc_order::Order;
 use uc_term::{Seq, Symbols, Term, Text};
@@ -38,39 +40,25 @@ fn are_few(system: &System) -> Result<(), AllocError>
     }
 }
 
-/// Returns the replies to questions by a system, each with at most so many steps.
-pub fn replies<O: Order>(
+/// Returns the replies to questions by a system, each with at most so many steps, given by so many workers.
+pub fn replies<O: Order + Sync, G: Gate + Sync, R: Threads + Sync>(
+    rt: &R,
     alloc: Global,
     system: &System,
     order: &O,
     questions: &[Question],
     steps: u32,
+    workers: u32,
+    gate: &G,
 ) -> Result<Seq<Reply>, AllocError>
+    requires some_workers { 1 ≤ workers }
+    requires few_workers { workers ≤ 64 }
     ensures replies { IfOk result (AreReplies (O.meaning order.now) (numbered system.now.facts) steps questions.now) }
     // what follows for questions of ground terms, by a system that decides what follows from axioms
     ensures right { IfOk result (λ replies. (axioms : List AnyEquation) → Decides (O.meaning order.now) system.now.facts axioms → AreGroundQuestions (O.meaning order.now) questions.now → AreOfSignature (HasSym (O.meaning order.now)) (O.meaning order.now).arity system.now.facts → AreRight (O.meaning order.now) axioms questions.now replies) }
 {
     are_few(system)?;
-    replies_by(alloc, system, order, questions, steps)
-}
-
-// The replies by a system whose facts can be numbered.
-fn replies_by<O: Order>(
-    alloc: Global,
-    system: &System,
-    order: &O,
-    questions: &[Question],
-    steps: u32,
-) -> Result<Seq<Reply>, AllocError>
-    requires few { length system.now.facts < 2 ^ 31 }
-    ensures replies { IfOk result (AreReplies (O.meaning order.now) (numbered system.now.facts) steps questions.now) }
-    ensures right { IfOk result (λ replies. (axioms : List AnyEquation) → Decides (O.meaning order.now) system.now.facts axioms → AreGroundQuestions (O.meaning order.now) questions.now → AreOfSignature (HasSym (O.meaning order.now)) (O.meaning order.now).arity system.now.facts → AreRight (O.meaning order.now) axioms questions.now replies) }
-{
-    let mut replies = Seq::new(alloc);
-    for question in questions {
-        replies.push(ask(alloc, system, order, &question.0, &question.1, steps)?)?;
-    }
-    Ok(replies)
+    ask_all(rt, alloc, system, order, questions, steps, workers, gate)
 }
 
 // The line of a reply that two terms have one normal form.
