@@ -290,6 +290,7 @@ not_built verb.Pairs n m o r p q d t l b = p refl
 not_built verb.Gen n m o r p q d t l b = b
 not_built verb.Table n m o r p q d t l b = t refl
 not_built verb.Model n m o r p q d t l b = l refl
+not_built verb.Certify n m o r p q d t l b = b
 
 pub usage_not_done : (Q : Answer → Type 0) (r : Result Answer AllocError) (line : List ℕ) → IfOk r (λ answer. (answer.status ≡ 4) × (joined answer.lines ≡ line)) → IfOk r (λ answer. answer.status ≡ 0 → Q answer)
 usage_not_done Q (Ok answer) line h = λ e. absurd (omega (arith, h.0, e))

@@ -6,6 +6,7 @@ use Rattle.uc_problem.proofs.Outcomes.{ok_once, err_once, ok_or_err}
 use Rattle.uc_tstp.specs.declared.fault.ProofFault.{ProofFault}
 use Rattle.uc_tstp.specs.declared.fault.ProofFault.TheVariants.{Syntax, UnknownRule, UnknownName, Truncated, RepeatedName, Limit, NoMemory}
 use Rattle.uc_tstp.specs.declared.framing.Frame.{Frame}
+use Rattle.uc_tstp.specs.declared.scope.Scope.TheVariants as scope
 use Rattle.uc_tstp.specs.Framing.{max_proof, first_place}
 use Rattle.uc_tstp.specs.Interning.{InternsProof}
 use Rattle.uc_tstp.specs.Reading.{ReadsInside, no_token, no_lines, no_name, reads, ReadsProof, no_frame, in_frame, IsReading}
@@ -50,7 +51,7 @@ read_not_memory e = ok_or_err e
 module _ (text : List ℕ) where
   -- why a text isn't read doesn't depend on the table
   module _ (table other : Table) (why : ProofFault) where
-    inside_anywhere : (frame : Frame) {r : Result Proof ProofFault} → r ≡ Err why → ReadsInside table text frame r → ReadsInside other text frame r
+    inside_anywhere : (frame : Frame) {r : Result Proof ProofFault} → r ≡ Err why → ReadsInside scope.Proof table text frame r → ReadsInside scope.Proof other text frame r
     inside_anywhere frame e (no_token c) = no_token c
     inside_anywhere frame e (no_lines c l) = no_lines c l
     inside_anywhere frame e (no_name c l u) = no_name c l u

@@ -225,18 +225,31 @@ fn told_answer<R: Threads + Wait + Sync, O: Order + Sync, G: Gate + Sync>(
         command.workers,
         gate,
     )?;
-    closed_answer(alloc, asked, order, shelf, &searched.book, searched.verdict)
+    closed_answer(
+        rt,
+        alloc,
+        asked,
+        order,
+        shelf,
+        &searched.book,
+        searched.verdict,
+        gate,
+    )
 }
 
 /// The answer of a book without goals that has this verdict.
-fn closed_answer<O: Order>(
+fn closed_answer<R: Threads + Sync, O: Order + Sync, G: Gate + Sync>(
+    rt: &R,
     alloc: Global,
     asked: &Asked,
     order: &O,
     shelf: &Shelf,
     book: &Book<O>,
     verdict: Verdict,
+    gate: &G,
 ) -> Result<Answer, AllocError>
+    requires some_workers { 1 ≤ asked.now.command.now.workers }
+    requires few_workers { asked.now.command.now.workers ≤ 64 }
     requires shelf { book.now.opening.shelf ≡ shelf.now }
     requires no_goals { book.now.opening.problem.goals ≡ [] }
     requires over { AreOfSignature (HasSym (O.meaning order.now)) (O.meaning order.now).arity book.now.opening.problem.axioms }
@@ -248,7 +261,7 @@ fn closed_answer<O: Order>(
     match verdict {
         Verdict::Saturated => {
             let system = live_system(alloc, shelf, book.front())?;
-            replied_answer(alloc, asked, order, &system)
+            replied_answer(rt, alloc, asked, order, &system, gate)
         }
         _ => Ok(Answer {
             status: STOPPED,
@@ -258,19 +271,33 @@ fn closed_answer<O: Order>(
 }
 
 /// The answer by a system that decides what follows from axioms: a reply to each question.
-fn replied_answer<O: Order>(
+fn replied_answer<R: Threads + Sync, O: Order + Sync, G: Gate + Sync>(
+    rt: &R,
     alloc: Global,
     asked: &Asked,
     order: &O,
     system: &System,
+    gate: &G,
 ) -> Result<Answer, AllocError>
+    requires some_workers { 1 ≤ asked.now.command.now.workers }
+    requires few_workers { asked.now.command.now.workers ≤ 64 }
     requires over { AreOfSignature (HasSym (O.meaning order.now)) (O.meaning order.now).arity system.now.facts }
     requires ground { AreGroundQuestions (O.meaning order.now) asked.now.questions.now }
     requires of_table { AreGroundOfTable asked.now.symbols.now (O.meaning order.now) }
     requires decides { (axioms : List AnyEquation) × Decides (O.meaning order.now) system.now.facts axioms }
     ensures { (axioms : List AnyEquation) → Decides (O.meaning order.now) system.now.facts axioms → IfOk result (λ answer. (replies : List AnyReply) × AreReplies (O.meaning order.now) (numbered system.now.facts) asked.now.command.now.steps asked.now.questions.now replies × AreRight (O.meaning order.now) axioms asked.now.questions.now replies × (answer.status ≡ replies_status replies) × (joined answer.lines ≡ reply_lines asked.now.symbols.now replies)) }
 {
-    let replies = replies(alloc, system, order, asked.questions, asked.command.steps)?;
+    let command = asked.command;
+    let replies = replies(
+        rt,
+        alloc,
+        system,
+        order,
+        asked.questions,
+        command.steps,
+        command.workers,
+        gate,
+    )?;
     let lines = reply_lines(alloc, replies.as_slice(), asked.symbols)?;
     Ok(Answer {
         status: replies_status(replies.as_slice()),

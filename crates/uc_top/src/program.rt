@@ -227,6 +227,9 @@ fn prove_command<R: Threads + Wait + Sync, L: Library, G: Gate + Sync>(
     ensures later { L.faults library.old ≤ L.faults library.new }
     ensures faulted { AnswersFault (L.faults library.old) (L.faults library.new) (L.failed_at library.old) (L.failed_at library.new) (fault_opening command.now) result }
 {
+    if command.certificate {
+        return usage_answer(alloc);
+    }
     match command.positionals.as_slice() {
         [name] => prove_answer(rt, alloc, command, name, library, gate),
         _ => unreachable!(),
