@@ -77,8 +77,15 @@ fn binary(alloc: Global, left: Term, right: Term) -> Result<Term, TermFault> {
     Term::app(alloc, M, &[left, right])
 }
 
-// The term of a letter around another one. X and Y are the variables 0 and 1, which x and y put before and behind it; d
-// doubles it.
+// A letter before and another one behind, each around a copy of a term of its own.
+fn both(alloc: Global, f: Sym, g: Sym, inner: Term) -> Result<Term, TermFault> {
+    let left = Term::app(alloc, f, &[inner.copy(alloc)?])?;
+    let right = Term::app(alloc, g, &[inner])?;
+    binary(alloc, left, right)
+}
+
+// The term of a letter around another one. X and Y are the variables 0 and 1; x and z put them before it, and y puts Y behind
+// it; d doubles it; p makes m(f(t),g(t)) of it, and q m(g(t),f(t)).
 fn around(alloc: Global, letter: u8, inner: Term) -> Result<Term, TermFault> {
     match letter {
         b'a' => Term::app(alloc, A, &[]),
@@ -88,6 +95,9 @@ fn around(alloc: Global, letter: u8, inner: Term) -> Result<Term, TermFault> {
         b'd' => binary(alloc, inner.copy(alloc)?, inner),
         b'x' => binary(alloc, Term::var(alloc, 0)?, inner),
         b'y' => binary(alloc, inner, Term::var(alloc, 1)?),
+        b'z' => binary(alloc, Term::var(alloc, 1)?, inner),
+        b'p' => both(alloc, F, G, inner),
+        b'q' => both(alloc, G, F, inner),
         b'Y' => Ok(Term::var(alloc, 1)?),
         _ => Ok(Term::var(alloc, 0)?),
     }

@@ -21,6 +21,8 @@ mod shelf;
 #[cfg(test)]
 mod tasks;
 #[cfg(test)]
+mod threads;
+#[cfg(test)]
 mod watched;
 #[cfg(test)]
 mod workers;

@@ -15,8 +15,8 @@ use uc_order::Order;
 use uc_shelf::{Front, Shelf};
 use uc_term::Pos;
 
-// What the pass answers for a few axioms and goals.
-fn pass<R: Threads + Sync, O: Order + Sync>(
+/// What the pass by so many threads answers for a few axioms and goals.
+pub fn pass<R: Threads + Sync, O: Order + Sync>(
     rt: &R,
     alloc: Global,
     shelf: &Shelf,
@@ -24,6 +24,7 @@ fn pass<R: Threads + Sync, O: Order + Sync>(
     axioms: &[Equation],
     stages: &[Stage],
     order: &O,
+    threads: u32,
 ) -> Result<Outcome, Fail>
     requires { IsOf shelf.now front.now }
 {
@@ -39,7 +40,7 @@ fn pass<R: Threads + Sync, O: Order + Sync>(
         axioms,
         stages,
         order,
-        1,
+        threads,
         &mut passes,
     )?)
 }
@@ -56,7 +57,16 @@ fn outcome_on<R: Threads + Sync>(
 {
     let axioms = equations(alloc, axioms)?;
     let order = order(alloc)?;
-    pass(rt, alloc, shelf, front, axioms.as_slice(), stages, &order)
+    pass(
+        rt,
+        alloc,
+        shelf,
+        front,
+        axioms.as_slice(),
+        stages,
+        &order,
+        1,
+    )
 }
 
 // What the pass answers over facts with these sides, of which the first one may have died.

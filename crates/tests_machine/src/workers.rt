@@ -1,30 +1,25 @@
 //! Searches by several workers: that they work at once, and that whoever waits is woken.
 
-ghost use Rattle.std.specs.Prelude.{◌≡◌, ◌<◌, ◌≤◌};
+ghost use Rattle.std.specs.Prelude.{◌<◌, ◌≤◌};
 
 use crate::alphabet::{Sides, order};
 use crate::books::settings::set_up;
 use crate::watched::Watched;
-use std::alloc::{AllocError, Global};
+use std::alloc::Global;
 use std::sync::Wait;
 use std::sync::atomic::{AtomicBool, AtomicU64, Ordering};
 use std::test::Fail;
 use std::thread;
 use std::thread::Threads;
-use uc_book::Book;
 use uc_edge::{Gate, NoGate};
-use uc_final::{FinalPasses, final_pass};
-use uc_machine::{Ending, Event, GoalEnd, Happening, Outcome, Verdict};
-use uc_order::Order;
-use uc_search::{Ended, work_alone};
-use uc_shelf::Shelf;
+use uc_machine::{Ending, Event, GoalEnd, Happening, Verdict};
 use uc_worker::search;
 
 /// How often whoever waits for another looks for it before it gives up.
 pub const TURNS: u32 = 10_000_000;
 
-// f(a) = b and f(b) = a
-const AXIOMS: &[Sides] = &[(b"af", b"b"), (b"bf", b"a")];
+/// f(a) = b and f(b) = a
+pub const AXIOMS: &[Sides] = &[(b"af", b"b"), (b"bf", b"a")];
 
 // f(f(a)) = a
 const GOAL: Sides = (b"aff", b"a");
@@ -34,6 +29,9 @@ const GOAL: Sides = (b"aff", b"a");
 struct Meeting {
     came: AtomicU64,
     met: AtomicBool,
+    // The tickets of worker 1 and of any other, of the two that came first.
+    one: AtomicU64,
+    other: AtomicU64,
 }
 
 impl Meeting {
@@ -41,7 +39,14 @@ impl Meeting {
         Meeting {
             came: AtomicU64::new(0),
             met: AtomicBool::new(false),
+            one: AtomicU64::new(u64::MAX),
+            other: AtomicU64::new(u64::MAX),
         }
+    }
+
+    // The ticket with which this worker was one of the two that came first.
+    fn ticket_of(&self, worker: u32) -> &AtomicU64 {
+        if worker == 1 { &self.one } else { &self.other }
     }
 
     // Waits until a second one has come.
@@ -57,8 +62,12 @@ impl Meeting {
 }
 
 impl Gate for Meeting {
-    fn pass(&self, _worker: u32, _ticket: u64) {
-        if self.came.fetch_add(1, Ordering::SeqCst) == 0 {
+    fn pass(&self, worker: u32, ticket: u64) {
+        let before = self.came.fetch_add(1, Ordering::SeqCst);
+        if before < 2 {
+            self.ticket_of(worker).store(ticket, Ordering::SeqCst);
+        }
+        if before == 0 {
             self.hold();
         }
     }
@@ -87,8 +96,8 @@ fn is_reclaim(event: &Event) -> bool {
     )
 }
 
-// Two workers are at the gate at once: each has drawn a pair, and neither holds the lock. Both commit, and worker 0 finds
-// nothing left to do.
+// Two workers are at the gate at once: each has drawn a pair, and neither holds the lock. Each has the ticket of its own draw,
+// which is the number of draws before it. Both commit, and worker 0 finds nothing left to do.
 #[test]
 fn two_workers_meet(rt: HostRuntime) -> Result<(), Fail> {
     let alloc = rt.alloc();
@@ -110,6 +119,8 @@ fn two_workers_meet(rt: HostRuntime) -> Result<(), Fail> {
     let history = searched.book.history();
     let shares = searched.shares.as_slice();
     assert!(rt; history.len() > 2 && are_two_draws(&history[0], &history[1]));
+    assert_eq!(rt; gate.ticket_of(history[0].worker).load(Ordering::SeqCst), 0);
+    assert_eq!(rt; gate.ticket_of(history[1].worker).load(Ordering::SeqCst), 1);
     assert!(rt; !history.iter().any(|event| is_reclaim(event)));
     assert!(rt; shares.len() == 3 && shares[0] == 0 && shares[1] > 0 && shares[2] > 0);
     Ok(())
@@ -128,47 +139,64 @@ fn two_workers_compute(rt: HostRuntime) -> Result<(), Fail> {
     Ok(())
 }
 
-// What the final pass over the book by two threads answers.
-fn pass_by_two<R: Threads + Sync, O: Order + Sync>(
-    rt: &R,
-    alloc: Global,
-    order: &O,
-    shelf: &Shelf,
-    book: &Book<O>,
-) -> Result<Outcome, AllocError>
-    requires { book.now.opening.shelf ≡ shelf.now }
-{
-    let stages = book.stages(alloc)?;
-    let mut passes = FinalPasses::none();
-    let (front, axioms) = (book.front(), book.axioms());
-    final_pass(
-        rt,
-        alloc,
-        shelf,
-        front,
-        axioms,
-        stages.as_slice(),
-        order,
-        2,
-        &mut passes,
-    )
+// A gate that lets the worker of the first ticket on when all others have passed but one, and lets the order watch from there.
+#[derive(Drop)]
+struct Last<'a> {
+    order: &'a Watched,
+    came: AtomicU64,
 }
 
-// The final pass by two threads compares at once. No call waits before the book is drained.
+// How many of the tasks over `SPREAD` pass before the meeting of the fact that the first ticket brings.
+const BEFORE_LAST: u64 = 7;
+
+impl Last<'_> {
+    // Waits until all have come.
+    fn hold(&self) {
+        for _ in 0..TURNS {
+            if self.came.load(Ordering::SeqCst) >= BEFORE_LAST {
+                return;
+            }
+            thread::yield_now();
+        }
+    }
+}
+
+impl Gate for Last<'_> {
+    fn pass(&self, _worker: u32, ticket: u64) {
+        if self.came.fetch_add(1, Ordering::SeqCst) == BEFORE_LAST - 1 {
+            self.order.watch();
+        }
+        if ticket == 0 {
+            self.hold();
+        }
+    }
+}
+
+// The lightest, g(b) = a, is drawn first, and meets the others last. Then comes m(X,Y) = m(Y,X), which joins two of its instances,
+// m(f(t),g(t)) = m(g(t),f(t)), and behind them f(f(..f(b))) = a.
+const SPREAD: &[Sides] = &[
+    (b"ap", b"aq"),
+    (b"y", b"z"),
+    (b"bg", b"a"),
+    (b"bfffffffffffffff", b"a"),
+    (b"afp", b"afq"),
+];
+
+// The final pass of a round is made by the threads of both workers. Only the tests of the two instances compare terms of five
+// nodes: the worker of the second ticket has made them all before the gate opens, and in the pass one is in each half of the pairs.
 #[test]
-fn two_threads_end_a_book(rt: HostRuntime) -> Result<(), Fail> {
+fn two_workers_end_a_round(rt: HostRuntime) -> Result<(), Fail> {
     let alloc = rt.alloc();
-    let at = set_up(alloc, AXIOMS, &[])?;
-    let order = Watched::idle(order(alloc)?);
-    let (problem, shelf) = (&at.problem, &at.shelf);
-    let mut book = Book::start(alloc, problem, &order, shelf, 99, 99)?;
-    let mut pass = book.enroll(alloc, 0)?;
-    let ended = work_alone(&rt, alloc, &mut book, shelf, problem, &order, &mut pass);
-    assert!(rt; ended == Ended::Drained);
-    order.watch();
-    let outcome = pass_by_two(&rt, alloc, &order, shelf, &book)?;
+    let at = set_up(alloc, SPREAD, &[])?;
+    let order = Watched::idle(order(alloc)?, 5, TURNS);
+    let gate = Last {
+        order: &order,
+        came: AtomicU64::new(0),
+    };
+    let searched = search(&rt, alloc, &at.problem, &order, &at.shelf, 99, 99, 2, &gate)?;
+    assert!(rt; gate.came.load(Ordering::SeqCst) == BEFORE_LAST + 1);
     assert!(rt; order.have_met());
-    assert!(rt; matches!(outcome, Outcome::Convergent(_)));
+    assert!(rt; searched.verdict == Verdict::Saturated);
     Ok(())
 }
 

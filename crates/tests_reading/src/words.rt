@@ -68,27 +68,43 @@ model|--budget|10000001|r4.p
 model|--pairs|5|r4.p
 model|--workers|1|r4.p
 model|--order|lpo|r4.p
-prove|--size|2|r5.p";
+prove|--size|2|r5.p
+prove|--certificate=1|r5.p
+prove|--certificate|r5.p|--certificate
+prove|--certificates|r5.p
+decide|--certificate|r5.p|a = b
+check|--certificate|r5.p|r5.s
+certify|r8.p
+certify|r8.p|r8.c|r8.c
+certify|--certificate|r8.p|r8.c
+certify|--trace|r8.p|r8.c
+certify|--order|lpo|r8.p|r8.c
+certify|--budget|5|r8.p|r8.c";
 
 // lines that have one, each with its command behind an arrow
 const ONE_READING: &str =
-    "show|--|--root => Show 100000 1000000 1 100000 4096 4 1 false false;--root
-prove|--budget=0|r5.p|--trace|--workers|64 => Prove 0 1000000 64 100000 4096 4 1 true false;r5.p
-prove|--budget|10000000|--pairs|8000000|r5.p => Prove 10000000 8000000 1 100000 4096 4 1 false false;r5.p
-prove|--pairs=1|--workers=1|r5.p => Prove 100000 1 1 100000 4096 4 1 false false;r5.p
-decide|--steps=10000000|--w0=1000000|r5.p|a = b => Decide 100000 1000000 1 10000000 4096 4 1000000 false false;r5.p;a = b
-decide|--steps=0|r5.p|a = b|b = a => Decide 100000 1000000 1 0 4096 4 1 false false;r5.p;a = b;b = a
-rewrite|--limit=10000000|r5.p|f(a) => Rewrite 100000 1000000 1 100000 10000000 4 1 false false;r5.p;f(a)
-rewrite|--limit=0|r5.p|f(a) => Rewrite 100000 1000000 1 100000 0 4 1 false false;r5.p;f(a)
-gen|1|0 => Gen 100000 1000000 1 100000 4096 4 1 false false;1;0
-gen|2000|2147483647 => Gen 100000 1000000 1 100000 4096 4 1 false false;2000;2147483647
-check|--root=-x=y|-|--|-- => Check 100000 1000000 1 100000 4096 4 1 false false;-;--:-x=y
-order|--precedence|f<'g<\\''<f|r5.p|--order=lpo => Order 100000 1000000 1 100000 4096 4 1 false true;r5.p<f<g<'<f
-order|--w0|2|--weights='f'=007,g_1=4294967295|r5.p => Order 100000 1000000 1 100000 4096 4 2 false false;r5.p,f=7,g_1=4294967295
-table|--root|x|r4.p|t => Table 100000 1000000 1 100000 4096 4 1 false false;r4.p;t:x
-model|r4.p => Model 100000 1000000 1 100000 4096 4 1 false false;r4.p
-model|--size=1|--budget|0|r4.p => Model 0 1000000 1 100000 4096 1 1 false false;r4.p
-model|r4.p|--budget=10000000|--size|08|--root|x => Model 10000000 1000000 1 100000 4096 8 1 false false;r4.p:x";
+    "show|--|--root => Show 100000 1000000 1 100000 4096 4 1 false false false;--root
+prove|--budget=0|r5.p|--trace|--workers|64 => Prove 0 1000000 64 100000 4096 4 1 true false false;r5.p
+prove|--budget|10000000|--pairs|8000000|r5.p => Prove 10000000 8000000 1 100000 4096 4 1 false false false;r5.p
+prove|--pairs=1|--workers=1|r5.p => Prove 100000 1 1 100000 4096 4 1 false false false;r5.p
+decide|--steps=10000000|--w0=1000000|r5.p|a = b => Decide 100000 1000000 1 10000000 4096 4 1000000 false false false;r5.p;a = b
+decide|--steps=0|r5.p|a = b|b = a => Decide 100000 1000000 1 0 4096 4 1 false false false;r5.p;a = b;b = a
+rewrite|--limit=10000000|r5.p|f(a) => Rewrite 100000 1000000 1 100000 10000000 4 1 false false false;r5.p;f(a)
+rewrite|--limit=0|r5.p|f(a) => Rewrite 100000 1000000 1 100000 0 4 1 false false false;r5.p;f(a)
+gen|1|0 => Gen 100000 1000000 1 100000 4096 4 1 false false false;1;0
+gen|2000|2147483647 => Gen 100000 1000000 1 100000 4096 4 1 false false false;2000;2147483647
+check|--root=-x=y|-|--|-- => Check 100000 1000000 1 100000 4096 4 1 false false false;-;--:-x=y
+order|--precedence|f<'g<\\''<f|r5.p|--order=lpo => Order 100000 1000000 1 100000 4096 4 1 false false true;r5.p<f<g<'<f
+order|--w0|2|--weights='f'=007,g_1=4294967295|r5.p => Order 100000 1000000 1 100000 4096 4 2 false false false;r5.p,f=7,g_1=4294967295
+table|--root|x|r4.p|t => Table 100000 1000000 1 100000 4096 4 1 false false false;r4.p;t:x
+model|r4.p => Model 100000 1000000 1 100000 4096 4 1 false false false;r4.p
+model|--size=1|--budget|0|r4.p => Model 0 1000000 1 100000 4096 1 1 false false false;r4.p
+model|r4.p|--budget=10000000|--size|08|--root|x => Model 10000000 1000000 1 100000 4096 8 1 false false false;r4.p:x
+prove|--certificate|r8.p => Prove 100000 1000000 1 100000 4096 4 1 false true false;r8.p
+prove|--trace|r8.p|--certificate => Prove 100000 1000000 1 100000 4096 4 1 true true false;r8.p
+prove|--order=lpo|--certificate|--budget|9|r8.p|--trace => Prove 9 1000000 1 100000 4096 4 1 true true true;r8.p
+certify|r8.p|r8.c => Certify 100000 1000000 1 100000 4096 4 1 false false false;r8.p;r8.c
+certify|--root=x|--|--certificate|r8.c => Certify 100000 1000000 1 100000 4096 4 1 false false false;--certificate;r8.c:x";
 
 fn words(alloc: Global, line: &str) -> Result<Vec<String>, AllocError> {
     let mut words = Vec::new(alloc);
@@ -144,11 +160,12 @@ fn told(alloc: Global, command: &Command) -> Result<Text, AllocError> {
         limit,
         size,
         trace,
+        certificate,
         order,
         ..
     } = command;
     let numbers = format!(in alloc;
-        "{verb:?} {budget} {pairs} {workers} {steps} {limit} {size} {} {trace} {}",
+        "{verb:?} {budget} {pairs} {workers} {steps} {limit} {size} {} {trace} {certificate} {}",
         order.w0, order.lpo
     )?;
     let mut out = Text::from_bytes(alloc, numbers.as_bytes())?;

@@ -9,20 +9,21 @@ use uc_fact::System;
 use uc_order::Order;
 use uc_term::{Seq, Sym};
 
-// Of each precedence the least symbol stands first.
-const BY_WEIGHT: &[Sym] = &[A, B, C, F, G, M, P];
+/// Of each precedence the least symbol stands first.
+pub const BY_WEIGHT: &[Sym] = &[A, B, C, F, G, M, P];
 
 const BY_PATH: &[Sym] = &[E, A, B, P, M, I];
 
-// What is replied: equal, with the normal form; different, with both; spent, with the steps; or grown.
-enum Answer {
+/// What is replied: equal, with the normal form; different, with both; spent, with the steps; or grown.
+pub enum Answer {
     Equal(&'static [u8]),
     Different(&'static [u8], &'static [u8]),
     Spent(u32),
     Grown,
 }
 
-fn is_answer(g: Global, found: &Reply, want: &Answer) -> Result<bool, Fail> {
+/// Whether this is replied.
+pub fn is_answer(g: Global, found: &Reply, want: &Answer) -> Result<bool, Fail> {
     match (found, want) {
         (Reply::Equal(normal), Answer::Equal(letters)) => Ok(is_term(g, normal, letters)?),
         (Reply::Different(left, right), Answer::Different(s, t)) => {
@@ -64,8 +65,8 @@ const TURNED: &[Pair] = &[(b"XYp", b"YXp")];
 // f(X) = g(Y), and from its right side and a copy of it f(X) = f(Y)
 const CONSTANT: &[Pair] = &[(b"Xf", b"Yg"), (b"Xf", b"Yf")];
 
-// m(m(X,Y),Z) = m(X,m(Y,Z))
-const ASSOCIATIVE: &[Pair] = &[(b"XYmZm", b"XYZmm")];
+/// m(m(X,Y),Z) = m(X,m(Y,Z))
+pub const ASSOCIATIVE: &[Pair] = &[(b"XYmZm", b"XYZmm")];
 
 const BY_WEIGHT_ROWS: &[Row] = &[
     // commutativity is decided

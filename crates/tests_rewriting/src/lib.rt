@@ -27,6 +27,8 @@ mod replaying;
 #[cfg(test)]
 mod rewriting;
 #[cfg(test)]
+mod sharing;
+#[cfg(test)]
 mod terms;
 #[cfg(test)]
 mod unifying;

@@ -2,8 +2,9 @@
 
 use std::alloc::{AllocError, Global};
 use std::sync::Wait;
+use std::test::Fail;
 use std::thread::Threads;
-use uc_edge::{MemoryLibrary, NoGate, Sink};
+use uc_edge::{Gate, MemoryLibrary, MemorySink, NoGate, Sink};
 use uc_term::Text;
 use uc_top::run;
 
@@ -30,4 +31,21 @@ pub(crate) fn status_of<R: Threads + Wait + Sync, S: Sink>(
     let mut library = MemoryLibrary::new(alloc, files, Vec::new(alloc))?;
     let words = strings(alloc, words)?;
     Ok(run(rt, alloc, &words, &mut library, sink, &NoGate))
+}
+
+// The status and the text of the words over one file, given by its name and its text, with this gate.
+pub(crate) fn told_at<R: Threads + Wait + Sync, G: Gate + Sync>(
+    rt: &R,
+    alloc: Global,
+    words: &[&str],
+    file: (&str, &str),
+    gate: &G,
+) -> Result<(u8, String), Fail> {
+    let files = vec![in alloc; (text(alloc, file.0)?, text(alloc, file.1)?)]?;
+    let mut library = MemoryLibrary::new(alloc, files, Vec::new(alloc))?;
+    let mut sink = MemorySink::new(alloc, Vec::new(alloc))?;
+    let words = strings(alloc, words)?;
+    let status = run(rt, alloc, &words, &mut library, &mut sink, gate);
+    let told = String::from_str(alloc, str::from_utf8(sink.bytes())?)?;
+    Ok((status, told))
 }

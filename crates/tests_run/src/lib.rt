@@ -8,6 +8,8 @@ mod drip;
 #[cfg(test)]
 mod given;
 #[cfg(test)]
+mod rounds;
+#[cfg(test)]
 mod systems;
 #[cfg(test)]
 mod workers;

@@ -1,21 +1,20 @@
 //! Runs of the program with several workers, held at a gate.
 
-use crate::given::{strings, text};
-use std::alloc::{AllocError, Global};
-use std::sync::Wait;
+use crate::given::told_at;
 use std::sync::atomic::{AtomicBool, AtomicU64, Ordering};
 use std::test::Fail;
 use std::thread;
-use std::thread::Threads;
-use uc_edge::{Gate, MemoryLibrary, MemorySink};
-use uc_top::run;
+use uc_edge::Gate;
 
-// How often a gate looks for another worker before it gives up.
-const TURNS: u32 = 10_000_000;
+/// How often a gate looks for another worker before it gives up.
+pub const TURNS: u32 = 10_000_000;
 
-const PROBLEM: &str = "cnf(ax1, axiom, f(a) = b).
+const PROBLEM: (&str, &str) = (
+    "r18.p",
+    "cnf(ax1, axiom, f(a) = b).
 cnf(ax2, axiom, f(b) = a).
-";
+",
+);
 
 // A gate that holds the worker who comes first until another one has come.
 #[derive(Drop)]
@@ -61,22 +60,6 @@ impl Gate for Meeting {
     }
 }
 
-// The status and the text of the words over the problem, with this gate.
-fn told_at<R: Threads + Wait + Sync>(
-    rt: &R,
-    alloc: Global,
-    words: &[&str],
-    gate: &Meeting,
-) -> Result<(u8, String), Fail> {
-    let files = vec![in alloc; (text(alloc, "r18.p")?, text(alloc, PROBLEM)?)]?;
-    let mut library = MemoryLibrary::new(alloc, files, Vec::new(alloc))?;
-    let mut sink = MemorySink::new(alloc, Vec::new(alloc))?;
-    let words = strings(alloc, words)?;
-    let status = run(rt, alloc, &words, &mut library, &mut sink, gate);
-    let told = String::from_str(alloc, str::from_utf8(sink.bytes())?)?;
-    Ok((status, told))
-}
-
 // The worker of an event, where it is this one.
 fn worker_of(line: Option<&str>, event: &str) -> Option<u8> {
     let (worker, what) = line?.split_once(' ')?;
@@ -120,7 +103,7 @@ fn have_shares(told: &str) -> bool {
 fn two_workers_are_traced(rt: HostRuntime) -> Result<(), Fail> {
     let gate = Meeting::new();
     let words = ["prove", "--workers", "2", "--trace", "r18.p"];
-    let (status, told) = told_at(&rt, rt.alloc(), &words, &gate)?;
+    let (status, told) = told_at(&rt, rt.alloc(), &words, PROBLEM, &gate)?;
     assert!(rt; gate.has_met());
     assert!(rt; status == 1);
     assert!(rt; begins_with_draws(&told), "{told}");
@@ -137,12 +120,13 @@ fn two_workers_meet(rt: HostRuntime) -> Result<(), Fail> {
         &rt,
         rt.alloc(),
         &["prove", "--workers", "2", "r18.p"],
+        PROBLEM,
         &proving,
     )?;
     assert!(rt; status == 1 && proving.has_met());
     let deciding = Meeting::new();
     let words = ["decide", "--workers", "2", "r18.p", "f(f(a)) = a"];
-    let (status, told) = told_at(&rt, rt.alloc(), &words, &deciding)?;
+    let (status, told) = told_at(&rt, rt.alloc(), &words, PROBLEM, &deciding)?;
     assert!(rt; status == 0 && deciding.has_met());
     assert_eq!(rt; told.as_str(), "equal a\n");
     Ok(())
@@ -156,6 +140,7 @@ fn one_worker_is_alone(rt: HostRuntime) -> Result<(), Fail> {
         &rt,
         rt.alloc(),
         &["prove", "--workers", "1", "r18.p"],
+        PROBLEM,
         &gate,
     )?;
     assert!(rt; status == 1);

@@ -53,9 +53,7 @@ impl<'a, C: Clock, P: Print> Progress<'a, C, P> {
 
     // Notes that the worker of this number is there.
     fn note(&self, worker: u32) {
-        if u64::from(worker) > self.workers.load(Ordering::SeqCst) {
-            self.workers.store(u64::from(worker), Ordering::SeqCst);
-        }
+        self.workers.fetch_max(u64::from(worker), Ordering::SeqCst);
     }
 
     // Writes the line, unless one was written in this second.

@@ -1,0 +1,140 @@
+//! Final passes by several threads: that they form overlaps at once, and test pairs at once.
+
+ghost use Rattle.std.specs.Prelude.{◌≡◌};
+
+use crate::alphabet::{Sides, equations, order};
+use crate::books::settings::set_up;
+use crate::fronts::front_of;
+use crate::passes::pass;
+use crate::watched::Watched;
+use crate::workers::{AXIOMS, TURNS};
+use std::alloc::{AllocError, Global};
+use std::sync::Wait;
+use std::test::Fail;
+use std::thread::Threads;
+use uc_book::Book;
+use uc_final::{FinalPasses, final_pass};
+use uc_machine::Outcome;
+use uc_order::Order;
+use uc_search::{Ended, work_alone};
+use uc_shelf::Shelf;
+
+// f(f(X)) = X and g(g(X)) = X
+const INVOLUTIONS: &[Sides] = &[(b"ff", b"X"), (b"gg", b"X")];
+
+// m(X,Y) = m(Y,X)
+const COMMUTATIVE: &[Sides] = &[(b"y", b"z")];
+
+// Instances of it, of at least five nodes a side.
+const INSTANCES: &[Sides] = &[
+    (b"ap", b"aq"),
+    (b"bp", b"bq"),
+    (b"afp", b"afq"),
+    (b"bfp", b"bfq"),
+];
+
+// The overlaps of two facts are formed by two threads, and nothing is compared before.
+#[test]
+fn two_threads_form_overlaps(rt: HostRuntime) -> Result<(), Fail> {
+    let alloc = rt.alloc();
+    let shelf = Shelf::new(alloc)?;
+    let front = front_of(&rt, alloc, &shelf, INVOLUTIONS)?;
+    let order = Watched::new(order(alloc)?);
+    let axioms = Vec::new(alloc);
+    let outcome = pass(
+        &rt,
+        alloc,
+        &shelf,
+        &front,
+        axioms.as_slice(),
+        &[],
+        &order,
+        2,
+    )?;
+    assert!(rt; order.have_met());
+    assert!(rt; matches!(outcome, Outcome::Convergent(_)));
+    Ok(())
+}
+
+// One fact alone has its overlaps formed by one thread; its instances are tested by two, and these tests alone compare terms of
+// five nodes.
+#[test]
+fn two_threads_test_pairs(rt: HostRuntime) -> Result<(), Fail> {
+    let alloc = rt.alloc();
+    let shelf = Shelf::new(alloc)?;
+    let front = front_of(&rt, alloc, &shelf, COMMUTATIVE)?;
+    let order = Watched::idle(order(alloc)?, 5, TURNS);
+    let axioms = equations(alloc, INSTANCES)?;
+    order.watch();
+    let outcome = pass(
+        &rt,
+        alloc,
+        &shelf,
+        &front,
+        axioms.as_slice(),
+        &[],
+        &order,
+        2,
+    )?;
+    assert!(rt; order.have_met());
+    assert!(rt; matches!(outcome, Outcome::Convergent(_)));
+    Ok(())
+}
+
+// What the final pass over the book by so many threads answers.
+fn pass_over<R: Threads + Sync, O: Order + Sync>(
+    rt: &R,
+    alloc: Global,
+    order: &O,
+    shelf: &Shelf,
+    book: &Book<O>,
+    threads: u32,
+) -> Result<Outcome, AllocError>
+    requires { book.now.opening.shelf ≡ shelf.now }
+{
+    let stages = book.stages(alloc)?;
+    let mut passes = FinalPasses::none();
+    let (front, axioms) = (book.front(), book.axioms());
+    final_pass(
+        rt,
+        alloc,
+        shelf,
+        front,
+        axioms,
+        stages.as_slice(),
+        order,
+        threads,
+        &mut passes,
+    )
+}
+
+// Whether two calls compare at once in the final pass by so many threads over a book, for so many turns of each. No call waits
+// before the book is drained.
+fn compare_together<R: Threads + Wait + Sync>(
+    rt: &R,
+    alloc: Global,
+    threads: u32,
+    turns: u32,
+) -> Result<bool, Fail> {
+    let at = set_up(alloc, AXIOMS, &[])?;
+    let order = Watched::idle(order(alloc)?, 1, turns);
+    let (problem, shelf) = (&at.problem, &at.shelf);
+    let mut book = Book::start(alloc, problem, &order, shelf, 99, 99)?;
+    let mut pass = book.enroll(alloc, 0)?;
+    let ended = work_alone(rt, alloc, &mut book, shelf, problem, &order, &mut pass);
+    order.watch();
+    let outcome = pass_over(rt, alloc, &order, shelf, &book, threads)?;
+    if ended != Ended::Drained || !matches!(outcome, Outcome::Convergent(_)) {
+        return Err(Fail::from("another end"));
+    }
+    Ok(order.have_met())
+}
+
+// The final pass by two threads compares at once. That by one doesn't, however long a call waits.
+#[test]
+fn two_threads_end_a_book(rt: HostRuntime) -> Result<(), Fail> {
+    let alloc = rt.alloc();
+    assert!(rt; compare_together(&rt, alloc, 2, TURNS)?);
+    assert!(rt; !compare_together(&rt, alloc, 1, 1000)?);
+    Ok(())
+}
