@@ -2,9 +2,10 @@
 # How much faster `prove` ends with more workers: three problems, with 1, 2 and 4 workers in turn, in seconds of the clock, and how
 # many times faster than with one worker. The ratios mean something only where nothing else uses the processors: beside each time
 # stands how many processors the run had (its processor seconds for each second of the clock), and processor seconds themselves,
-# which tell what more workers cost in all. Where Debian's perf (linux-perf) is there, the share of the processor's time under
-# the lock and in waiting for it follows. Run it at the top of the repository, after the gate, which leaves the program in
-# crates/uc_main/out, or with another program as its first argument.
+# which tell what more workers cost in all. Then, looked at each fiftieth of a second, how many of the workers could run and how many
+# waited, which other work on the machine doesn't change. Where Debian's perf (linux-perf) is there, the share of the processor's
+# time under the lock and in waiting for it follows. Run it at the top of the repository, after the gate, which leaves the program
+# in crates/uc_main/out, or with another program as its first argument.
 set -euo pipefail
 cd "$(dirname "$0")/.."
 program=${1:-$PWD/crates/uc_main/out/uc_main}
@@ -27,6 +28,30 @@ search() {
 search examples/group-not-commutative.p --budget 60000
 search examples/harder/loop-moufang.p --budget 16000
 search examples/harder/ring-jacobi.p --budget 16000
+runnable() {
+    python3 - "$@" <<'END'
+import collections, os, subprocess, sys, time
+
+search = subprocess.Popen(sys.argv[1:], stdout=subprocess.DEVNULL)
+looks = collections.Counter()
+while search.poll() is None:
+    states = []
+    for thread in os.listdir(f"/proc/{search.pid}/task"):
+        try:
+            with open(f"/proc/{search.pid}/task/{thread}/stat") as stat:
+                states.append(stat.read().rsplit(")", 1)[1].split()[0])
+        except OSError:
+            pass
+    looks[states.count("R")] += 1
+    time.sleep(0.02)
+total = sum(looks.values())
+shares = ", ".join(f"{n} in {100 * looks[n] / total:.0f} %" for n in sorted(looks, reverse=True))
+print(" ".join(sys.argv[2:]), f"- threads that could run: {shares} of {total} looks")
+END
+}
+for workers in 2 4; do
+    runnable "$program" prove --workers "$workers" --budget 6000 examples/harder/ring-jacobi.p
+done
 if command -v perf >/dev/null; then
     perf record -q -F 2000 --call-graph dwarf,8192 -o "$folder/perf" "$program" prove --workers 4 --budget 4000 examples/harder/loop-moufang.p >/dev/null 2>&1 || true
     perf report -q -i "$folder/perf" --children --stdio -g none 2>/dev/null | awk '
