@@ -8,8 +8,8 @@ use Rattle.uc_check.specs.declared.checker.Cause.{Cause}
 use Rattle.uc_fact.specs.declared.fact.Overlap.{Overlap}
 use Rattle.uc_certify.specs.declared.certified.Certified.{Certified}
 use Rattle.uc_certify.specs.declared.certified.Certified.TheVariants as certified
-use Rattle.uc_certify.specs.declared.fault.CertFault.{CertFault}
-use Rattle.uc_certify.specs.declared.fault.CertFault.TheVariants.{Syntax, Version, Limit, UnknownRule, UnknownName, RepeatedName, NoMemory}
+use Rattle.uc_certificate.specs.declared.fault.CertFault.{CertFault}
+use Rattle.uc_certificate.specs.declared.fault.CertFault.TheVariants.{Syntax, Version, Limit, UnknownRule, UnknownName, RepeatedName, NoMemory}
 use Rattle.uc_answer.specs.Lines.{located, spaced, what_word, cause_word, name_or_dash}
 use Rattle.uc_answer.specs.PairLines.{overlap_words}
 

@@ -16,7 +16,7 @@ use Rattle.uc_pair.specs.Listing.{Lists, no_more_places, at_variable, no_unifier
 use Rattle.uc_pair.specs.Pairs.{IsPairOf}
 use Rattle.uc_decide.specs.Converging.{AreJoinable, IsJoinableOverlap, AreJoinableOverlaps, AreJoinableAxioms}
 use Rattle.uc_decide.proofs.Pairs.{pair_joins}
-use Rattle.uc_certify.specs.declared.certificate.Join.{Join}
+use Rattle.uc_certificate.specs.declared.certificate.Join.{Join}
 use Rattle.uc_certify.specs.declared.certified.Certified.{Certified}
 use Rattle.uc_certify.specs.declared.certified.Certified.TheVariants.{Yes}
 use Rattle.uc_certify.specs.declared.expected.Member.{Member}

@@ -27,7 +27,7 @@ use Rattle.uc_problem.specs.declared.problem.Problem.{Problem}
 use Rattle.uc_problem.specs.declared.problem.Encoded.{Encoded}
 use Rattle.uc_problem.specs.Encodes.{encoding_of}
 use Rattle.uc_system.specs.Reading.{precedence_of}
-use Rattle.uc_certify.specs.declared.certificate.Certificate.{Certificate}
+use Rattle.uc_certificate.specs.declared.certificate.Certificate.{Certificate}
 use Rattle.uc_certify.specs.declared.certified.Certified.{Certified}
 use Rattle.uc_certify.specs.declared.certified.Certified.TheVariants.{Yes}
 use Rattle.uc_certify.specs.declared.expected.Member.{Member}

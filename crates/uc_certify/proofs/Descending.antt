@@ -15,7 +15,7 @@ use Rattle.uc_order.specs.VarOrders.{Classes, Among, HasOnly, Respects}
 use Rattle.uc_fact.specs.Ground.{Down, GStep}
 use Rattle.uc_rewrite.specs.Replay.{replaced_side}
 use Rattle.uc_ground.proofs.Grounded.{image_ground, instance_ground}
-use Rattle.uc_certify.specs.declared.certificate.Move.{Move}
+use Rattle.uc_certificate.specs.declared.certificate.Move.{Move}
 use Rattle.uc_certify.specs.Moving.{moved, IsMove, AreMoves}
 use Rattle.uc_certify.proofs.Positioned.{within_at}
 use Rattle.uc_certify.proofs.NoNew.{no_new}

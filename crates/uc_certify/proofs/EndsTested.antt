@@ -14,7 +14,7 @@ use Rattle.uc_order.proofs.Exactly.{has_all}
 use Rattle.uc_fact.specs.Live.{fact_at, numbered}
 use Rattle.uc_ground.specs.Joining.{AreVariables, IsInstance, IsInstanceFrom}
 use Rattle.uc_ground.proofs.Unique.{one_variables}
-use Rattle.uc_certify.specs.declared.certificate.Case.{Case}
+use Rattle.uc_certificate.specs.declared.certificate.Case.{Case}
 use Rattle.uc_certify.specs.Joining.{IsRightCase, AreRightCases}
 use Rattle.uc_certify.specs.Testing.{AreBoth, HaveOrders}
 use Rattle.uc_certify.proofs.Joinable.{fact_there}

@@ -20,10 +20,10 @@ use Rattle.uc_fact.specs.Live.{fact_at, numbered}
 use Rattle.uc_rewrite.proofs.Scanned.{fact_numbered}
 use Rattle.uc_ground.specs.Joining.{IsInstance}
 use Rattle.uc_ground.proofs.Grounded.{image_ground}
-use Rattle.uc_certify.specs.declared.certificate.Case.{Case}
-use Rattle.uc_certify.specs.declared.certificate.End.{End}
-use Rattle.uc_certify.specs.declared.certificate.End.TheVariants.{Same, Instance, Orders}
-use Rattle.uc_certify.specs.declared.certificate.Join.{Join}
+use Rattle.uc_certificate.specs.declared.certificate.Case.{Case}
+use Rattle.uc_certificate.specs.declared.certificate.End.{End}
+use Rattle.uc_certificate.specs.declared.certificate.End.TheVariants.{Same, Instance, Orders}
+use Rattle.uc_certificate.specs.declared.certificate.Join.{Join}
 use Rattle.uc_certify.specs.Moving.{moved}
 use Rattle.uc_certify.specs.Joining.{IsRightCase, AreRightCases, IsRightEnd, Joins}
 use Rattle.uc_certify.proofs.Descending.{G, any_ground, any_down, case_down}

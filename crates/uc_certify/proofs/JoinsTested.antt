@@ -12,7 +12,7 @@ use Rattle.uc_pair.specs.declared.formation.Formation.TheVariants.{Pair, TooLarg
 use Rattle.uc_pair.specs.Overlapping.{read_from}
 use Rattle.uc_pair.specs.Pairs.{IsPairOf}
 use Rattle.uc_pair.proofs.OnePair.{one_formation}
-use Rattle.uc_certify.specs.declared.certificate.Join.{Join}
+use Rattle.uc_certificate.specs.declared.certificate.Join.{Join}
 use Rattle.uc_certify.specs.declared.certified.Certified.{Certified}
 use Rattle.uc_certify.specs.declared.certified.Certified.TheVariants.{Yes, Join as WrongJoin, Large}
 use Rattle.uc_certify.specs.declared.expected.Member.{Member}

@@ -15,7 +15,7 @@ use Rattle.uc_order.specs.Members.{Each, In}
 use Rattle.uc_order.specs.Laws.{Meaning, HasSym}
 use Rattle.uc_order.specs.VarOrders.{Classes, Among, among_front, among_rest, class_of}
 use Rattle.uc_order.proofs.Respected.{is_among-In, In-is_among, later}
-use Rattle.uc_certify.specs.Arities.{KeepsArities, AllKeepArities}
+use Rattle.uc_certificate.specs.Arities.{KeepsArities, AllKeepArities}
 use Rattle.uc_certify.specs.Certifying.{AreSameSymbols}
 use Rattle.uc_certify.specs.Knowing.{HasNumber, IsSetOf, IsKnownNode}
 use Rattle.uc_certify.proofs.Lists.{taken_all, in_left, in_last, in_split}

@@ -19,9 +19,9 @@ use Rattle.uc_ground.specs.Ends.{EndsAgree}
 use Rattle.uc_ground.proofs.Tried.{all_members, known_left, known_right}
 use Rattle.uc_ground.proofs.Unique.{one_variables}
 use Rattle.uc_runs.proofs.OverTerms.{instance_over}
-use Rattle.uc_certify.specs.declared.certificate.Case.{Case}
-use Rattle.uc_certify.specs.declared.certificate.End.{End}
-use Rattle.uc_certify.specs.declared.certificate.End.TheVariants.{Same, Instance, Orders}
+use Rattle.uc_certificate.specs.declared.certificate.Case.{Case}
+use Rattle.uc_certificate.specs.declared.certificate.End.{End}
+use Rattle.uc_certificate.specs.declared.certificate.End.TheVariants.{Same, Instance, Orders}
 use Rattle.uc_certify.specs.Moving.{moved}
 use Rattle.uc_certify.specs.Joining.{IsRightCase, AreRightCases, IsRightEnd}
 use Rattle.uc_certify.specs.Making.{IsMadeCase, AreMadeCases, AreAllCases, SaysWhy}

@@ -22,9 +22,9 @@ use Rattle.uc_rewrite.specs.declared.normal.Normal.{Normal}
 use Rattle.uc_rewrite.specs.Normalising.{IsNormalOf}
 use Rattle.uc_runs.proofs.OverTerms.{normal_over}
 use Rattle.uc_runs.proofs.OverFound.{pair_over}
-use Rattle.uc_certify.specs.declared.certificate.Join.{Join}
-use Rattle.uc_certify.specs.declared.certificate.What.{What}
-use Rattle.uc_certify.specs.declared.certificate.What.TheVariants.{Axiom, Overlap}
+use Rattle.uc_certificate.specs.declared.certificate.Join.{Join}
+use Rattle.uc_certificate.specs.declared.certificate.What.{What}
+use Rattle.uc_certificate.specs.declared.certificate.What.TheVariants.{Axiom, Overlap}
 use Rattle.uc_certify.specs.declared.certified.Certified.TheVariants.{Yes}
 use Rattle.uc_certify.specs.declared.expected.Member.{Member}
 use Rattle.uc_certify.specs.declared.expected.Member.TheVariants as member

@@ -19,7 +19,7 @@ use Rattle.uc_rewrite.specs.Replay.{replaced_side}
 use Rattle.uc_rewrite.proofs.Reading.{rule_makes}
 use Rattle.uc_rewrite.proofs.Unique.{step_falls}
 use Rattle.uc_runs.proofs.OverTerms.{step_over}
-use Rattle.uc_certify.specs.declared.certificate.Move.{Move}
+use Rattle.uc_certificate.specs.declared.certificate.Move.{Move}
 use Rattle.uc_certify.specs.Moving.{moved, IsMove, AreMoves}
 use Rattle.uc_certify.specs.Making.{IsMoveOf, AreMovesOf, IsByFact, AreByFacts}
 use Rattle.uc_certify.proofs.Covered.{equations_numbered}

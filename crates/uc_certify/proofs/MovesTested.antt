@@ -8,7 +8,7 @@ use Rattle.uc_term.specs.Positions.{IsPlaceOf}
 use Rattle.uc_term.specs.Over.{IsOver}
 use Rattle.uc_order.specs.Laws.{Meaning, HasSym}
 use Rattle.uc_rewrite.specs.Replay.{replaced_side}
-use Rattle.uc_certify.specs.declared.certificate.Move.{Move}
+use Rattle.uc_certificate.specs.declared.certificate.Move.{Move}
 use Rattle.uc_certify.specs.Moving.{moved, IsMove, AreMoves}
 use Rattle.uc_certify.specs.Replacing.{FallsAt}
 

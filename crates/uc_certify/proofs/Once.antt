@@ -13,8 +13,8 @@ use Rattle.uc_fact.specs.Live.{Live, numbered}
 use Rattle.uc_pair.specs.declared.formed.Formed.{Formed}
 use Rattle.uc_pair.proofs.Uniqueness.{same_each}
 use Rattle.uc_problem.specs.declared.problem.Encoded.{Encoded}
-use Rattle.uc_certify.specs.declared.certificate.Certificate.{Certificate}
-use Rattle.uc_certify.specs.declared.certificate.Join.{Join}
+use Rattle.uc_certificate.specs.declared.certificate.Certificate.{Certificate}
+use Rattle.uc_certificate.specs.declared.certificate.Join.{Join}
 use Rattle.uc_certify.specs.declared.certified.Certified.{Certified}
 use Rattle.uc_certify.specs.declared.certified.Certified.TheVariants.{Line as WrongLine, Fact as WrongFact}
 use Rattle.uc_certify.specs.declared.expected.Member.{Member}

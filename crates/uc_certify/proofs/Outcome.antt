@@ -12,8 +12,8 @@ use Rattle.uc_fact.specs.Ground.{AreOfSignature}
 use Rattle.uc_decide.specs.Deciding.{Decides}
 use Rattle.uc_problem.specs.declared.problem.Encoded.{Encoded}
 use Rattle.uc_system.specs.Reading.{precedence_of}
-use Rattle.uc_certify.specs.declared.certificate.Certificate.{Certificate}
-use Rattle.uc_certify.specs.declared.certificate.Join.{Join}
+use Rattle.uc_certificate.specs.declared.certificate.Certificate.{Certificate}
+use Rattle.uc_certificate.specs.declared.certificate.Join.{Join}
 use Rattle.uc_certify.specs.declared.certified.Certified.{Certified}
 use Rattle.uc_certify.specs.declared.certified.Certified.TheVariants.{Yes, Line as WrongLine, Fact as WrongFact}
 use Rattle.uc_certify.specs.Certifying.{AreSameSymbols, AreDerivedBefore, IsFirstUnderived, IsCertified, wrong_line, wrong_fact, by_joins}

@@ -12,8 +12,8 @@ use Rattle.uc_order.specs.Laws.{Meaning}
 use Rattle.uc_pair.specs.declared.formed.Formed.{Formed}
 use Rattle.uc_problem.specs.declared.problem.Encoded.{Encoded}
 use Rattle.uc_system.specs.Reading.{precedence_of}
-use Rattle.uc_certify.specs.declared.certificate.Certificate.{Certificate}
-use Rattle.uc_certify.specs.declared.certificate.Join.{Join}
+use Rattle.uc_certificate.specs.declared.certificate.Certificate.{Certificate}
+use Rattle.uc_certificate.specs.declared.certificate.Join.{Join}
 use Rattle.uc_certify.specs.declared.expected.Member.{Member}
 use Rattle.uc_certify.specs.declared.expected.Member.TheVariants.{Overlap}
 use Rattle.uc_certify.specs.declared.certified.Certified.{Certified}

@@ -10,7 +10,7 @@ use Rattle.uc_pair.specs.declared.formed.Formed.{Formed}
 use Rattle.uc_pair.specs.Overlapping.{IsFormedOf}
 use Rattle.uc_certify.specs.declared.expected.Member.{Member}
 use Rattle.uc_certify.specs.declared.expected.Member.TheVariants.{Axiom, Overlap}
-use Rattle.uc_certify.specs.declared.certificate.Join.{Join}
+use Rattle.uc_certificate.specs.declared.certificate.Join.{Join}
 use Rattle.uc_certify.specs.declared.certified.Certified.{Certified}
 use Rattle.uc_certify.specs.Expecting.{members_of, OverlapsWith, AreExpected, IsLargeMember}
 use Rattle.uc_certify.specs.Certifying.{AreTested}

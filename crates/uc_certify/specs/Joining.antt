@@ -16,12 +16,12 @@ use Rattle.uc_pair.specs.declared.formation.Formation.TheVariants.{Pair}
 use Rattle.uc_pair.specs.declared.formed.Formed.{Formed}
 use Rattle.uc_pair.specs.Pairs.{IsPairOf}
 use Rattle.uc_ground.specs.Joining.{AreVariables, IsInstance}
-use Rattle.uc_certify.specs.declared.certificate.Case.{Case}
-use Rattle.uc_certify.specs.declared.certificate.End.{End}
-use Rattle.uc_certify.specs.declared.certificate.End.TheVariants.{Same, Instance, Orders}
-use Rattle.uc_certify.specs.declared.certificate.Join.{Join}
-use Rattle.uc_certify.specs.declared.certificate.What.{What}
-use Rattle.uc_certify.specs.declared.certificate.What.TheVariants.{Axiom, Overlap}
+use Rattle.uc_certificate.specs.declared.certificate.Case.{Case}
+use Rattle.uc_certificate.specs.declared.certificate.End.{End}
+use Rattle.uc_certificate.specs.declared.certificate.End.TheVariants.{Same, Instance, Orders}
+use Rattle.uc_certificate.specs.declared.certificate.Join.{Join}
+use Rattle.uc_certificate.specs.declared.certificate.What.{What}
+use Rattle.uc_certificate.specs.declared.certificate.What.TheVariants.{Axiom, Overlap}
 use Rattle.uc_certify.specs.declared.expected.Member.{Member}
 use Rattle.uc_certify.specs.declared.expected.Member.TheVariants as member
 use Rattle.uc_certify.specs.Moving.{moved, AreMoves}

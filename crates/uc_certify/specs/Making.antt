@@ -18,13 +18,13 @@ use Rattle.uc_fact.specs.Live.{Live, numbered}
 use Rattle.uc_rewrite.specs.declared.normal.Normal.{Normal}
 use Rattle.uc_rewrite.specs.Normalising.{IsNormalOf}
 use Rattle.uc_ground.specs.Joining.{AreVariables, IsAnswer}
-use Rattle.uc_certify.specs.declared.certificate.Case.{Case}
-use Rattle.uc_certify.specs.declared.certificate.End.{End}
-use Rattle.uc_certify.specs.declared.certificate.End.TheVariants.{Same, Instance, Orders}
-use Rattle.uc_certify.specs.declared.certificate.Join.{Join}
-use Rattle.uc_certify.specs.declared.certificate.Move.{Move}
-use Rattle.uc_certify.specs.declared.certificate.What.{What}
-use Rattle.uc_certify.specs.declared.certificate.What.TheVariants.{Axiom, Overlap as OfOverlap}
+use Rattle.uc_certificate.specs.declared.certificate.Case.{Case}
+use Rattle.uc_certificate.specs.declared.certificate.End.{End}
+use Rattle.uc_certificate.specs.declared.certificate.End.TheVariants.{Same, Instance, Orders}
+use Rattle.uc_certificate.specs.declared.certificate.Join.{Join}
+use Rattle.uc_certificate.specs.declared.certificate.Move.{Move}
+use Rattle.uc_certificate.specs.declared.certificate.What.{What}
+use Rattle.uc_certificate.specs.declared.certificate.What.TheVariants.{Axiom, Overlap as OfOverlap}
 use Rattle.uc_certify.specs.declared.expected.Member.{Member}
 use Rattle.uc_certify.specs.Gathering.{IsKnownMember}
 use Rattle.uc_certify.specs.Expecting.{AreExpected, IsLargeMember}

@@ -7,7 +7,7 @@ use Rattle.uc_term.specs.Path.{at_position, put_position}
 use Rattle.uc_term.specs.Over.{IsOver}
 use Rattle.uc_order.specs.Laws.{Meaning, HasSym}
 use Rattle.uc_rewrite.specs.Replay.{replaced_side}
-use Rattle.uc_certify.specs.declared.certificate.Move.{Move}
+use Rattle.uc_certificate.specs.declared.certificate.Move.{Move}
 
 -- the term to which moves lead: that behind the last of them; the one before them, where there are none
 abbrev pub moved : Tree → List Move → Tree

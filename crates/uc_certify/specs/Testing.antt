@@ -7,8 +7,8 @@ use Rattle.uc_term.specs.Tree.{Tree, apply}
 use Rattle.uc_order.specs.VarOrders.{Classes}
 use Rattle.uc_order.specs.Laws.{Meaning}
 use Rattle.uc_fact.specs.declared.fact.Overlap.{Overlap as AnyOverlap}
-use Rattle.uc_certify.specs.declared.certificate.Case.{Case}
-use Rattle.uc_certify.specs.declared.certificate.Join.{Join}
+use Rattle.uc_certificate.specs.declared.certificate.Case.{Case}
+use Rattle.uc_certificate.specs.declared.certificate.Join.{Join}
 use Rattle.uc_certify.specs.declared.expected.Member.{Member}
 use Rattle.uc_certify.specs.Joining.{AreSides, Joins}
 

@@ -11,8 +11,8 @@ ghost use Rattle.uc_certify.specs.Making.{IsMadeCase, AreAllCases, SaysWhy};
 
 use crate::moves::moves_of;
 use crate::variables::rising_variables;
-use crate::{Case, End};
 use std::alloc::{AllocError, Global};
+use uc_certificate::{Case, End};
 use uc_fact::{Index, Joinable, Reason};
 use uc_ground::ground_join;
 use uc_order::{Order, var_orders};

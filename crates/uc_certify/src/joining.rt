@@ -3,18 +3,19 @@
 ghost use Rattle.std.specs.Prelude.{◌≡◌, ◌↔◌, List, IsTrue, IfOk};
 ghost use Rattle.uc_term.specs.declared.equation.Equation.{Equation as AnyEquation};
 ghost use Rattle.uc_certify.specs.declared.expected.Member.TheVariants as member;
-ghost use Rattle.uc_certify.specs.Arities.{JoinKeepsArities};
+ghost use Rattle.uc_certificate.specs.Arities.{JoinKeepsArities};
 ghost use Rattle.uc_certify.specs.Gathering.{IsOfFacts, IsKnownMember};
 ghost use Rattle.uc_certify.specs.Joining.{Names, Joins, IsRightJoin};
 ghost use Rattle.uc_certify.specs.Knowing.{IsSetOf};
 ghost use Rattle.uc_certify.specs.Testing.{HasPath, JoinsMember};
 
+use crate::Member;
 use crate::comparison::ByOrder;
 use crate::ends::is_right_end;
 use crate::moving::{Rules, end_of_moves};
 use crate::sides::side_of;
-use crate::{Join, Member, What};
 use std::alloc::{AllocError, Global};
+use uc_certificate::{Join, What};
 use uc_fact::{Equation, Overlap};
 use uc_order::Order;
 use uc_pair::{Formation, Formed, pair_of};

@@ -1,6 +1,6 @@
 //! Laws over the definitions, each the contract of a function that does nothing.
 
-ghost use Rattle.std.specs.Prelude.{◌≡◌, ℕ, List, Result, Err};
+ghost use Rattle.std.specs.Prelude.{◌≡◌, List};
 ghost use Rattle.uc_term.specs.declared.equation.Equation.{Equation};
 ghost use Rattle.uc_clause.specs.declared.clause.Sourced.{Sourced};
 ghost use Rattle.uc_order.specs.Laws.{HasSym};
@@ -14,17 +14,13 @@ ghost use Rattle.uc_machine.specs.Finals.{IsFinal};
 ghost use Rattle.uc_decide.specs.Deciding.{Decides};
 ghost use Rattle.uc_problem.specs.declared.problem.Encoded.{Encoded};
 ghost use Rattle.uc_system.specs.Reading.{precedence_of};
-ghost use Rattle.uc_term.specs.Table.{Table, Grows, IsDistinct};
 ghost use Rattle.uc_term.specs.Tree.{Tree};
-ghost use Rattle.uc_certify.specs.declared.certificate.Certificate.{Certificate};
-ghost use Rattle.uc_certify.specs.declared.certificate.Join.{Join};
+ghost use Rattle.uc_certificate.specs.declared.certificate.Certificate.{Certificate};
+ghost use Rattle.uc_certificate.specs.declared.certificate.Join.{Join};
 ghost use Rattle.uc_certify.specs.declared.certified.Certified.{Certified};
 ghost use Rattle.uc_certify.specs.declared.certified.Certified.TheVariants.{Yes};
 ghost use Rattle.uc_certify.specs.declared.expected.Member.{Member};
-ghost use Rattle.uc_certify.specs.declared.fault.CertFault.{CertFault};
 ghost use Rattle.uc_certify.specs.Joining.{Joins};
-ghost use Rattle.uc_certify.specs.Interning.{InternsCertificate};
-ghost use Rattle.uc_certify.specs.Reading.{ReadsCertificate};
 ghost use Rattle.uc_certify.specs.Expecting.{AreExpected};
 ghost use Rattle.uc_certify.specs.Certifying.{AreSameSymbols, IsCertified};
 ghost use Rattle.uc_certify.specs.Making.{AllAreFoundJoined};
@@ -54,26 +50,4 @@ pub fn certified_decides<O: Order>(order: &O)
 /// the facts being numbered by their places. So a certificate of them can be made.
 pub fn convergent_is_joined<O: Order>(order: &O)
     ensures { (axioms : List Equation) (s : State) (system : System) → IsFinal (O.meaning order.now) axioms s (Convergent system) → AllAreFoundJoined (O.meaning order.now) (equations_of (live s.entries)) axioms }
-{}
-
-/// In a table whose entries are all different a text reads as at most one certificate, or is refused for one reason at one place. So
-/// the contract that names this says exactly where each answer comes.
-pub fn one_reading()
-    ensures { (table : Table) (text : List ℕ) (a b : Result Certificate CertFault) → IsDistinct table → ReadsCertificate table text a → ReadsCertificate table text b → a ≡ b }
-{}
-
-/// What reading a certificate makes of the table of symbols is one table.
-pub fn one_table()
-    ensures { (text : List ℕ) (old new other : Table) → InternsCertificate text old new → InternsCertificate text old other → new ≡ other }
-{}
-
-/// What a text reads as in a table it reads as in each table that begins with it.
-pub fn reading_stays()
-    ensures { (old new : Table) (text : List ℕ) (answer : Result Certificate CertFault) → Grows old new → ReadsCertificate old text answer → ReadsCertificate new text answer }
-{}
-
-/// Why a text isn't read doesn't depend on the table, where the entries of a table are all different: a text that is refused in one
-/// is refused in each for the same reason and at the same place.
-pub fn one_refusal()
-    ensures { (table other : Table) (text : List ℕ) (fault : CertFault) (answer : Result Certificate CertFault) → IsDistinct table → IsDistinct other → ReadsCertificate table text (Err fault) → ReadsCertificate other text answer → answer ≡ Err fault }
 {}

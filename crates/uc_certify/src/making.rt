@@ -19,12 +19,13 @@ ghost use Rattle.uc_certify.specs.declared.expected.Member.TheVariants as member
 ghost use Rattle.uc_certify.specs.Gathering.{IsOfFacts, IsKnownMember};
 ghost use Rattle.uc_certify.specs.Making.{AreFoundJoined, IsMade, IsFoundJoined, AllAreFoundJoined, NamesIt, IsMadeFor, AreMadeFor, AreAllMade};
 
+use crate::Member;
 use crate::ending::end_of;
 use crate::expected::expected_members;
 use crate::moves::moves_of;
 use crate::sides::side_of;
-use crate::{Certificate, Join, Member, What};
 use std::alloc::{AllocError, Global};
+use uc_certificate::{Certificate, Join, What};
 use uc_check::Proof;
 use uc_fact::{Equation, Index, Overlap, System};
 use uc_order::{Order, OrderSpec};

@@ -5,8 +5,8 @@ ghost use Rattle.uc_term.specs.Tree.{nodes};
 ghost use Rattle.uc_fact.specs.declared.chain.By.TheVariants.{Fact as ByFact};
 ghost use Rattle.uc_certify.specs.Making.{IsMoveOf, AreMovesOf, IsByFact, AreByFacts};
 
-use crate::Move;
 use std::alloc::{AllocError, Global};
+use uc_certificate::Move;
 use uc_fact::{By, Chain, Step};
 use uc_term::{Seq, Term};
 

@@ -5,15 +5,15 @@ ghost use Rattle.uc_term.specs.Over.{IsOver};
 ghost use Rattle.uc_term.specs.Tree.{nodes};
 ghost use Rattle.uc_order.specs.Laws.{HasSym};
 ghost use Rattle.uc_check.specs.Replacements.{ReplacesAt};
-ghost use Rattle.uc_certify.specs.Arities.{KeepsArities, MovesKeepArities};
+ghost use Rattle.uc_certificate.specs.Arities.{KeepsArities, MovesKeepArities};
 ghost use Rattle.uc_certify.specs.Knowing.{IsSetOf, HasKnown, IsKnownNode};
 ghost use Rattle.uc_certify.specs.Moving.{moved, IsMove, AreMoves};
 ghost use Rattle.uc_certify.specs.Replacing.{FallsAt};
 
-use crate::Move;
 use crate::comparison::Comparison;
 use crate::symbol_set::SymbolSet;
 use std::alloc::{AllocError, Global};
+use uc_certificate::Move;
 use uc_fact::Equation;
 use uc_term::{Node, Pos, Term, end_of, same_nodes};
 use uc_unify::matches_both;

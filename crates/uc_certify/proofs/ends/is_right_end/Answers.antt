@@ -1,5 +1,5 @@
 use Rattle.std.proofs.Common.{IfOk, IsTrue, ◌↔◌, List, subst}
-use Rattle.uc_certify.specs.declared.certificate.Case.{Case}
+use Rattle.uc_certificate.specs.declared.certificate.Case.{Case}
 use Rattle.uc_certify.specs.Joining.{AreRightCases}
 use Rattle.uc_certify.proofs.ends.is_right_end.Goals as goal
 

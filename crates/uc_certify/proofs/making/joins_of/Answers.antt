@@ -3,7 +3,7 @@ use Rattle.std.proofs.lemmas.List.{drop_more}
 use Rattle.std.proofs.Math.ListN.{drop_of_length-le}
 use Rattle.uc_order.specs.Members.{Each}
 use Rattle.uc_fact.specs.Live.{numbered}
-use Rattle.uc_certify.specs.declared.certificate.Join.{Join}
+use Rattle.uc_certificate.specs.declared.certificate.Join.{Join}
 use Rattle.uc_certify.specs.declared.expected.Member.{Member}
 use Rattle.uc_certify.specs.Gathering.{IsKnownMember}
 use Rattle.uc_certify.specs.Expecting.{AreExpected}

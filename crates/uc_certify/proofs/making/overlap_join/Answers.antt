@@ -7,7 +7,7 @@ use Rattle.uc_pair.specs.declared.formation.Formation.TheVariants.{Pair, TooLarg
 use Rattle.uc_pair.specs.Overlapping.{read_from}
 use Rattle.uc_pair.specs.Pairs.{IsPairOf}
 use Rattle.uc_pair.proofs.OnePair.{large_by_size}
-use Rattle.uc_certify.specs.declared.certificate.Join.{Join}
+use Rattle.uc_certificate.specs.declared.certificate.Join.{Join}
 use Rattle.uc_certify.specs.declared.expected.Member.TheVariants as member
 use Rattle.uc_certify.specs.Joining.{Names, of_overlap}
 use Rattle.uc_certify.specs.Making.{AreFoundJoined, IsMade, NamesIt, IsMadeFor}

@@ -1,6 +1,6 @@
 use Rattle.std.proofs.Common.{List, ◌≡◌, sym, ◌∙◌, subst}
 use Rattle.uc_fact.specs.declared.chain.Step.{Step}
-use Rattle.uc_certify.specs.declared.certificate.Move.{Move}
+use Rattle.uc_certificate.specs.declared.certificate.Move.{Move}
 use Rattle.uc_certify.specs.Making.{AreMovesOf}
 use Rattle.uc_rewrite.proofs.Replays.{step_at, nothing_left}
 use Rattle.uc_certify.proofs.MadeMoves.{turning_begins, by_here, inside_here, turning_on, turning_ends}

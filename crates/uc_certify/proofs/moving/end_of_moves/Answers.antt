@@ -1,5 +1,5 @@
-use Rattle.uc_certify.specs.Arities.{KeepsArities}
-use Rattle.uc_certify.specs.declared.certificate.Move.{Move}
+use Rattle.uc_certificate.specs.Arities.{KeepsArities}
+use Rattle.uc_certificate.specs.declared.certificate.Move.{Move}
 use Rattle.uc_order.specs.Laws.{HasSym}
 use Rattle.uc_certify.proofs.Descending.{over_only}
 use Rattle.uc_certify.proofs.Lists.{of, not_of, next_is, none_left, each_at}

@@ -1,0 +1,14 @@
+pub mod Arities
+pub mod Parts
+pub mod Headings
+pub mod JoinParse
+pub mod JoinLines
+pub mod JoinMeaning
+pub mod Reading
+pub mod Having
+pub mod Reads
+pub mod Interning
+pub mod FactNames
+pub mod Faults
+pub mod Printing
+pub mod Printable

@@ -1,6 +1,0 @@
-use Rattle.std.proofs.Common.{◌≡◌, ◌-◌}
-use Rattle.uc_certify.specs.Reading.{lines_down}
-use Rattle.uc_certify.proofs.parts.lines_down.Given as goal
-
-abbrev pub invariant-loop : goal.invariant-loop
-invariant-loop l = lines_down (l.count - l.counter) l.rest ≡ lines_down l.count l.text

@@ -1,5 +1,0 @@
-use Rattle.uc_certify.proofs.VariableNames.{AreFirst}
-use Rattle.uc_certify.proofs.terms.names_of.Given as goal
-
-abbrev pub invariant-loop-variable : goal.invariant-loop-variable
-invariant-loop-variable l = AreFirst l.names l.variable
