@@ -31,6 +31,7 @@ use Rattle.uc_top.specs.Loaded.{IsLoaded}
 use Rattle.uc_top.specs.FileAnswers.{FileAnswers}
 use Rattle.uc_top.specs.TableAnswers.{TableTextAnswers}
 use Rattle.uc_top.specs.ModelAnswers.{IsModelled}
+use Rattle.uc_top.specs.CertifyAnswers.{CertificateAnswers}
 use Rattle.uc_top.specs.OrderAnswers.{IsOrdered}
 use Rattle.uc_top.specs.RewriteAnswers.{IsRewritten}
 use Rattle.uc_top.specs.PairsAnswers.{IsPaired}
@@ -52,6 +53,7 @@ IsBuilt verb.Pairs = Unit {0}
 IsBuilt verb.Decide = Unit {0}
 IsBuilt verb.Table = Unit {0}
 IsBuilt verb.Model = Unit {0}
+IsBuilt verb.Certify = Unit {0}
 IsBuilt other = ⊥
 
 -- the commands that are built and search, by as many workers as the words ask for
@@ -131,6 +133,10 @@ module _ (holds : Option Files) (before now : ℕ) where
   abbrev pub ModelAnswers : Command → List ℕ → ℕ → List ℕ → Type 0
   ModelAnswers command name = LoadAnswers (λ symbols. IsModelled symbols command name) command.root name
 
+  -- the answer to `certify` for the problem file and the certificate file of these names, with this root
+  abbrev pub CertifyAnswers : Option (List ℕ) → List ℕ → List ℕ → ℕ → List ℕ → Type 0
+  CertifyAnswers root name file = LoadAnswers (CertificateAnswers holds before now file) root name
+
   -- the answer to the words of a command line; each command that is built has a case, and no certificate is printed so far
   module _ (words : List (List ℕ)) where
     pub data Answers : ℕ → List ℕ → Type 0 where
@@ -146,3 +152,4 @@ module _ (holds : Option Files) (before now : ℕ) where
       decides : {command : Command} {name : List ℕ} {questions : List (List ℕ)} {status : ℕ} {answer : List ℕ} → Reads words command → command.verb ≡ verb.Decide → command.positionals ≡ name ∷ questions → DecideAnswers command name questions status answer → Answers status answer
       tables : {command : Command} {name file : List ℕ} {status : ℕ} {answer : List ℕ} → Reads words command → command.verb ≡ verb.Table → command.positionals ≡ name ∷ file ∷ [] → TableAnswers command.root name file status answer → Answers status answer
       models : {command : Command} {name : List ℕ} {status : ℕ} {answer : List ℕ} → Reads words command → command.verb ≡ verb.Model → command.positionals ≡ name ∷ [] → ModelAnswers command name status answer → Answers status answer
+      certifies : {command : Command} {name file : List ℕ} {status : ℕ} {answer : List ℕ} → Reads words command → command.verb ≡ verb.Certify → command.positionals ≡ name ∷ file ∷ [] → CertifyAnswers command.root name file status answer → Answers status answer

@@ -7,6 +7,7 @@ pub mod DecideAnswers
 pub mod FileAnswers
 pub mod TableAnswers
 pub mod ModelAnswers
+pub mod CertifyAnswers
 pub mod Told
 pub mod Faulting
 pub mod Answers
@@ -20,4 +21,5 @@ pub mod DecideRuns
 pub mod DecideTold
 pub mod TableRuns
 pub mod ModelRuns
+pub mod CertifyRuns
 pub mod Headline

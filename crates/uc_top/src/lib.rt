@@ -2,6 +2,7 @@
 #![tactic(auto)]
 
 mod axioms;
+mod certifying;
 mod checking;
 mod deciding;
 mod laws;

@@ -17,11 +17,13 @@ ghost use Rattle.uc_top.specs.ProveRuns.{KeepsCommand, CompletesProve};
 ghost use Rattle.uc_top.specs.DecideRuns.{KeepsDecideCommand, CompletesDecide};
 ghost use Rattle.uc_top.specs.TableRuns.{KeepsTableWord, CompletesTable};
 ghost use Rattle.uc_top.specs.ModelRuns.{KeepsModelWord, CompletesModel};
+ghost use Rattle.uc_top.specs.CertifyRuns.{KeepsCertifyWord, CompletesCertify};
 ghost use Rattle.uc_top.specs.Faulting.{TellsFault, AnswersFault, IsStatusFaulted, IsWholeFaulted, IsFaultedRun, fault_opening, fault_text};
 ghost use Rattle.uc_top.specs.Told.{CountsWrites};
 ghost use Rattle.uc_top.specs.Given.{GivesAnswer};
 ghost use Rattle.uc_top.specs.Headline.{Headline};
 
+use crate::certifying::certify_answer;
 use crate::checking::check_answer;
 use crate::deciding::decide_answer;
 use crate::modelling::model_answer;
@@ -62,7 +64,9 @@ use uc_words::{Command, Verb, WordsFault, read_words};
 /// fails in it, or the sides of a goal meet, under the assignment that is told; else 3. For `model` it is 0 where a table up to the
 /// size is a model of the problem, so that none of its goals follows, while none of a smaller size is one, and the text is that table;
 /// 1 where none up to the size is one; 2 where the text names the limit that ended the search: the budget, the cells of a table or the
-/// assignments of a clause; else 3. 4 stands for words that have no reading or name a command that isn't
+/// assignments of a clause; else 3. For `certify` it is 0 where the certificate file has a certificate that passes all tests, so that by
+/// the order of its symbol lines its facts decide what follows from the axioms, those of the encoding where a goal has a variable; 1
+/// where it reads and fails a test, the first of which is told; else 3. 4 stands for words that have no reading or name a command that isn't
 /// built, 5 for a failure of the library and 6 for one of the sink, each only where its count of faults rose in this call, and 7 for
 /// want of memory.
 ///
@@ -94,6 +98,8 @@ pub fn run<R: Threads + Wait + Sync, L: Library, S: Sink, G: Gate + Sync>(
     ensures complete_table { (files : Files) → L.holds library.old ≡ Some files → (Rose (L.faults library.old) (L.faults library.new) → ⊥) → (Rose (S.faults sink.old) (S.faults sink.new) → ⊥) → CompletesTable files (map string_bytes words.now) (S.written sink.old) (S.written sink.new) result }
     ensures modelled { (files : Files) → L.holds library.old ≡ Some files → KeepsModelWord files (map string_bytes words.now) (S.written sink.old) (S.written sink.new) result }
     ensures complete_model { (files : Files) → L.holds library.old ≡ Some files → (Rose (L.faults library.old) (L.faults library.new) → ⊥) → (Rose (S.faults sink.old) (S.faults sink.new) → ⊥) → CompletesModel files (map string_bytes words.now) (S.written sink.old) (S.written sink.new) result }
+    ensures certificate { (files : Files) → L.holds library.old ≡ Some files → KeepsCertifyWord files (map string_bytes words.now) result }
+    ensures complete_certify { (files : Files) → L.holds library.old ≡ Some files → (Rose (L.faults library.old) (L.faults library.new) → ⊥) → (Rose (S.faults sink.old) (S.faults sink.new) → ⊥) → CompletesCertify files (map string_bytes words.now) (S.written sink.old) (S.written sink.new) result }
     ensures same { L.holds library.new ≡ L.holds library.old }
     ensures later { L.faults library.old ≤ L.faults library.new }
     ensures faulted { IsFaultedRun (L.faults library.old) (L.faults library.new) (L.failed_at library.old) (L.failed_at library.new) result }
@@ -202,6 +208,10 @@ fn command_answer<R: Threads + Wait + Sync, L: Library, G: Gate + Sync>(
         },
         Verb::Model => match command.positionals.as_slice() {
             [name] => model_answer(alloc, command, name, library),
+            _ => unreachable!(),
+        },
+        Verb::Certify => match command.positionals.as_slice() {
+            [name, file] => certify_answer(alloc, command.root.as_ref(), name, file, library),
             _ => unreachable!(),
         },
         Verb::Prove => prove_command(rt, alloc, command, library, gate),

@@ -1,0 +1,73 @@
+-- How a run of `certify` ends, and what its answers promise.
+use Rattle.std.specs.Prelude.{ℕ, ◌≡◌, false, List, [], ◌∷◌, slice_get, codes, Option, Some, None, Ok, Err}
+use Rattle.std.specs.List.{list_any}
+use Rattle.uc_term.specs.Table.{Table, IsDistinct}
+use Rattle.uc_edge.specs.Files.{Files}
+use Rattle.uc_clause.specs.declared.clause.Sourced.{Sourced}
+use Rattle.uc_problem.specs.declared.problem.Problem.{Problem}
+use Rattle.uc_problem.specs.declared.problem.Encoded.{Encoded}
+use Rattle.uc_problem.specs.declared.fault.EncodeFault.TheVariants.{GoalTooLarge}
+use Rattle.uc_problem.specs.Loading.{held}
+use Rattle.uc_problem.specs.Marks.{Marks, is_too_large}
+use Rattle.uc_problem.specs.Encodes.{Encodes}
+use Rattle.uc_problem.specs.Filling.{AddsMarks}
+use Rattle.uc_decide.specs.Deciding.{Decides}
+use Rattle.uc_ordering.specs.Meaning.{meaning_of}
+use Rattle.uc_certificate.specs.declared.certificate.Certificate.{Certificate}
+use Rattle.uc_certificate.specs.declared.fault.CertFault.{CertFault}
+use Rattle.uc_certificate.specs.declared.fault.CertFault.TheVariants.{NoMemory}
+use Rattle.uc_certificate.specs.Interning.{InternsCertificate}
+use Rattle.uc_certificate.specs.Reading.{IsReading, ReadsCertificate}
+use Rattle.uc_certify.specs.declared.certified.Certified.{Certified}
+use Rattle.uc_certify.specs.declared.certified.Certified.TheVariants.{Yes}
+use Rattle.uc_certify.specs.Certifying.{IsCertified}
+use Rattle.uc_words.specs.declared.command.Command.{Command}
+use Rattle.uc_words.specs.declared.command.Verb.TheVariants as verb
+use Rattle.uc_words.specs.Reads.{Reads}
+use Rattle.uc_answer.specs.Lines.{about_file}
+use Rattle.uc_answer.specs.Refusals.{large_line}
+use Rattle.uc_answer.specs.CertifyLines.{IsCertifiedLine, certified_status, cert_fault_line}
+use Rattle.uc_top.specs.Loaded.{IsLoaded}
+use Rattle.uc_top.specs.Runs.{EndsWith}
+
+-- These files have a problem under this name, and under the other a certificate that passes all tests for the problem's encoding. So by
+-- the order of its symbol lines its facts decide what follows from the encoded axioms. Loading leaves a table of symbols, of which the
+-- encoding's symbols make another and the certificate a third.
+pub record HasCertificate (files : Files) (root : Option (List ℕ)) (name file : List ℕ) : Type 0 where
+  pub loaded : Table
+  pub loaded_distinct : IsDistinct loaded
+  pub problem : Problem
+  pub is_loaded : IsLoaded files root name loaded problem
+  pub table : Table
+  pub distinct : IsDistinct table
+  pub encoded : Encoded
+  pub adds : AddsMarks loaded table encoded.fresh
+  pub encodes : Encodes table problem (Ok encoded)
+  pub text : List ℕ
+  pub has_text : held files file ≡ Some text
+  pub read : Table
+  pub read_distinct : IsDistinct read
+  pub interns : InternsCertificate text table read
+  pub certificate : Certificate
+  pub reads : ReadsCertificate read text (Ok certificate)
+  pub passes : IsCertified (meaning_of read certificate.text.spec) problem.clauses encoded certificate Yes
+  pub decides : Decides (meaning_of read certificate.text.spec) certificate.text.system.facts encoded.axioms
+
+-- Where the words are those of `certify` and the status is 0, the files have such a problem and such a certificate.
+abbrev pub KeepsCertifyWord : Files → List (List ℕ) → ℕ → Type 0
+KeepsCertifyWord files words result = (command : Command) (name file : List ℕ) → Reads words command → command.verb ≡ verb.Certify → command.positionals ≡ name ∷ file ∷ [] → result ≡ 0 → HasCertificate files command.root name file
+
+-- How `certify` ends for a problem, with its symbols in the table that loading it leaves, and for the certificate file of this name.
+pub record CertifyCompletes (loaded : Table) (files : Files) (problem : Problem) (file : List ℕ) (old new : Option (List ℕ)) (result : ℕ) : Type 0 where
+  -- a goal is too large to be encoded
+  pub large : (number : ℕ) (goal : Sourced) → Marks loaded problem (Err (GoalTooLarge number)) → slice_get problem.clauses number ≡ Some goal → EndsWith 3 (large_line goal) old new result
+  -- none is, and there is no certificate file
+  pub absent : list_any is_too_large problem.clauses ≡ false → held files file ≡ None → EndsWith 3 (about_file file (codes "Absent")) old new result
+  -- none is, and the file's text isn't read as a certificate
+  pub unread : list_any is_too_large problem.clauses ≡ false → (read : Table) (text : List ℕ) (why : CertFault) → IsDistinct read → held files file ≡ Some text → IsReading read text (Err why) → (why ≡ NoMemory → ⊥) → EndsWith 3 (cert_fault_line file why) old new result
+  -- it is read as a certificate, in the table that encoding and the certificate make: all its tests are passed, or the first that fails is told
+  pub read : (table read : Table) (encoded : Encoded) → IsDistinct table → AddsMarks loaded table encoded.fresh → Encodes table problem (Ok encoded) → (text : List ℕ) (certificate : Certificate) (answer : Certified) (line : List ℕ) → IsDistinct read → held files file ≡ Some text → InternsCertificate text table read → IsReading read text (Ok certificate) → IsCertified (meaning_of read certificate.text.spec) problem.clauses encoded certificate answer → IsCertifiedLine certificate.lines.lines certificate.text.system.facts answer line → EndsWith (certified_status answer) line old new result
+
+-- Where the words are those of `certify` and the files hold the problem, `certify` ends so.
+abbrev pub CompletesCertify : Files → List (List ℕ) → Option (List ℕ) → Option (List ℕ) → ℕ → Type 0
+CompletesCertify files words old new result = (command : Command) (name file : List ℕ) (loaded : Table) (problem : Problem) → Reads words command → command.verb ≡ verb.Certify → command.positionals ≡ name ∷ file ∷ [] → IsDistinct loaded → IsLoaded files command.root name loaded problem → CertifyCompletes loaded files problem file old new result
