@@ -279,18 +279,18 @@ pub name_and_more : (names : List (List ℕ)) (a : List ℕ) → 1 ≤ length na
 name_and_more [] a low p = absurd (omega arith)
 name_and_more (x ∷ xs) a low p = ap₂ (λ y ys. y ∷ ys) (sym p) (sym (take_all (length (x ∷ xs) - 1) xs (omega arith)))
 
-pub not_built : (v : Verb) → (v ≡ verb.Check → ⊥) → (v ≡ verb.Show → ⊥) → (v ≡ verb.Order → ⊥) → (v ≡ verb.Rewrite → ⊥) → (v ≡ verb.Pairs → ⊥) → (v ≡ verb.Prove → ⊥) → (v ≡ verb.Decide → ⊥) → (v ≡ verb.Table → ⊥) → (v ≡ verb.Model → ⊥) → IsBuilt v → ⊥
-not_built verb.Check n m o r p q d t l b = n refl
-not_built verb.Show n m o r p q d t l b = m refl
-not_built verb.Order n m o r p q d t l b = o refl
-not_built verb.Prove n m o r p q d t l b = q refl
-not_built verb.Decide n m o r p q d t l b = d refl
-not_built verb.Rewrite n m o r p q d t l b = r refl
-not_built verb.Pairs n m o r p q d t l b = p refl
-not_built verb.Gen n m o r p q d t l b = b
-not_built verb.Table n m o r p q d t l b = t refl
-not_built verb.Model n m o r p q d t l b = l refl
-not_built verb.Certify n m o r p q d t l b = b
+pub not_built : (v : Verb) → (v ≡ verb.Check → ⊥) → (v ≡ verb.Show → ⊥) → (v ≡ verb.Order → ⊥) → (v ≡ verb.Rewrite → ⊥) → (v ≡ verb.Pairs → ⊥) → (v ≡ verb.Prove → ⊥) → (v ≡ verb.Decide → ⊥) → (v ≡ verb.Table → ⊥) → (v ≡ verb.Model → ⊥) → (v ≡ verb.Certify → ⊥) → IsBuilt v → ⊥
+not_built verb.Check n m o r p q d t l f b = n refl
+not_built verb.Show n m o r p q d t l f b = m refl
+not_built verb.Order n m o r p q d t l f b = o refl
+not_built verb.Prove n m o r p q d t l f b = q refl
+not_built verb.Decide n m o r p q d t l f b = d refl
+not_built verb.Rewrite n m o r p q d t l f b = r refl
+not_built verb.Pairs n m o r p q d t l f b = p refl
+not_built verb.Gen n m o r p q d t l f b = b
+not_built verb.Table n m o r p q d t l f b = t refl
+not_built verb.Model n m o r p q d t l f b = l refl
+not_built verb.Certify n m o r p q d t l f b = f refl
 
 pub usage_not_done : (Q : Answer → Type 0) (r : Result Answer AllocError) (line : List ℕ) → IfOk r (λ answer. (answer.status ≡ 4) × (joined answer.lines ≡ line)) → IfOk r (λ answer. answer.status ≡ 0 → Q answer)
 usage_not_done Q (Ok answer) line h = λ e. absurd (omega (arith, h.0, e))

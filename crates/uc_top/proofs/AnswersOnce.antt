@@ -13,15 +13,17 @@ use Rattle.uc_top.specs.RewriteAnswers.{IsRewritten}
 use Rattle.uc_top.specs.PairsAnswers.{IsPaired}
 use Rattle.uc_top.specs.ProveAnswers.{ProveAnswers}
 use Rattle.uc_top.specs.DecideAnswers.{IsDecided}
-use Rattle.uc_top.specs.Answers.{IsShown, ProblemAnswers, CheckAnswers, ShowAnswers, OrderAnswers, RewriteAnswers, PairsAnswers, DecideAnswers, TableAnswers, ModelAnswers, IsSearching, SearchesAlone, Answers}
+use Rattle.uc_top.specs.Answers.{IsShown, ProblemAnswers, CheckAnswers, ShowAnswers, OrderAnswers, RewriteAnswers, PairsAnswers, DecideAnswers, TableAnswers, ModelAnswers, CertifyAnswers, IsSearching, SearchesAlone, Answers}
 use Rattle.uc_top.proofs.Positionals.{first_name, second_name, head_name, tail_names, only_name}
 use Rattle.uc_top.specs.FileAnswers.{FileAnswers}
 use Rattle.uc_top.specs.TableAnswers.{TableTextAnswers}
 use Rattle.uc_top.specs.ModelAnswers.{IsModelled}
+use Rattle.uc_top.specs.CertifyAnswers.{CertificateAnswers}
 use Rattle.uc_top.proofs.LoadedOnce.{load_once, with_premise}
 use Rattle.uc_top.proofs.FileAnswering.{file_once}
 use Rattle.uc_top.proofs.TabledOnce.{table_text_once}
 use Rattle.uc_top.proofs.ModelledOnce.{modelled_once}
+use Rattle.uc_top.proofs.CertifiedOnce.{certificate_once}
 use Rattle.uc_top.proofs.OrderOnce.{ordered_once}
 use Rattle.uc_top.proofs.RewriteOnce.{rewritten_once}
 use Rattle.uc_top.proofs.PairsOnce.{paired_once}
@@ -56,6 +58,9 @@ module _ (files : Files) (before now again later : ℕ) where
 
   model_once : (k : Command) (name : List ℕ) {s t : ℕ} {a b : List ℕ} → (s ≡ 5 → Rose before now → ⊥) → (t ≡ 5 → Rose again later → ⊥) → ModelAnswers (Some files) before now k name s a → ModelAnswers (Some files) again later k name t b → (s ≡ t) × (a ≡ b)
   model_once k name v w x y = load_once files k.root name before now again later (λ symbols. IsModelled symbols k name) (λ symbols. IsModelled symbols k name) (λ symbols problem s t a b d l v w p q. modelled_once symbols k name problem p q) v w x y
+
+  certify_once : (root : Option (List ℕ)) (name file : List ℕ) {s t : ℕ} {a b : List ℕ} → (s ≡ 5 → Rose before now → ⊥) → (t ≡ 5 → Rose again later → ⊥) → CertifyAnswers (Some files) before now root name file s a → CertifyAnswers (Some files) again later root name file t b → (s ≡ t) × (a ≡ b)
+  certify_once root name file v w x y = load_once files root name before now again later (CertificateAnswers (Some files) before now file) (CertificateAnswers (Some files) again later file) (λ table problem s t a b d l v w p q. certificate_once files root name table problem l before now again later file v w p q) v w x y
 
   -- There is one search; and a variable's weight is within its limits.
   module _ (one_search : OneSearch) where
@@ -93,7 +98,9 @@ module _ (files : Files) (before now again later : ℕ) where
     verb_once verb.Table k within {t = t} {b = b} alone v w (name, file, p, x) (named, other, q, y) =
         let names : named ∷ other ∷ [] ≡ name ∷ file ∷ [] = sym q ∙ p in
         table_once k.root name file v w x (subst (λ n. TableAnswers (Some files) again later k.root n file t b) (first_name names) (subst (λ n. TableAnswers (Some files) again later k.root named n t b) (second_name names) y))
-    verb_once verb.Certify k within alone v w x y = usage_once x y
+    verb_once verb.Certify k within {t = t} {b = b} alone v w (name, file, p, x) (named, other, q, y) =
+        let names : named ∷ other ∷ [] ≡ name ∷ file ∷ [] = sym q ∙ p in
+        certify_once k.root name file v w x (subst (λ n. CertifyAnswers (Some files) again later k.root n file t b) (first_name names) (subst (λ n. CertifyAnswers (Some files) again later k.root named n t b) (second_name names) y))
     verb_once verb.Model k within {t = t} {b = b} alone v w (name, p, x) (named, q, y) = model_once k name v w x (subst (λ n. ModelAnswers (Some files) again later k n t b) (only_name (sym q ∙ p)) y)
 
     module _ (words : List (List ℕ)) where

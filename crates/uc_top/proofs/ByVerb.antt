@@ -7,7 +7,7 @@ use Rattle.uc_words.specs.declared.command.Verb.TheVariants as verb
 use Rattle.uc_words.specs.Reads.{Reads}
 use Rattle.uc_words.proofs.Only.{only}
 use Rattle.uc_answer.specs.Lines.{usage_line}
-use Rattle.uc_top.specs.Answers.{IsBuilt, CheckAnswers, ShowAnswers, OrderAnswers, RewriteAnswers, PairsAnswers, DecideAnswers, TableAnswers, ModelAnswers, Answers, has_no_reading, isnt_built, isnt_certified, checks, shows, orders, rewrites, pairs_up, proves, decides, tables, models}
+use Rattle.uc_top.specs.Answers.{IsBuilt, CheckAnswers, ShowAnswers, OrderAnswers, RewriteAnswers, PairsAnswers, DecideAnswers, TableAnswers, ModelAnswers, CertifyAnswers, Answers, has_no_reading, isnt_built, isnt_certified, checks, shows, orders, rewrites, pairs_up, proves, decides, tables, models, certifies}
 use Rattle.uc_top.specs.ProveAnswers.{ProveAnswers}
 
 module _ (holds : Option Files) (before now : ℕ) where
@@ -36,7 +36,7 @@ module _ (holds : Option Files) (before now : ℕ) where
   Of verb.Pairs k status text = (name : List ℕ) × (k.positionals ≡ name ∷ []) × PairsAnswers holds before now k.order k.root name status text
   Of verb.Gen k status text = IsUsage status text
   Of verb.Table k status text = (name : List ℕ) × (file : List ℕ) × (k.positionals ≡ name ∷ file ∷ []) × TableAnswers holds before now k.root name file status text
-  Of verb.Certify k status text = IsUsage status text
+  Of verb.Certify k status text = (name : List ℕ) × (file : List ℕ) × (k.positionals ≡ name ∷ file ∷ []) × CertifyAnswers holds before now k.root name file status text
   Of verb.Model k status text = (name : List ℕ) × (k.positionals ≡ name ∷ []) × ModelAnswers holds before now k name status text
 
   not_of : (v : Verb) (k : Command) → (IsBuilt v → ⊥) → Of v k 4 usage_line
@@ -50,7 +50,7 @@ module _ (holds : Option Files) (before now : ℕ) where
   not_of verb.Gen k n = (refl, refl)
   not_of verb.Table k n = absurd (n tt)
   not_of verb.Model k n = absurd (n tt)
-  not_of verb.Certify k n = (refl, refl)
+  not_of verb.Certify k n = absurd (n tt)
 
   module _ (words : List (List ℕ)) where
     -- the answer of a command that the words are, which is the only one
@@ -69,6 +69,7 @@ module _ (holds : Option Files) (before now : ℕ) where
     of_command {status = status} {text = text} x (proves {command = other} {name = name} y v e p a) = of_other verb.Prove status text x y v (subst (λ b. OfProveBy b other status text) (sym e) (name, p, a))
     of_command {status = status} {text = text} x (tables {name = name} {file = file} y v p a) = of_other verb.Table status text x y v (name, file, p, a)
     of_command {status = status} {text = text} x (models {name = name} y v p a) = of_other verb.Model status text x y v (name, p, a)
+    of_command {status = status} {text = text} x (certifies {name = name} {file = file} y v p a) = of_other verb.Certify status text x y v (name, file, p, a)
     of_command {status = status} {text = text} x (decides {name = name} {questions = questions} y v p a) = of_other verb.Decide status text x y v (name, questions, p, a)
 
     -- the same by the command's verb
@@ -89,3 +90,4 @@ module _ (holds : Option Files) (before now : ℕ) where
     read_or_not status text (decides {command = other} y v p a) = inl (other, y)
     read_or_not status text (tables {command = other} y v p a) = inl (other, y)
     read_or_not status text (models {command = other} y v p a) = inl (other, y)
+    read_or_not status text (certifies {command = other} y v p a) = inl (other, y)

@@ -50,7 +50,7 @@ none_passes p (x ∷ xs) n e = go (p x) e (none_passes p xs (n + 1))
     go true e later = absurd cc
     go false e later = later e
 
-none_first : (ss : List Sourced) (n : ℕ) → list_any is_too_large ss ≡ false → position is_too_large ss ≡ Some n → ⊥
+pub none_first : (ss : List Sourced) (n : ℕ) → list_any is_too_large ss ≡ false → position is_too_large ss ≡ Some n → ⊥
 none_first ss n e at = some_or_none at (position_from-zero is_too_large ss ∙ none_passes is_too_large ss 0 e)
 
 ends_so : {old new : Option (List ℕ)} {status result : ℕ} {text told : List ℕ} → text ≡ told → Appends old new text → result ≡ status → EndsWith status told old new result
@@ -86,7 +86,7 @@ module _ (table : Table) (distinct : IsDistinct table) (clauses : List Sourced) 
 module _ (files : Files) (root : Option (List ℕ)) (name : List ℕ) (loaded : Table) (problem : Problem) (is_held : IsLoaded files root name loaded problem) where
   -- the encoding's symbols and their table are one
   module _ (table other : Table) (distinct : IsDistinct table) (others : IsDistinct other) (marks own : Option Fresh) (adds : AddsMarks loaded table marks) (own_adds : AddsMarks loaded other own) (marked : Marks table problem (Ok marks)) (own_marked : Marks other problem (Ok own)) where
-    one_table : other ≡ table
+    pub one_table : other ≡ table
     one_table = marks_add_once problem loaded other table others distinct (signature_has loaded problem is_held.holds.agrees) own marks own_adds adds own_marked marked
 
     one_mark : own ≡ marks
@@ -96,7 +96,7 @@ module _ (files : Files) (root : Option (List ℕ)) (name : List ℕ) (loaded : 
     answers_there holds before now proof_name {status} {text} a = subst (λ (m : Option Fresh). ProofAnswers table holds before now problem.clauses m proof_name status text) one_mark (subst (λ (t : Table). ProofAnswers t holds before now problem.clauses own proof_name status text) one_table a)
 
   -- so is the first goal that is too large
-  one_goal : (number other : ℕ) (goal shown : Sourced) → Marks loaded problem (Err (GoalTooLarge number)) → slice_get problem.clauses number ≡ Some goal → Marks loaded problem (Err (GoalTooLarge other)) → slice_get problem.clauses other ≡ Some shown → large_line shown ≡ large_line goal
+  pub one_goal : (number other : ℕ) (goal shown : Sourced) → Marks loaded problem (Err (GoalTooLarge number)) → slice_get problem.clauses number ≡ Some goal → Marks loaded problem (Err (GoalTooLarge other)) → slice_get problem.clauses other ≡ Some shown → large_line shown ≡ large_line goal
   one_goal number other goal shown m g k h =
       let numbers : number ≡ other = large_once loaded problem number other m k in
       ap large_line (some_once h (subst (λ (n : ℕ). slice_get problem.clauses n ≡ Some goal) numbers g))

@@ -1,6 +1,6 @@
 -- What `certify` answers for a problem and the text of a certificate file.
 use Rattle.std.specs.Prelude.{ℕ, ◌≡◌, List, slice_get, Option, Some, Ok, Err}
-use Rattle.uc_term.specs.Table.{Table, IsDistinct}
+use Rattle.uc_term.specs.Table.{Table, Grows, IsDistinct}
 use Rattle.uc_edge.specs.Files.{Files}
 use Rattle.uc_clause.specs.declared.clause.Sourced.{Sourced}
 use Rattle.uc_problem.specs.declared.problem.Problem.{Problem}
@@ -22,11 +22,11 @@ use Rattle.uc_answer.specs.CertifyLines.{IsCertifiedLine, certified_status, cert
 use Rattle.uc_top.specs.FileAnswers.{FileAnswers}
 
 -- The file of this name has this text: it isn't read as a certificate, or all its tests are passed by the order of its own symbol
--- lines, or the first that fails is told. A certificate is read in the table of symbols that its text makes of this one, whose entries
--- are all different; why a text is none doesn't depend on the table.
+-- lines, or the first that fails is told. A certificate is read in the table of symbols that its text makes of this one, with which it
+-- begins, and whose entries are all different; why a text is none doesn't depend on the table.
 pub data CertificateTextAnswers (table : Table) (clauses : List Sourced) (encoded : Encoded) (file text : List ℕ) : ℕ → List ℕ → Type 0 where
   isnt_certificate : (read : Table) {why : CertFault} → IsDistinct read → IsReading read text (Err why) → (why ≡ NoMemory → ⊥) → CertificateTextAnswers table clauses encoded file text 3 (cert_fault_line file why)
-  is_certificate : {read : Table} {certificate : Certificate} {answer : Certified} {line : List ℕ} → IsDistinct read → InternsCertificate text table read → IsReading read text (Ok certificate) → IsCertified (meaning_of read certificate.text.spec) clauses encoded certificate answer → IsCertifiedLine certificate.lines.lines certificate.text.system.facts answer line → CertificateTextAnswers table clauses encoded file text (certified_status answer) line
+  is_certificate : {read : Table} {certificate : Certificate} {answer : Certified} {line : List ℕ} → IsDistinct read → Grows table read → InternsCertificate text table read → IsReading read text (Ok certificate) → IsCertified (meaning_of read certificate.text.spec) clauses encoded certificate answer → IsCertifiedLine certificate.lines.lines certificate.text.system.facts answer line → CertificateTextAnswers table clauses encoded file text (certified_status answer) line
 
 -- The answer for a certificate file of this name and a problem, whose symbols are those of the table that loading it leaves. Encoding
 -- makes a table of that; where a goal is too large to be encoded, the file isn't fetched. The library's files are these, where it tells

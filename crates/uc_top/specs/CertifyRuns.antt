@@ -1,7 +1,7 @@
 -- How a run of `certify` ends, and what its answers promise.
 use Rattle.std.specs.Prelude.{ℕ, ◌≡◌, false, List, [], ◌∷◌, slice_get, codes, Option, Some, None, Ok, Err}
 use Rattle.std.specs.List.{list_any}
-use Rattle.uc_term.specs.Table.{Table, IsDistinct}
+use Rattle.uc_term.specs.Table.{Table, Grows, IsDistinct}
 use Rattle.uc_edge.specs.Files.{Files}
 use Rattle.uc_clause.specs.declared.clause.Sourced.{Sourced}
 use Rattle.uc_problem.specs.declared.problem.Problem.{Problem}
@@ -47,6 +47,7 @@ pub record HasCertificate (files : Files) (root : Option (List ℕ)) (name file 
   pub has_text : held files file ≡ Some text
   pub read : Table
   pub read_distinct : IsDistinct read
+  pub grows : Grows table read
   pub interns : InternsCertificate text table read
   pub certificate : Certificate
   pub reads : ReadsCertificate read text (Ok certificate)

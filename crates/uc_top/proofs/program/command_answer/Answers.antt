@@ -1,7 +1,7 @@
 use Rattle.std.proofs.Common.{◌≡◌, [], ◌∷◌, refl, sym, ◌∙◌, subst, arith}
 use Rattle.std.proofs.lemmas.Result.{IfOk-weaker}
 use Rattle.uc_answer.specs.QuestionWords.{AreShort}
-use Rattle.uc_top.specs.Answers.{checks, shows, orders, rewrites, pairs_up, tables, models, isnt_built}
+use Rattle.uc_top.specs.Answers.{checks, shows, orders, rewrites, pairs_up, tables, models, certifies, isnt_built}
 use Rattle.uc_top.specs.Runs.{MayAnswer, is_answer}
 use Rattle.uc_top.proofs.Answering.{one_line, one_name, two_names, not_built, usage_not_done}
 use Rattle.uc_top.proofs.ShortWords.{positionals_short}
@@ -52,7 +52,7 @@ returns-in-len1-as_slice-2-clause-answers g c words r =
 
 pub returns-in_default : goal.returns-in_default
 returns-in_default g c = record {
-  answers = λ words r. one_line c.usage_answer.result (MayAnswer _ _ _ words) _ _ c.usage_answer.ensures (is_answer (isnt_built r (not_built _ c.in_default.not-Check c.in_default.not-Show c.in_default.not-Order c.in_default.not-Rewrite c.in_default.not-Pairs c.in_default.not-Prove c.in_default.not-Decide c.in_default.not-Table c.in_default.not-Model)));
+  answers = λ words r. one_line c.usage_answer.result (MayAnswer _ _ _ words) _ _ c.usage_answer.ensures (is_answer (isnt_built r (not_built _ c.in_default.not-Check c.in_default.not-Show c.in_default.not-Order c.in_default.not-Rewrite c.in_default.not-Pairs c.in_default.not-Prove c.in_default.not-Decide c.in_default.not-Table c.in_default.not-Model c.in_default.not-Certify)));
   certified = λ v. usage_not_done _ c.usage_answer.result _ c.usage_answer.ensures;
   promise = λ v. absurd (c.in_default.not-Prove v);
   decided = λ v. absurd (c.in_default.not-Decide v);
@@ -97,3 +97,11 @@ model_answer-requires-clause-some g c = (size_within c.requires.words.0 c.args.c
 
 pub model_answer-requires-clause-most : goal.model_answer-requires-clause-most
 model_answer-requires-clause-most g c = (size_within c.requires.words.0 c.args.command.now c.requires.words.1).1
+
+pub returns-in-len2-as_slice-3-clause-answers : goal.returns-in-len2-as_slice-3-clause-answers
+returns-in-len2-as_slice-3-clause-answers g c words r =
+    let names : c.args.command.now.positionals ≡ c.name-item-then-this-lt3-4.result ∷ c.file-item-then-this-lt3.result ∷ [] = sym c.as_slice-in-Certify.ensures ∙ two_names c.as_slice-in-Certify.result.now c.name-item-then-this-lt3-4.result c.file-item-then-this-lt3.result c.in-len2-as_slice-3.len_at_least c.in-len2-as_slice-3.len_below c.name-item-then-this-lt3-4.is c.file-item-then-this-lt3.is in
+    IfOk-weaker c.certify_answer.result _ _ (λ answer a. is_answer (certifies r c.in-Certify.is names a)) (rw c.as_ref-in-len2-as_slice-3.ensures.value at c.certify_answer.ensures.answers)
+
+pub returns-in-len2-as_slice-3-clause-faulted : goal.returns-in-len2-as_slice-3-clause-faulted
+returns-in-len2-as_slice-3-clause-faulted g c = rw c.in-Certify.is c.certify_answer.ensures.faulted

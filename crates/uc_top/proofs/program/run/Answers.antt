@@ -7,6 +7,7 @@ use Rattle.uc_top.proofs.RewriteCompleting.{rewrite_completes}
 use Rattle.uc_top.proofs.PairsCompleting.{pairs_complete}
 use Rattle.uc_top.proofs.TableCompleting.{table_completes, keeps_table_word}
 use Rattle.uc_top.proofs.ModelCompleting.{model_completes, keeps_model_word}
+use Rattle.uc_top.proofs.CertifyCompleting.{certify_completes, keeps_certify_word}
 use Rattle.uc_top.proofs.ProveCompleting.{prove_completes, keeps_word}
 use Rattle.uc_top.proofs.DecidePromises.{keeps_decide_word}
 use Rattle.uc_top.proofs.DecideCompleting.{decide_completes}
@@ -120,3 +121,15 @@ returns-in-Ok-clause-given g c = record { status = _; text = _; answer = c.in-Ok
 
 pub returns-in-Err-clause-given : goal.returns-in-Err-clause-given
 returns-in-Err-clause-given g c = record { status = 7; text = _; answer = wants_memory; gives = c.tell_memory_out.ensures.given }
+
+pub returns-in-Err-clause-complete_certify : goal.returns-in-Err-clause-complete_certify
+returns-in-Err-clause-complete_certify g c = certify_completes _ _ _ _ _ _ _ _ _ (record { status = 7; text = _; answer = wants_memory; told = c.tell_memory_out.ensures.told })
+
+pub returns-in-Ok-clause-complete_certify : goal.returns-in-Ok-clause-complete_certify
+returns-in-Ok-clause-complete_certify g c = certify_completes _ _ _ _ _ _ _ _ _ (record { status = _; text = _; answer = c.in-Ok.ensures.answers; told = c.tell.ensures.told })
+
+pub returns-in-Err-clause-certificate : goal.returns-in-Err-clause-certificate
+returns-in-Err-clause-certificate g c = keeps_certify_word _ 0 0 _ _ _ _ _ _ (record { status = 7; text = _; answer = wants_memory; told = c.tell_memory_out.ensures.told })
+
+pub returns-in-Ok-clause-certificate : goal.returns-in-Ok-clause-certificate
+returns-in-Ok-clause-certificate g c = keeps_certify_word _ _ _ _ _ _ _ _ _ (record { status = _; text = _; answer = c.in-Ok.ensures.answers; told = c.tell.ensures.told })
