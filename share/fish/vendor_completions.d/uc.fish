@@ -10,7 +10,8 @@ complete -c uc -n __fish_use_subcommand -f -a rewrite -d 'normalises a term by t
 complete -c uc -n __fish_use_subcommand -f -a pairs -d 'prints the critical pairs of the axioms'
 complete -c uc -n __fish_use_subcommand -f -a table -d 'tells whether a finite table is a model: it satisfies the axioms and keeps each goal apart'
 complete -c uc -n __fish_use_subcommand -f -a model -d 'searches for a finite table that is a model'
-complete -c uc -n '__fish_seen_subcommand_from prove decide check show order rewrite pairs table model' -l root -d 'where an included file is looked for after the problem\'s own folder' -x -a '(__fish_complete_directories)'
+complete -c uc -n __fish_use_subcommand -f -a certify -d 'checks a certificate of saturation'
+complete -c uc -n '__fish_seen_subcommand_from prove decide check show order rewrite pairs table model certify' -l root -d 'where an included file is looked for after the problem\'s own folder' -x -a '(__fish_complete_directories)'
 complete -c uc -n '__fish_seen_subcommand_from prove decide order rewrite pairs' -l order -d 'the Knuth-Bendix order or the lexicographic path order' -x -a 'kbo lpo'
 complete -c uc -n '__fish_seen_subcommand_from prove decide order rewrite pairs' -l precedence -d 'symbols, least first; those not named stand below, by number of arguments and first occurrence' -x
 complete -c uc -n '__fish_seen_subcommand_from prove decide order rewrite pairs' -l weights -d 'weights of symbols under kbo; a symbol not named weighs --w0' -x
