@@ -1,9 +1,11 @@
 -- The order of a certificate's own symbols: its symbols, their arities in terms over the table, and what a certificate that passes all
 -- tests decides.
-use Rattle.std.proofs.Common.{ℕ, zero, suc, ◌≡◌, ◌+◌, List, [], ◌∷◌, Option, Some, None, Ok, slice_get, refl, sym, ap, ◌∙◌, subst}
+use Rattle.std.proofs.Common.{ℕ, zero, suc, ◌≡◌, ◌↔◌, ◌+◌, List, [], ◌∷◌, ◌++◌, Option, Some, None, Ok, slice_get, refl, sym, ap, ◌∙◌, subst}
 use Rattle.uc_term.specs.declared.node.Sym.{Sym}
 use Rattle.uc_term.specs.declared.fresh.Fresh.{Fresh}
 use Rattle.uc_term.specs.declared.equation.Equation.{Equation}
+use Rattle.uc_term.specs.declared.signature.Signature.{Signature}
+use Rattle.uc_term.specs.Conversion.{Conv}
 use Rattle.uc_term.specs.Tree.{Tree, var, app, Trees, none, more}
 use Rattle.uc_term.specs.Over.{AreOver, IsTerm}
 use Rattle.uc_term.specs.Table.{Table, Grows, Has, IsOf, arity_of}
@@ -18,11 +20,13 @@ use Rattle.uc_problem.specs.Marks.{Marks}
 use Rattle.uc_problem.proofs.AddedOnce.{adds_grows}
 use Rattle.uc_problem.proofs.FreshMarks.{signature_has, marks_later}
 use Rattle.uc_problem.proofs.Growth.{agrees_later}
-use Rattle.uc_order.specs.Members.{In, Each}
-use Rattle.uc_order.specs.Laws.{Meaning, HasSym}
+use Rattle.uc_order.specs.Members.{In, in_front, in_rest, Each}
+use Rattle.uc_order.specs.Laws.{Meaning, HasSym, IsGroundOf}
 use Rattle.uc_order.specs.declared.spec.OrderSpec.{OrderSpec}
 use Rattle.uc_fact.specs.Ground.{AreOfSignature}
 use Rattle.uc_decide.specs.Deciding.{Decides}
+use Rattle.uc_decide.specs.NormalForms.{HasNormalForm, HasOneNormalForm}
+use Rattle.uc_check.specs.Clauses.{axioms_of}
 use Rattle.uc_ordering.specs.Choice.{all_symbols}
 use Rattle.uc_ordering.specs.Fits.{Fits}
 use Rattle.uc_ordering.specs.Meaning.{meaning_of}
@@ -36,14 +40,17 @@ use Rattle.uc_certificate.specs.declared.certificate.Join.{Join}
 use Rattle.uc_certificate.specs.declared.certificate.Move.{Move}
 use Rattle.uc_certificate.specs.Arities.{KeepsArities, AllKeepArities, MovesKeepArities, CaseKeepsArities, EndKeepsArities, JoinKeepsArities, JoinsKeepArities}
 use Rattle.uc_certificate.specs.Having.{MovesHave, CaseHas, EndHas, JoinHas, JoinsHave}
+use Rattle.uc_certify.specs.declared.certified.Certified.{Certified}
 use Rattle.uc_certify.specs.declared.certified.Certified.TheVariants.{Yes}
-use Rattle.uc_certify.specs.Certifying.{AreSameSymbols, IsCertified}
+use Rattle.uc_certify.specs.Certifying.{AreSameSymbols, IsCertified, other_symbols, wrong_line, wrong_fact, by_joins}
 use Rattle.uc_certify.specs.Settings.{IsEncodingOf}
 use Rattle.uc_certify.proofs.Decided.{certified_decides}
 use Rattle.uc_answer.proofs.OrderLaws.{spec_laws}
 use Rattle.uc_answer.proofs.OverSignature.{encoded_problem_over}
 use Rattle.uc_answer.proofs.PrintableSymbols.{encoded_symbols}
-use Rattle.uc_answer.proofs.SpecSymbols.{known_symbol, symbol_known, order_term}
+use Rattle.uc_answer.specs.Promises.{IsOwnGround}
+use Rattle.uc_answer.proofs.OwnTerms.{own_equal}
+use Rattle.uc_answer.proofs.SpecSymbols.{known_symbol, symbol_known, order_term, over_from}
 
 pub each_mapped : {A : Type 0} (P Q : A → Type 0) → ((x : A) → P x → Q x) → (xs : List A) → Each P xs → Each Q xs
 each_mapped P Q k [] h = tt
@@ -106,6 +113,21 @@ encodes_later old new problem encoded g agrees e = (go encoded.fresh e.0, e.1)
     go None h = h
     go (Some marks) h = (h.0, h.1, marks_later old new problem marks g (signature_has old problem agrees) h.2)
 
+-- the symbols of the problem itself are among those of its encoding
+in_left : (fs gs : List Sym) (f : Sym) → In fs f → In (fs ++ gs) f
+in_left _ gs _ in_front = in_front
+in_left (g ∷ fs) gs f (in_rest i) = in_rest (in_left fs gs f i)
+
+among_all : (signature : Signature) (fresh : Option Fresh) (f : Sym) → In signature.symbols f → In (all_symbols signature fresh) f
+among_all signature None f i = i
+among_all signature (Some marks) f i = in_left signature.symbols (marks.yes ∷ marks.no ∷ marks.eq ∷ []) f i
+
+names_symbols : (o : Meaning) (clauses : List Sourced) (encoded : Encoded) (certificate : Certificate) (answer : Certified) → answer ≡ Yes → IsCertified o clauses encoded certificate answer → AreSameSymbols (precedence_of certificate.text.spec) encoded.signature.symbols
+names_symbols o clauses encoded certificate _ e (other_symbols n) = absurd cc
+names_symbols o clauses encoded certificate _ e (wrong_line s f) = absurd cc
+names_symbols o clauses encoded certificate _ e (wrong_fact s f u) = absurd cc
+names_symbols o clauses encoded certificate answer e (by_joins s f d x t) = s
+
 -- A certificate for the encoding of a problem, in a table that begins with that of the encoding.
 module _ (table read : Table) (grows : Grows table read) (problem : Problem) (agrees : Agrees table problem) (encoded : Encoded) (encodes : Encodes table problem (Ok encoded)) (certificate : Certificate) (system : IsSystem read certificate.text) where
   abbrev spec : OrderSpec
@@ -131,5 +153,24 @@ module _ (table read : Table) (grows : Grows table read) (problem : Problem) (ag
         arities = λ f i. (known_symbol read (precedence_of spec) spec system.fits f i).1;
       }
 
-  pub decides : IsCertified (meaning_of read spec) problem.clauses encoded certificate Yes → Decides (meaning_of read spec) certificate.text.system.facts encoded.axioms
-  decides passes = certified_decides (meaning_of read spec) (spec_laws read (precedence_of spec) spec system.fits) problem.clauses encoded certificate Yes refl passes (own_symbols read spec system.fits) (facts_over read spec system.fits certificate.text.system.facts system.facts) is_encoding
+  module _ (passes : IsCertified (meaning_of read spec) problem.clauses encoded certificate Yes) where
+    pub decides : Decides (meaning_of read spec) certificate.text.system.facts encoded.axioms
+    decides = certified_decides (meaning_of read spec) (spec_laws read (precedence_of spec) spec system.fits) problem.clauses encoded certificate Yes refl passes (own_symbols read spec system.fits) (facts_over read spec system.fits certificate.text.system.facts system.facts) is_encoding
+
+    -- the problem's own symbols are the order's, with their arities
+    own_known : (f : Sym) → In problem.signature.symbols f → HasSym (meaning_of read spec) f × (arity_of read f ≡ (meaning_of read spec).arity f)
+    own_known f i =
+        let encoded_has : In encoded.signature.symbols f = subst (λ (fs : List Sym). In fs f) (sym (encoded_symbols read problem encoded read_encodes)) (among_all problem.signature encoded.fresh f i) in
+        symbol_known read (precedence_of spec) spec system.fits f ((names_symbols (meaning_of read spec) problem.clauses encoded certificate Yes refl passes f).1 encoded_has)
+
+    own_ground : (u : Tree) → IsOwnGround read problem u → IsGroundOf (meaning_of read spec) u
+    own_ground u h = over_from (In problem.signature.symbols) (HasSym (meaning_of read spec)) (arity_of read) (meaning_of read spec).arity own_known (λ _. ⊥) (λ _. ⊥) (λ x k. k) u h
+
+    pub own_form : (u : Tree) → IsOwnGround read problem u → HasOneNormalForm (meaning_of read spec) certificate.text.system.facts u
+    own_form u h = decides.one_normal_form u (own_ground u h)
+
+    pub own : (u v n k : Tree) → IsOwnGround read problem u → IsOwnGround read problem v → HasNormalForm (meaning_of read spec) certificate.text.system.facts u n → HasNormalForm (meaning_of read spec) certificate.text.system.facts v k → (n ≡ k) ↔ Conv (axioms_of problem.clauses) u v
+    own u v n k hu hv to_n to_k =
+        let shared = decides.shared u v n k (own_ground u hu) (own_ground v hv) to_n to_k in
+        let same = own_equal read problem read_agrees encoded read_encodes u v hu hv in
+        ((λ e. same.0 (shared.0 e)), (λ c. shared.1 (same.1 c)))

@@ -39,7 +39,7 @@ use Rattle.uc_top.specs.Runs.{MayAnswer, is_answer, wants_memory, IsRun, EndsWit
 use Rattle.uc_top.specs.CertifyRuns.{HasCertificate, KeepsCertifyWord, CertifyCompletes, CompletesCertify}
 use Rattle.uc_top.proofs.Positionals.{first_name, second_name}
 use Rattle.uc_top.proofs.ByVerb.{of_verb}
-use Rattle.uc_top.proofs.CertificateOrders.{marks_grow, decides}
+use Rattle.uc_top.proofs.CertificateOrders.{marks_grow, decides, own_form, own}
 use Rattle.uc_top.proofs.CertificateTexts.{read_system}
 use Rattle.uc_top.proofs.CertifiedOnce.{unread_certificate, certified_text, in_one}
 use Rattle.uc_top.proofs.CheckEnding.{none_first, one_goal}
@@ -140,6 +140,7 @@ module _ (files : Files) (before now : ℕ) (root : Option (List ℕ)) (name fil
       text_shows text h e (isnt_certificate read d r n) = absurd (omega (arith, e))
       text_shows text h e (is_certificate {read = read} {certificate = certificate} {answer = answer} d g i r c l) =
           let yes = subst (λ (x : Certified). IsCertified (meaning_of read certificate.text.spec) problem.clauses encoded certificate x) (passed answer e) c in
+          let system = read_system read text certificate r.1 in
           let agrees = agrees_later loaded table (marks_grow loaded table encoded.fresh adds) problem is_held.holds.agrees in
           record {
             loaded = loaded;
@@ -160,7 +161,9 @@ module _ (files : Files) (before now : ℕ) (root : Option (List ℕ)) (name fil
             certificate = certificate;
             reads = r.1;
             passes = yes;
-            decides = decides table read g problem agrees encoded encodes certificate (read_system read text certificate r.1) yes;
+            decides = decides table read g problem agrees encoded encodes certificate system yes;
+            own_form = own_form table read g problem agrees encoded encodes certificate system yes;
+            own = own table read g problem agrees encoded encodes certificate system yes;
           }
 
       file_shows : {status : ℕ} {told : List ℕ} → status ≡ 0 → FileAnswers (Some files) before now (CertificateTextAnswers table problem.clauses encoded file) file status told → HasCertificate files root name file

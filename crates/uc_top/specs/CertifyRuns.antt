@@ -1,7 +1,9 @@
 -- How a run of `certify` ends, and what its answers promise.
-use Rattle.std.specs.Prelude.{ℕ, ◌≡◌, false, List, [], ◌∷◌, slice_get, codes, Option, Some, None, Ok, Err}
+use Rattle.std.specs.Prelude.{ℕ, ◌≡◌, ◌↔◌, false, List, [], ◌∷◌, slice_get, codes, Option, Some, None, Ok, Err}
 use Rattle.std.specs.List.{list_any}
+use Rattle.uc_term.specs.Conversion.{Conv}
 use Rattle.uc_term.specs.Table.{Table, Grows, IsDistinct}
+use Rattle.uc_term.specs.Tree.{Tree}
 use Rattle.uc_edge.specs.Files.{Files}
 use Rattle.uc_clause.specs.declared.clause.Sourced.{Sourced}
 use Rattle.uc_problem.specs.declared.problem.Problem.{Problem}
@@ -11,7 +13,9 @@ use Rattle.uc_problem.specs.Loading.{held}
 use Rattle.uc_problem.specs.Marks.{Marks, is_too_large}
 use Rattle.uc_problem.specs.Encodes.{Encodes}
 use Rattle.uc_problem.specs.Filling.{AddsMarks}
+use Rattle.uc_check.specs.Clauses.{axioms_of}
 use Rattle.uc_decide.specs.Deciding.{Decides}
+use Rattle.uc_decide.specs.NormalForms.{HasNormalForm, HasOneNormalForm}
 use Rattle.uc_ordering.specs.Meaning.{meaning_of}
 use Rattle.uc_certificate.specs.declared.certificate.Certificate.{Certificate}
 use Rattle.uc_certificate.specs.declared.fault.CertFault.{CertFault}
@@ -25,14 +29,16 @@ use Rattle.uc_words.specs.declared.command.Command.{Command}
 use Rattle.uc_words.specs.declared.command.Verb.TheVariants as verb
 use Rattle.uc_words.specs.Reads.{Reads}
 use Rattle.uc_answer.specs.Lines.{about_file}
+use Rattle.uc_answer.specs.Promises.{IsOwnGround}
 use Rattle.uc_answer.specs.Refusals.{large_line}
 use Rattle.uc_answer.specs.CertifyLines.{IsCertifiedLine, certified_status, cert_fault_line}
 use Rattle.uc_top.specs.Loaded.{IsLoaded}
 use Rattle.uc_top.specs.Runs.{EndsWith}
 
 -- These files have a problem under this name, and under the other a certificate that passes all tests for the problem's encoding. So by
--- the order of its symbol lines its facts decide what follows from the encoded axioms. Loading leaves a table of symbols, of which the
--- encoding's symbols make another and the certificate a third.
+-- the order of its symbol lines its facts decide what follows from the encoded axioms. And of the ground terms over the problem's own
+-- symbols, its fresh constant among them, each has exactly one normal form, and two share it exactly if their equation follows from the
+-- problem's own axioms. Loading leaves a table of symbols, of which the encoding's symbols make another and the certificate a third.
 pub record HasCertificate (files : Files) (root : Option (List ℕ)) (name file : List ℕ) : Type 0 where
   pub loaded : Table
   pub loaded_distinct : IsDistinct loaded
@@ -53,6 +59,8 @@ pub record HasCertificate (files : Files) (root : Option (List ℕ)) (name file 
   pub reads : ReadsCertificate read text (Ok certificate)
   pub passes : IsCertified (meaning_of read certificate.text.spec) problem.clauses encoded certificate Yes
   pub decides : Decides (meaning_of read certificate.text.spec) certificate.text.system.facts encoded.axioms
+  pub own_form : (u : Tree) → IsOwnGround read problem u → HasOneNormalForm (meaning_of read certificate.text.spec) certificate.text.system.facts u
+  pub own : (u v n k : Tree) → IsOwnGround read problem u → IsOwnGround read problem v → HasNormalForm (meaning_of read certificate.text.spec) certificate.text.system.facts u n → HasNormalForm (meaning_of read certificate.text.spec) certificate.text.system.facts v k → (n ≡ k) ↔ Conv (axioms_of problem.clauses) u v
 
 -- Where the words are those of `certify` and the status is 0, the files have such a problem and such a certificate.
 abbrev pub KeepsCertifyWord : Files → List (List ℕ) → ℕ → Type 0
