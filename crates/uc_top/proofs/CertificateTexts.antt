@@ -5,16 +5,15 @@ use Rattle.uc_term.specs.Table.{Table, IsDistinct}
 use Rattle.uc_clause.specs.declared.fault.What.TheVariants as what
 use Rattle.uc_problem.proofs.Outcomes.{ok_once, err_once, ok_or_err}
 use Rattle.uc_tstp.specs.Framing.{max_proof, first_place}
-use Rattle.uc_tstp.specs.Printing.{names_in}
 use Rattle.uc_system.specs.declared.system.SystemText.{SystemText}
 use Rattle.uc_system.specs.Reading.{IsSystem}
 use Rattle.uc_certificate.specs.declared.certificate.Certificate.{Certificate}
 use Rattle.uc_certificate.specs.declared.fault.CertFault.{CertFault}
 use Rattle.uc_certificate.specs.declared.fault.CertFault.TheVariants.{Syntax, Version, Limit, UnknownRule, UnknownName, RepeatedName, NoMemory}
-use Rattle.uc_certificate.specs.Headings.{AreNumbered, none_numbered, one_numbered, FactsAt, no_facts, unknown_fact, are_facts, heading, the_line, facts, derivation_line, joins_line, end_line}
+use Rattle.uc_certificate.specs.Headings.{AreNumbered, none_numbered, one_numbered, FactsAt, no_facts, unknown_fact, are_facts}
 use Rattle.uc_certificate.specs.Interning.{InternsCertificate}
 use Rattle.uc_certificate.specs.Parts.{Outcome, gets, fails, Rule, Then, goes_on, fails_first}
-use Rattle.uc_certificate.specs.Reading.{system, derivation, join_lines, rest_of_certificate, ReadsCertificate, reads, reads_not, IsReading}
+use Rattle.uc_certificate.specs.Reading.{rest_of_certificate, ReadsCertificate, reads, IsReading}
 use Rattle.uc_certificate.proofs.Assembled.{text_is}
 use Rattle.uc_certificate.proofs.CertificateInterned.{certificate_interns_once}
 use Rattle.uc_certificate.proofs.ReadingOnce.{reading_once, gets_value, gets_or_fails}

@@ -137,7 +137,7 @@ module _ (Greater : Tree → Tree → Type 0) where
 
     members_known : (axioms : List Equation) (members : List Member) → AreExpected Greater facts axioms members → Each IsKnownMember members
     members_known axioms members x =
-        let known = all_known (numbered facts) (numbered facts) x.overlaps (numbered_there 0 facts (λ k e at. at)) x.are_overlaps in
+        let known = all_known (numbered facts) (numbered facts) x.overlaps (numbered_there 0 facts (λ k e at. (let z : k ≡ 0 + k = omega arith in subst (λ (i : ℕ). slice_get facts i ≡ Some e) z at))) x.are_overlaps in
         subst (Each IsKnownMember) (sym x.members_are) (each_append IsKnownMember (axioms_from 0 axioms) (members_of x.overlaps) (axioms_known 0 axioms) (overlaps_known x.overlaps known))
 
 one_large : (a b : AnyOverlap) → certified.Large a ≡ certified.Large b → a ≡ b
