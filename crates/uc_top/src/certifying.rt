@@ -92,11 +92,12 @@ fn problem_answer<L: Library>(
     ensures faulted { AnswersFault (L.faults library.old) (L.faults library.new) (L.failed_at library.old) (L.failed_at library.new) [] result }
 {
     let clauses = problem.clauses.as_slice();
-    let encoded = encode(alloc, problem, symbols);
-    // The entries of the table are all different, so the encoding is the only one.
-    let _ = symbols.len();
-    match encoded {
-        Ok(encoded) => file_answer(alloc, clauses, &encoded, file, symbols, library),
+    match encode(alloc, problem, symbols) {
+        Ok(encoded) => {
+            // The entries of the table are all different, so the encoding is the only one.
+            let _ = symbols.len();
+            file_answer(alloc, clauses, &encoded, file, symbols, library)
+        }
         Err(EncodeFault::GoalTooLarge(number)) => large_answer(alloc, &clauses[number as usize]),
         Err(EncodeFault::NoMemory) => Err(AllocError),
     }

@@ -19,7 +19,7 @@ pub check_certificate-requires-clause-arities : goal.check_certificate-requires-
 check_certificate-requires-clause-arities c = subst (λ (m : Meaning). JoinsKeepArities m c.args.certificate.now.joins) (sym (meaning_is c.args.symbols.now c.args.certificate.now.text.spec c.in_ok-order.order c.in_ok-order.ensures.order)) (joins_keep c.args.symbols.now c.args.certificate.now.text.spec c.requires.system.fits c.args.certificate.now.joins c.requires.terms)
 
 pub certified_answer-requires : goal.certified_answer-requires
-certified_answer-requires c = large_outer (chosen_meaning c.in_ok-order.order) c.args.clauses.now c.args.encoded.now c.args.certificate.now c.in_ok-certified.certified c.in_ok-certified.ensures.certified
+certified_answer-requires c = record { large = large_outer (chosen_meaning c.in_ok-order.order) c.args.clauses.now c.args.encoded.now c.args.certificate.now c.in_ok-certified.certified c.in_ok-certified.ensures.certified }
 
 pub returns : goal.returns
 returns c = checked_told (chosen_meaning c.in_ok-order.order) (meaning_of c.args.symbols.now c.args.certificate.now.text.spec) c.args.clauses.now c.args.encoded.now c.args.certificate.now c.in_ok-certified.certified c.certified_answer.result (meaning_is c.args.symbols.now c.args.certificate.now.text.spec c.in_ok-order.order c.in_ok-order.ensures.order) c.in_ok-certified.ensures.certified c.certified_answer.ensures

@@ -100,7 +100,7 @@ model_answer-requires-clause-most g c = (size_within c.requires.words.0 c.args.c
 
 pub returns-in-len2-as_slice-3-clause-answers : goal.returns-in-len2-as_slice-3-clause-answers
 returns-in-len2-as_slice-3-clause-answers g c words r =
-    let names : c.args.command.now.positionals ≡ c.name-item-then-this-lt3-4.result ∷ c.file-item-then-this-lt3.result ∷ [] = sym c.as_slice-in-Certify.ensures ∙ two_names c.as_slice-in-Certify.result.now c.name-item-then-this-lt3-4.result c.file-item-then-this-lt3.result c.in-len2-as_slice-3.len_at_least c.in-len2-as_slice-3.len_below c.name-item-then-this-lt3-4.is c.file-item-then-this-lt3.is in
+    let names : c.args.command.now.positionals ≡ c.name-item-then-this-lt3-4.result ∷ c.file-item-then-this-lt3-4.result ∷ [] = sym c.as_slice-in-Certify.ensures ∙ two_names c.as_slice-in-Certify.result.now c.name-item-then-this-lt3-4.result c.file-item-then-this-lt3-4.result c.in-len2-as_slice-3.len_at_least c.in-len2-as_slice-3.len_below c.name-item-then-this-lt3-4.is c.file-item-then-this-lt3-4.is in
     IfOk-weaker c.certify_answer.result _ _ (λ answer a. is_answer (certifies r c.in-Certify.is names a)) (rw c.as_ref-in-len2-as_slice-3.ensures.value at c.certify_answer.ensures.answers)
 
 pub returns-in-len2-as_slice-3-clause-faulted : goal.returns-in-len2-as_slice-3-clause-faulted
