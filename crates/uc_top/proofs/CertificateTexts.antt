@@ -1,6 +1,6 @@
 -- What the text of a certificate reads as, where memory isn't wanted: a certificate, in one table of symbols; or why not, whatever the
 -- table. What is read says a system and names a line for each fact.
-use Rattle.std.proofs.Common.{◌⊎◌, inl, inr, ℕ, ◌≡◌, ◌<◌, ◌≤◌, List, [], ◌∷◌, length, Result, Ok, Err, refl, sym, ap, ◌∙◌, subst, arith}
+use Rattle.std.proofs.Common.{◌⊎◌, inl, inr, ℕ, ◌≡◌, ◌<◌, ◌≤◌, List, length, Result, Ok, Err, refl, sym, ap, ◌∙◌, subst, arith}
 use Rattle.uc_term.specs.Table.{Table, IsDistinct}
 use Rattle.uc_clause.specs.declared.fault.What.TheVariants as what
 use Rattle.uc_problem.proofs.Outcomes.{ok_once, err_once, ok_or_err}
@@ -12,7 +12,7 @@ use Rattle.uc_certificate.specs.declared.fault.CertFault.{CertFault}
 use Rattle.uc_certificate.specs.declared.fault.CertFault.TheVariants.{Syntax, Version, Limit, UnknownRule, UnknownName, RepeatedName, NoMemory}
 use Rattle.uc_certificate.specs.Headings.{AreNumbered, none_numbered, one_numbered, FactsAt, no_facts, unknown_fact, are_facts}
 use Rattle.uc_certificate.specs.Interning.{InternsCertificate}
-use Rattle.uc_certificate.specs.Parts.{Outcome, gets, fails, Rule, Then, goes_on, fails_first}
+use Rattle.uc_certificate.specs.Parts.{Outcome, gets, Rule, Then, goes_on, fails_first}
 use Rattle.uc_certificate.specs.Reading.{rest_of_certificate, ReadsCertificate, reads, IsReading}
 use Rattle.uc_certificate.proofs.Assembled.{text_is}
 use Rattle.uc_certificate.proofs.CertificateInterned.{certificate_interns_once}

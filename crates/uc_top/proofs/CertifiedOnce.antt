@@ -1,16 +1,13 @@
 -- What is told of a problem and of the text of a certificate file is one answer.
-use Rattle.std.proofs.Common.{ℕ, ◌≡◌, List, slice_get, Option, Some, Ok, Err, refl, sym, ap, ◌∙◌, subst}
-use Rattle.uc_term.specs.declared.fresh.Fresh.{Fresh}
-use Rattle.uc_term.specs.Table.{Table, Grows, IsDistinct}
+use Rattle.std.proofs.Common.{ℕ, ◌≡◌, List, Option, Some, Ok, Err, refl, sym, ap, subst}
+use Rattle.uc_term.specs.Table.{Table, IsDistinct}
 use Rattle.uc_edge.specs.Files.{Files}
 use Rattle.uc_edge.specs.Faults.{Rose}
 use Rattle.uc_clause.specs.declared.clause.Sourced.{Sourced}
 use Rattle.uc_problem.specs.declared.problem.Problem.{Problem}
 use Rattle.uc_problem.specs.declared.problem.Encoded.{Encoded}
-use Rattle.uc_problem.specs.declared.fault.EncodeFault.TheVariants.{GoalTooLarge}
 use Rattle.uc_problem.specs.Encodes.{Encodes}
 use Rattle.uc_problem.specs.Filling.{AddsMarks}
-use Rattle.uc_problem.specs.Marks.{Marks}
 use Rattle.uc_problem.proofs.EncodedOnce.{encoding_once}
 use Rattle.uc_problem.proofs.MarksOnce.{marked_or_large}
 use Rattle.uc_ordering.specs.Meaning.{meaning_of}

@@ -23,7 +23,7 @@ use Rattle.uc_top.specs.ModelRuns.{FindsModel, LacksModel, KeepsModel, KeepsMode
 use Rattle.uc_top.specs.Told.{IsTold, told, cut_short}
 use Rattle.uc_top.proofs.Positionals.{only_name}
 use Rattle.uc_top.proofs.ByVerb.{of_verb}
-use Rattle.uc_top.proofs.Completing.{told_whole, own_status}
+use Rattle.uc_top.proofs.Completing.{told_whole}
 use Rattle.uc_top.proofs.LoadedOnce.{answers_for}
 use Rattle.uc_top.proofs.ModelsRefute.{none_follows}
 use Rattle.uc_top.proofs.VariableWeights.{size_within}

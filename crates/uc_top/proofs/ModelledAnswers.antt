@@ -1,5 +1,5 @@
 -- From what a search promises to the answer of `model`.
-use Rattle.std.proofs.Common.{ℕ, ◌≡◌, ◌+◌, arith, List, [], ◌∷◌, length, Result, Ok, Err, refl, ap, sym, ◌∙◌, subst}
+use Rattle.std.proofs.Common.{ℕ, ◌≡◌, arith, List, [], ◌∷◌, length, Result, Ok, Err, refl, ap, sym, ◌∙◌, subst}
 use Rattle.std.specs.Result.{IfOk}
 use Rattle.std.specs.declared.alloc.AllocError.{AllocError}
 use Rattle.uc_term.specs.declared.node.Sym.{Sym}

@@ -1,5 +1,5 @@
 -- How a run of `model` ends, and what its answers promise.
-use Rattle.std.specs.Prelude.{ℕ, ◌≡◌, ◌≤◌, List, [], ◌∷◌, ◌++◌, codes, Option}
+use Rattle.std.specs.Prelude.{ℕ, ◌≡◌, List, [], ◌∷◌, ◌++◌, codes, Option}
 use Rattle.std.specs.Io.KnownBytes.{Appends}
 use Rattle.uc_term.specs.Table.{Table as SymbolTable, IsDistinct}
 use Rattle.uc_term.specs.Conversion.{SomeFollows}

@@ -1,4 +1,4 @@
-use Rattle.std.proofs.Common.{◌≡◌, sym, subst, arith}
+use Rattle.std.proofs.Common.{sym, subst}
 use Rattle.uc_order.specs.Laws.{Meaning}
 use Rattle.uc_ordering.specs.Chosen.{chosen_meaning, meaning_is}
 use Rattle.uc_ordering.specs.Meaning.{meaning_of}

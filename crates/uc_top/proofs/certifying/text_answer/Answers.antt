@@ -1,4 +1,4 @@
-use Rattle.std.proofs.Common.{◌≡◌, ◌<◌, length, arith}
+use Rattle.std.proofs.Common.{◌≡◌, length, arith}
 use Rattle.uc_top.proofs.CertificateTexts.{read_many}
 use Rattle.uc_top.proofs.CertifiedAnswers.{read_told, unread_told}
 use Rattle.uc_top.proofs.certifying.text_answer.Goals as goal

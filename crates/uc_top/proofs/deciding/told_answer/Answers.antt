@@ -1,4 +1,3 @@
-use Rattle.uc_book.specs.Openings.{opening_of}
 use Rattle.uc_answer.specs.VerdictLines.{opening_for}
 use Rattle.uc_top.proofs.DecidedAnswers.{told_by}
 use Rattle.uc_top.proofs.deciding.told_answer.Goals as goal
