@@ -29,7 +29,6 @@ pub mod VerdictTold
 pub mod HadSymbols
 pub mod GroundQuestions
 pub mod InternedDistinct
-pub mod OnePath
 pub mod OneDirection
 pub mod OneTermWord
 pub mod OneQuestion

@@ -9,13 +9,13 @@ use Rattle.uc_problem.proofs.Outcomes.{some_once}
 use Rattle.uc_certify.specs.declared.certified.Certified.{Certified}
 use Rattle.uc_answer.specs.PairLines.{overlap_words}
 use Rattle.uc_answer.specs.CertifyLines.{refused_line, IsCertifiedLine, is_right, has_other_symbols, has_wrong_line, has_wrong_fact, has_wrong_join, has_large_overlap}
-use Rattle.uc_answer.proofs.OnePath.{one_path}
+use Rattle.uc_term.proofs.OnePath.{path_once}
 
 module _ (lines : List Line) (facts : List Equation) where
   large_once : (o : Overlap) (outer other : Equation) (p q : List ℕ) → slice_get facts o.outer ≡ Some outer → IsPlaceOf (side_of o.outer_side outer) p o.position.0 → slice_get facts o.outer ≡ Some other → IsPlaceOf (side_of o.outer_side other) q o.position.0 → refused_line (codes "large " ++ overlap_words o p) ≡ refused_line (codes "large " ++ overlap_words o q)
   large_once o outer other p q e a f b =
       let same : other ≡ outer = some_once f e in
-      ap (λ path. refused_line (codes "large " ++ overlap_words o path)) (one_path (side_of o.outer_side outer) p q o.position.0 a (subst (λ (x : Equation). IsPlaceOf (side_of o.outer_side x) q o.position.0) same b))
+      ap (λ path. refused_line (codes "large " ++ overlap_words o path)) (path_once (side_of o.outer_side outer) p q o.position.0 a (subst (λ (x : Equation). IsPlaceOf (side_of o.outer_side x) q o.position.0) same b))
 
   pub certified_line_once : (answer : Certified) (l m : List ℕ) → IsCertifiedLine lines facts answer l → IsCertifiedLine lines facts answer m → l ≡ m
   certified_line_once answer l m is_right is_right = refl

@@ -10,12 +10,12 @@ use Rattle.uc_pair.specs.Overlapping.{read_from}
 use Rattle.uc_pair.proofs.OnePair.{one_formation}
 use Rattle.uc_pair.proofs.Uniqueness.{same_each}
 use Rattle.uc_answer.specs.PairLines.{pair_line, IsPairLine, ArePairLines, no_overlap_left, one_overlap, ArePairsOf, AreInnerLines, no_inner_left, one_inner, AreOuterLines, no_outer_left, one_outer}
-use Rattle.uc_answer.proofs.OnePath.{one_path}
+use Rattle.uc_term.proofs.OnePath.{path_once}
 
 module _ (table : Table) where
   line_once : (a b : Equation) (o : Overlap) {x y : List ℕ} → IsPairLine table a b o x → IsPairLine table a b o y → x ≡ y
   line_once a b o p q =
-      let paths : p.path ≡ q.path = one_path (side_of o.outer_side a) p.path q.path o.position.0 p.path_is q.path_is in
+      let paths : p.path ≡ q.path = path_once (side_of o.outer_side a) p.path q.path o.position.0 p.path_is q.path_is in
       p.line_is ∙ ap₂ (pair_line table o) paths (one_formation (read_from o.outer o.outer_side a) (read_from o.inner o.inner_side b) o.position.0 p.formation q.formation p.formation_is q.formation_is) ∙ sym q.line_is
 
   lines_of_once : (a b : Equation) {list : List Formed} {x y : List ℕ} → ArePairLines table a b list x → ArePairLines table a b list y → x ≡ y

@@ -24,7 +24,7 @@ use Rattle.uc_words.specs.declared.command.Command.{Command}
 use Rattle.uc_answer.specs.StatusLines.{status_line}
 use Rattle.uc_answer.specs.LimitLines.{overlap_line, IsLimitLine, budget_is_spent, limit_is_passed, pair_is_large, step_is_large}
 use Rattle.uc_answer.specs.VerdictLines.{IsProofText, VerdictAnswers, is_proved, is_saturated, is_out}
-use Rattle.uc_answer.proofs.OnePath.{one_path}
+use Rattle.uc_term.proofs.OnePath.{path_once}
 
 module _ (command : Command) (s : State) where
   isnt_proved : {goal : ℕ} {line : List ℕ} {A : Type 0} → IsLimitLine command s (Proved goal) line → A
@@ -38,7 +38,7 @@ module _ (command : Command) (s : State) where
   limit_once limit_is_passed limit_is_passed = refl
   limit_once (pair_is_large {o = o} outer path at place) (pair_is_large other written there placed) =
       let same : other ≡ outer = some_once there at in
-      ap (overlap_line o) (one_path (side_of o.outer_side (equation_of outer)) path written o.position.0 place (subst (λ (f : Fact). IsPlaceOf (side_of o.outer_side (equation_of f)) written o.position.0) same placed))
+      ap (overlap_line o) (path_once (side_of o.outer_side (equation_of outer)) path written o.position.0 place (subst (λ (f : Fact). IsPlaceOf (side_of o.outer_side (equation_of f)) written o.position.0) same placed))
   limit_once step_is_large step_is_large = refl
 
 module _ (table : Table) (command : Command) (name : List ℕ) (problem : Problem) (agrees : Agrees table problem) (encoded : Encoded) (encodes : Encodes table problem (Ok encoded)) (spec : OrderSpec) (s : State) where

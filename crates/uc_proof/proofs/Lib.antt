@@ -14,7 +14,6 @@ pub mod Numbers
 pub mod Naming
 pub mod Printing
 pub mod TableLines
-pub mod PathOnce
 pub mod Once
 pub mod Writing
 pub mod Making

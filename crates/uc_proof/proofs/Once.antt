@@ -25,7 +25,7 @@ use Rattle.uc_proof.specs.Files.{part_file}
 use Rattle.uc_proof.specs.Parts.{part_of, is_clause, is_encoding, axioms_where, facts_from, all_parts, Selects, selects_none, selects, passes}
 use Rattle.uc_proof.specs.Written.{line_name, clause_line, equation_line, refute_line, chain_source, IsStepFor, AreStepsFor, Says, says_clause, says_denial, says_reflexive, says_goal, says_fact, says_conclusion, refutes_denied, refutes_encoded, AreWritten}
 use Rattle.uc_proof.specs.Extracted.{IsEncodingOf, IsDerivation}
-use Rattle.uc_proof.proofs.PathOnce.{path_once}
+use Rattle.uc_term.proofs.OnePath.{path_once}
 
 plan_once : (Is : Part → Type 0) (ps qs rs : List Part) → Selects Is ps qs → Selects Is ps rs → qs ≡ rs
 plan_once Is _ _ _ selects_none selects_none = refl

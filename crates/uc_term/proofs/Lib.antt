@@ -3,6 +3,7 @@ pub mod Ahead
 pub mod Lists
 pub mod Parts
 pub mod Paths
+pub mod OnePath
 pub mod Put
 pub mod Instances
 pub mod Tables
