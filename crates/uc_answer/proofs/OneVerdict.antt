@@ -46,7 +46,7 @@ module _ (table : Table) (command : Command) (name : List ℕ) (problem : Proble
   proof_once goal p q =
       let targets : q.target ≡ p.target = some_once q.target_is p.target_is in
       let there = subst (λ (t : Target). IsExtracted problem encoded (born s.entries) t.left t.right goal q.lines q.files) targets q.extracted in
-      let once = derived_once problem encoded (born s.entries) (aim.Goal (conclusion_of p.target.left p.target.right) goal) p.lines q.lines p.files q.files (record { table = table; agrees = agrees; encodes = encodes }) p.extracted there in
+      let once = derived_once problem encoded (born s.entries) (aim.Goal (conclusion_of p.target.left p.target.right) goal) (record { table = table; agrees = agrees; encodes = encodes }) p.lines q.lines p.files q.files p.extracted there in
       p.text_is ∙ ap₂ (proof_text table name) once.1 once.0 ∙ sym q.text_is
 
   pub verdict_once : {v : Verdict} {x y : List ℕ} → VerdictAnswers table command name problem encoded spec s v x → VerdictAnswers table command name problem encoded spec s v y → x ≡ y

@@ -12,6 +12,7 @@ pub mod MadeSteps
 pub mod MadeMoves
 pub mod MadeEnds
 pub mod MadeJoins
+pub mod MadeOnce
 pub mod Known
 pub mod MovesTested
 pub mod Falling

@@ -23,7 +23,7 @@ ghost use Rattle.uc_certify.specs.declared.expected.Member.{Member};
 ghost use Rattle.uc_certify.specs.Joining.{Joins};
 ghost use Rattle.uc_certify.specs.Expecting.{AreExpected};
 ghost use Rattle.uc_certify.specs.Certifying.{AreSameSymbols, IsCertified};
-ghost use Rattle.uc_certify.specs.Making.{AllAreFoundJoined};
+ghost use Rattle.uc_certify.specs.Making.{AllAreFoundJoined, AreAllMade};
 ghost use Rattle.uc_certify.specs.Settings.{IsEncodingOf};
 
 use uc_order::Order;
@@ -50,4 +50,9 @@ pub fn certified_decides<O: Order>(order: &O)
 /// the facts being numbered by their places. So a certificate of them can be made.
 pub fn convergent_is_joined<O: Order>(order: &O)
     ensures { (axioms : List Equation) (s : State) (system : System) → IsFinal (O.meaning order.now) axioms s (Convergent system) → AllAreFoundJoined (O.meaning order.now) (equations_of (live s.entries)) axioms }
+{}
+
+/// One list of joins is made for a system and its axioms.
+pub fn one_making<O: Order>(order: &O)
+    ensures { (facts axioms : List Equation) (a b : List Join) → AreAllMade (O.meaning order.now) facts axioms a → AreAllMade (O.meaning order.now) facts axioms b → a ≡ b }
 {}

@@ -8,8 +8,6 @@ ghost use Rattle.uc_fact.specs.Ground.{AreOfSignature};
 ghost use Rattle.uc_problem.specs.declared.problem.Encoded.{Encoded};
 ghost use Rattle.uc_system.specs.Reading.{precedence_of};
 ghost use Rattle.uc_certify.specs.declared.certified.Certified.TheVariants.{Yes};
-ghost use Rattle.uc_certify.specs.declared.expected.Member.{Member as AnyMember};
-ghost use Rattle.uc_certify.specs.Expecting.{AreExpected};
 ghost use Rattle.uc_certify.specs.Certifying.{AreSameSymbols, AreDerivedBefore, IsCertified};
 ghost use Rattle.uc_term.specs.Tree.{nodes};
 ghost use Rattle.uc_term.specs.Equations.{side_of};
@@ -17,7 +15,7 @@ ghost use Rattle.uc_term.specs.declared.equation.Equation.{Equation as AnyEquati
 ghost use Rattle.uc_fact.specs.Live.{numbered};
 ghost use Rattle.uc_certify.specs.declared.expected.Member.TheVariants as member;
 ghost use Rattle.uc_certify.specs.Gathering.{IsOfFacts, IsKnownMember};
-ghost use Rattle.uc_certify.specs.Making.{AreFoundJoined, IsMade, IsFoundJoined, AllAreFoundJoined, NamesIt, IsMadeFor, AreMadeFor, AreAllMade};
+ghost use Rattle.uc_certify.specs.Making.{AreFoundJoined, IsMade, IsFoundJoined, AllAreFoundJoined, NamesIt, IsMadeFor, AreAllMade};
 
 use crate::Member;
 use crate::ending::end_of;
@@ -64,7 +62,7 @@ pub fn make_certificate<O: Order>(
     requires joined { AllAreFoundJoined (O.meaning order.now) system.now.facts axioms.now }
     ensures text { IfOk result (λ made. made.text ≡ record { spec = spec.now; system = system.now }) }
     ensures derivation { IfOk result (λ made. (made.lines ≡ lines) × (made.facts ≡ facts)) }
-    ensures joins { IfOk result (λ made. (members : List AnyMember) → AreExpected (O.meaning order.now).greater system.now.facts axioms.now members → AreMadeFor (O.meaning order.now) system.now.facts axioms.now members made.joins) }
+    ensures joins { IfOk result (λ made. AreAllMade (O.meaning order.now) system.now.facts axioms.now made.joins) }
     // what follows: it passes all tests
     ensures certified { IfOk result (λ made. (clauses : List Sourced) (encoded : Encoded) → encoded.axioms ≡ axioms.now → AreSameSymbols (precedence_of spec.now) encoded.signature.symbols → AreRightBefore clauses encoded.fresh lines.lines (length lines.lines) → AreDerivedBefore facts lines.lines system.now.facts (length system.now.facts) → IsCertified (O.meaning order.now) clauses encoded made Yes) }
 {

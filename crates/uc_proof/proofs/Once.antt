@@ -24,7 +24,7 @@ use Rattle.uc_proof.specs.Needed.{IsNeeded}
 use Rattle.uc_proof.specs.Files.{part_file}
 use Rattle.uc_proof.specs.Parts.{part_of, is_clause, is_encoding, axioms_where, facts_from, all_parts, Selects, selects_none, selects, passes}
 use Rattle.uc_proof.specs.Written.{line_name, clause_line, equation_line, refute_line, chain_source, IsStepFor, AreStepsFor, Says, says_clause, says_denial, says_reflexive, says_goal, says_fact, says_conclusion, refutes_denied, refutes_encoded, AreWritten}
-use Rattle.uc_proof.specs.Extracted.{IsEncodingOf, IsDerivation}
+use Rattle.uc_proof.specs.Extracted.{IsEncodingOf, IsDerivation, AreNumbersOf, AreDerivedFacts}
 use Rattle.uc_term.proofs.OnePath.{path_once}
 
 plan_once : (Is : Part → Type 0) (ps qs rs : List Part) → Selects Is ps qs → Selects Is ps rs → qs ≡ rs
@@ -230,12 +230,37 @@ module _ (plan : List Part) (one : (i j : ℕ) (p : Part) → slice_get plan i �
     lines_once k (p ∷ ps) (x ∷ xs) (y ∷ ys) a b =
         ap₂ (λ z zs. z ∷ zs) (a.0.line_is ∙ ap renumbered_line (said_once problem enc facts aimed (line_name k) p a.0.said b.0.said a.0.says b.0.says) ∙ sym b.0.line_is) (lines_once (k + 1) ps xs ys a.1 b.1)
 
-pub derived_once : (problem : Problem) (enc : Encoded) (facts : List Fact) (aimed : Aim) (xs ys : List Line) (fs gs : List (List ℕ)) → IsEncodingOf problem enc → IsDerivation problem enc facts aimed xs fs → IsDerivation problem enc facts aimed ys gs → (xs ≡ ys) × (fs ≡ gs)
-derived_once problem enc facts aimed xs ys fs gs is a b =
-    let plan : a.plan ≡ b.plan = plan_once (IsNeeded enc facts aimed) (all_parts problem enc (length facts)) a.plan b.plan a.selected b.selected in
-    let rise : Rises enc.sources (length problem.clauses) (length facts) 0 (all_parts problem enc (length facts)) =
-    subst (λ (cs : List ℕ). Rises enc.sources (length problem.clauses) (length facts) 0 (axioms_where is_clause 0 enc.sources ++ (map part.Denial cs ++ (axioms_where is_encoding 0 enc.sources ++ (facts_from 0 (length facts) ++ part.Conclusion ∷ part.Refutation ∷ []))))) (sym is.agrees.goals) (parts_rise enc.sources problem.clauses (length facts)) in
-    let rises = selected_rise enc.sources (length problem.clauses) (length facts) (IsNeeded enc facts aimed) 0 (all_parts problem enc (length facts)) a.plan a.selected rise in
-    let one : (i j : ℕ) (p : Part) → slice_get a.plan i ≡ Some p → slice_get a.plan j ≡ Some p → i ≡ j = λ i j p e f. once_at enc.sources (length problem.clauses) (length facts) 0 a.plan i j p rises e f in
-    let written : AreWritten problem enc facts aimed a.plan 0 a.plan ys = subst (λ (ps : List Part). AreWritten problem enc facts aimed ps 0 ps ys) (sym plan) b.written in
-    (lines_once a.plan one problem enc facts aimed 0 a.plan xs ys a.written written, a.files_are ∙ ap (map (part_file problem enc)) plan ∙ sym b.files_are)
+module _ (problem : Problem) (enc : Encoded) (facts : List Fact) (aimed : Aim) (is : IsEncodingOf problem enc) where
+  plans_once : (xs ys : List Line) (fs gs : List (List ℕ)) (a : IsDerivation problem enc facts aimed xs fs) (b : IsDerivation problem enc facts aimed ys gs) → a.plan ≡ b.plan
+  plans_once xs ys fs gs a b = plan_once (IsNeeded enc facts aimed) (all_parts problem enc (length facts)) a.plan b.plan a.selected b.selected
+
+  -- a part stands at one place of a plan
+  one_place : (xs : List Line) (fs : List (List ℕ)) (a : IsDerivation problem enc facts aimed xs fs) (i j : ℕ) (p : Part) → slice_get a.plan i ≡ Some p → slice_get a.plan j ≡ Some p → i ≡ j
+  one_place xs fs a i j p e f =
+      let rise : Rises enc.sources (length problem.clauses) (length facts) 0 (all_parts problem enc (length facts)) =
+      subst (λ (cs : List ℕ). Rises enc.sources (length problem.clauses) (length facts) 0 (axioms_where is_clause 0 enc.sources ++ (map part.Denial cs ++ (axioms_where is_encoding 0 enc.sources ++ (facts_from 0 (length facts) ++ part.Conclusion ∷ part.Refutation ∷ []))))) (sym is.agrees.goals) (parts_rise enc.sources problem.clauses (length facts)) in
+      let rises = selected_rise enc.sources (length problem.clauses) (length facts) (IsNeeded enc facts aimed) 0 (all_parts problem enc (length facts)) a.plan a.selected rise in
+      once_at enc.sources (length problem.clauses) (length facts) 0 a.plan i j p rises e f
+
+  pub derived_once : (xs ys : List Line) (fs gs : List (List ℕ)) → IsDerivation problem enc facts aimed xs fs → IsDerivation problem enc facts aimed ys gs → (xs ≡ ys) × (fs ≡ gs)
+  derived_once xs ys fs gs a b =
+      let plan : a.plan ≡ b.plan = plans_once xs ys fs gs a b in
+      let written : AreWritten problem enc facts aimed a.plan 0 a.plan ys = subst (λ (ps : List Part). AreWritten problem enc facts aimed ps 0 ps ys) (sym plan) b.written in
+      (lines_once a.plan (one_place xs fs a) problem enc facts aimed 0 a.plan xs ys a.written written, a.files_are ∙ ap (map (part_file problem enc)) plan ∙ sym b.files_are)
+
+numbers_once : (plan : List Part) → ((i j : ℕ) (p : Part) → slice_get plan i ≡ Some p → slice_get plan j ≡ Some p → i ≡ j) → (live ns ms : List ℕ) → AreNumbersOf plan live ns → AreNumbersOf plan live ms → ns ≡ ms
+numbers_once plan one [] [] [] a b = refl
+numbers_once plan one [] [] (m ∷ ms) a b = absurd b
+numbers_once plan one [] (n ∷ ns) ms a b = absurd a
+numbers_once plan one (l ∷ live) [] ms a b = absurd a
+numbers_once plan one (l ∷ live) (n ∷ ns) [] a b = absurd b
+numbers_once plan one (l ∷ live) (n ∷ ns) (m ∷ ms) a b = ap₂ (λ k ks. k ∷ ks) (one n m (part.Fact l) a.0 b.0) (numbers_once plan one live ns ms a.1 b.1)
+
+-- the derivation of facts is one, and so are the numbers of their lines
+pub facts_once : (problem : Problem) (enc : Encoded) (facts : List Fact) (live : List ℕ) (xs ys : List Line) (fs gs : List (List ℕ)) (ns ms : List ℕ) → IsEncodingOf problem enc → AreDerivedFacts problem enc facts live xs fs ns → AreDerivedFacts problem enc facts live ys gs ms → (xs ≡ ys) × (fs ≡ gs) × (ns ≡ ms)
+facts_once problem enc facts live xs ys fs gs ns ms is a b =
+    let aimed = aim.Facts live in
+    let same = derived_once problem enc facts aimed is xs ys fs gs a.derivation b.derivation in
+    let plan = plans_once problem enc facts aimed is xs ys fs gs a.derivation b.derivation in
+    let numbers = subst (λ (ps : List Part). AreNumbersOf ps live ms) (sym plan) b.numbers_are in
+    (same.0, same.1, numbers_once a.derivation.plan (one_place problem enc facts aimed is xs fs a.derivation) live ns ms a.numbers_are numbers)

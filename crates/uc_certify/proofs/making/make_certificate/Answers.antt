@@ -3,10 +3,8 @@ use Rattle.uc_term.specs.declared.equation.Equation.{Equation}
 use Rattle.uc_fact.specs.declared.fact.System.{System}
 use Rattle.uc_order.specs.declared.spec.OrderSpec.{OrderSpec}
 use Rattle.uc_certify.specs.declared.certified.Certified.TheVariants.{Yes}
-use Rattle.uc_certify.specs.declared.expected.Member.{Member}
 use Rattle.uc_certify.specs.Certifying.{IsCertified}
-use Rattle.uc_certify.specs.Making.{AllAreFoundJoined, AreMadeFor, AreAllMade}
-use Rattle.uc_certify.proofs.Once.{expected_once}
+use Rattle.uc_certify.specs.Making.{AllAreFoundJoined, AreAllMade}
 use Rattle.uc_certify.proofs.MadeJoins.{certified_made}
 use Rattle.uc_certify.proofs.making.make_certificate.Goals as goal
 
@@ -20,10 +18,7 @@ pub returns-clause-text : goal.returns-clause-text
 returns-clause-text g c = ap₂ (λ (x : OrderSpec) (y : System). record { spec = x; system = y }) c.in_ok-copy_spec.ensures c.in_ok-copy_system.ensures
 
 pub returns-clause-joins : goal.returns-clause-joins
-returns-clause-joins g c members expected =
-    let m = g.O.Order.meaning c.args.order.now in
-    let made = subst (λ (es : List Equation). AreAllMade m es c.args.axioms.now c.in_ok-joins.joins) c.as_slice.ensures c.in_ok-joins.ensures in
-    subst (λ (ms : List Member). AreMadeFor m c.args.system.now.facts c.args.axioms.now ms c.in_ok-joins.joins) (expected_once m.greater c.args.system.now.facts c.args.axioms.now made.members members made.are_expected expected) made.made
+returns-clause-joins g c = subst (λ (es : List Equation). AreAllMade (g.O.Order.meaning c.args.order.now) es c.args.axioms.now c.in_ok-joins.joins) c.as_slice.ensures c.in_ok-joins.ensures
 
 pub returns-clause-certified : goal.returns-clause-certified
 returns-clause-certified g c clauses encoded ax same right derived =
