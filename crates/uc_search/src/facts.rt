@@ -51,3 +51,15 @@ pub fn live_system(alloc: Global, shelf: &Shelf, front: &Front) -> Result<System
     }
     Ok(System { facts })
 }
+
+/// The numbers of the facts that live in a front, in order.
+pub fn live_numbers(alloc: Global, shelf: &Shelf, front: &Front) -> Result<Seq<u32>, AllocError>
+    requires { IsOf shelf.now front.now }
+    ensures { IfOk result (λ numbers. numbers ≡ map (λ f. f.number) (live front.now.entries)) }
+{
+    let mut numbers = Seq::new(alloc);
+    for fact in live_facts(alloc, shelf, front)? {
+        numbers.push(fact.number)?;
+    }
+    Ok(numbers)
+}
