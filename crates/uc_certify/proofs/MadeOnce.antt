@@ -46,13 +46,13 @@ move_once before step a b x y =
     let to : a.to ≡ b.to = x.to ∙ sym y.to in
     ap₂ (λ (p : ℕ × Bool) (q : List ℕ × Tree). record { fact = p.0; left_to_right = p.1; path = q.0; to = q.1 }) (ap₂ (λ (n : ℕ) (w : Bool). (n, w)) fact way) (ap₂ (λ (l : List ℕ) (t : Tree). (l, t)) path to)
 
-moves_once : (before : Tree) (steps : List Step) (as bs : List Move) → AreMovesOf before steps as → AreMovesOf before steps bs → as ≡ bs
+moves_once : (before : Tree) (steps : List Step) (ps qs : List Move) → AreMovesOf before steps ps → AreMovesOf before steps qs → ps ≡ qs
 moves_once before [] [] [] x y = refl
-moves_once before [] [] (b ∷ bs) x y = absurd y
-moves_once before [] (a ∷ as) bs x y = absurd x
-moves_once before (s ∷ steps) [] bs x y = absurd x
-moves_once before (s ∷ steps) (a ∷ as) [] x y = absurd y
-moves_once before (s ∷ steps) (a ∷ as) (b ∷ bs) x y = ap₂ (λ m ms. m ∷ ms) (move_once before s a b x.0 y.0) (moves_once s.to steps as bs x.1 y.1)
+moves_once before [] [] (b ∷ qs) x y = absurd y
+moves_once before [] (a ∷ ps) qs x y = absurd x
+moves_once before (s ∷ steps) [] qs x y = absurd x
+moves_once before (s ∷ steps) (a ∷ ps) [] x y = absurd y
+moves_once before (s ∷ steps) (a ∷ ps) (b ∷ qs) x y = ap₂ (λ m ms. m ∷ ms) (move_once before s a b x.0 y.0) (moves_once s.to steps ps qs x.1 y.1)
 
 -- WHY ENDS ARE JOINED
 
@@ -67,18 +67,18 @@ module _ (m : Meaning) (live : List Live) where
       let right = normal_moves (m.under cases) (represented cases t) x.right y.right a.right b.right x.right_is y.right_is x.right_moves y.right_moves in
       ap₂ (λ (c : Classes) (p : List Move × List Move). record { cases = c; left = p.0; right = p.1 }) (x.cases_are ∙ sym y.cases_are) (ap₂ (λ (l r : List Move). (l, r)) left right)
 
-  cases_once : (s t : Tree) (orders : List Classes) (as bs : List Case) → AreMadeCases m live s t orders as → AreMadeCases m live s t orders bs → as ≡ bs
+  cases_once : (s t : Tree) (orders : List Classes) (ps qs : List Case) → AreMadeCases m live s t orders ps → AreMadeCases m live s t orders qs → ps ≡ qs
   cases_once s t [] [] [] x y = refl
-  cases_once s t [] [] (b ∷ bs) x y = absurd y
-  cases_once s t [] (a ∷ as) bs x y = absurd x
-  cases_once s t (o ∷ orders) [] bs x y = absurd x
-  cases_once s t (o ∷ orders) (a ∷ as) [] x y = absurd y
-  cases_once s t (o ∷ orders) (a ∷ as) (b ∷ bs) x y = ap₂ (λ c cs. c ∷ cs) (case_once s t o a b x.0 y.0) (cases_once s t orders as bs x.1 y.1)
+  cases_once s t [] [] (b ∷ qs) x y = absurd y
+  cases_once s t [] (a ∷ ps) qs x y = absurd x
+  cases_once s t (o ∷ orders) [] qs x y = absurd x
+  cases_once s t (o ∷ orders) (a ∷ ps) [] x y = absurd y
+  cases_once s t (o ∷ orders) (a ∷ ps) (b ∷ qs) x y = ap₂ (λ c cs. c ∷ cs) (case_once s t o a b x.0 y.0) (cases_once s t orders ps qs x.1 y.1)
 
-  all_cases_once : (s t : Tree) (as bs : List Case) → AreAllCases m live s t as → AreAllCases m live s t bs → as ≡ bs
-  all_cases_once s t as bs x y =
+  all_cases_once : (s t : Tree) (ps qs : List Case) → AreAllCases m live s t ps → AreAllCases m live s t qs → ps ≡ qs
+  all_cases_once s t ps qs x y =
       let vars = one_variables s t y.vars x.vars y.vars_are x.vars_are in
-      cases_once s t (orders_of x.vars) as bs x.made (subst (λ (vs : List ℕ). AreMadeCases m live s t (orders_of vs) bs) vars y.made)
+      cases_once s t (orders_of x.vars) ps qs x.made (subst (λ (vs : List ℕ). AreMadeCases m live s t (orders_of vs) qs) vars y.made)
 
   end_once : (s t : Tree) (why : Reason) (a b : End) → SaysWhy m live s t why a → SaysWhy m live s t why b → a ≡ b
   end_once s t reason.Same Same Same x y = refl
@@ -151,15 +151,15 @@ module _ (m : Meaning) (facts axioms : List Equation) where
       let made = subst (λ (p : Tree × Tree). IsMade m (numbered facts) p.0 p.1 b) sides y.made in
       made_once m (numbered facts) x.left x.right a b (named_once facts axioms k a.what b.what x.names y.names) x.made made
 
-  joins_once : (ks : List Member) (as bs : List Join) → AreMadeFor m facts axioms ks as → AreMadeFor m facts axioms ks bs → as ≡ bs
+  joins_once : (ks : List Member) (ps qs : List Join) → AreMadeFor m facts axioms ks ps → AreMadeFor m facts axioms ks qs → ps ≡ qs
   joins_once [] [] [] x y = refl
-  joins_once [] [] (b ∷ bs) x y = absurd y
-  joins_once [] (a ∷ as) bs x y = absurd x
-  joins_once (k ∷ ks) [] bs x y = absurd x
-  joins_once (k ∷ ks) (a ∷ as) [] x y = absurd y
-  joins_once (k ∷ ks) (a ∷ as) (b ∷ bs) x y = ap₂ (λ j js. j ∷ js) (join_once k a b x.0 y.0) (joins_once ks as bs x.1 y.1)
+  joins_once [] [] (b ∷ qs) x y = absurd y
+  joins_once [] (a ∷ ps) qs x y = absurd x
+  joins_once (k ∷ ks) [] qs x y = absurd x
+  joins_once (k ∷ ks) (a ∷ ps) [] x y = absurd y
+  joins_once (k ∷ ks) (a ∷ ps) (b ∷ qs) x y = ap₂ (λ j js. j ∷ js) (join_once k a b x.0 y.0) (joins_once ks ps qs x.1 y.1)
 
-  pub all_made_once : (as bs : List Join) → AreAllMade m facts axioms as → AreAllMade m facts axioms bs → as ≡ bs
-  all_made_once as bs x y =
+  pub all_made_once : (ps qs : List Join) → AreAllMade m facts axioms ps → AreAllMade m facts axioms qs → ps ≡ qs
+  all_made_once ps qs x y =
       let members = expected_once m.greater facts axioms y.members x.members y.are_expected x.are_expected in
-      joins_once x.members as bs x.made (subst (λ (ks : List Member). AreMadeFor m facts axioms ks bs) members y.made)
+      joins_once x.members ps qs x.made (subst (λ (ks : List Member). AreMadeFor m facts axioms ks qs) members y.made)
