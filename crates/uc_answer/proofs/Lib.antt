@@ -23,6 +23,8 @@ pub mod NoGoalFollows
 pub mod ProvedTexts
 pub mod SmallAxioms
 pub mod SaturatedTexts
+pub mod SaturatedCertificates
+pub mod PassedCertificates
 pub mod ProveKeeping
 pub mod LargeLines
 pub mod VerdictTold
@@ -35,6 +37,7 @@ pub mod OneQuestion
 pub mod OneChain
 pub mod OnePairLines
 pub mod OneReply
+pub mod OneCertificate
 pub mod OneVerdict
 pub mod LeastConstants
 pub mod PrintableSteps

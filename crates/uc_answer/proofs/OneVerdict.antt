@@ -22,6 +22,7 @@ use Rattle.uc_proof.specs.Chains.{conclusion_of}
 use Rattle.uc_proof.proofs.Once.{derived_once}
 use Rattle.uc_words.specs.declared.command.Command.{Command}
 use Rattle.uc_answer.specs.StatusLines.{status_line}
+use Rattle.uc_answer.proofs.OneCertificate.{certificate_if_once}
 use Rattle.uc_answer.specs.LimitLines.{overlap_line, IsLimitLine, budget_is_spent, limit_is_passed, pair_is_large, step_is_large}
 use Rattle.uc_answer.specs.VerdictLines.{IsProofText, VerdictAnswers, is_proved, is_saturated, is_out}
 use Rattle.uc_term.proofs.OnePath.{path_once}
@@ -52,8 +53,8 @@ module _ (table : Table) (command : Command) (name : List ℕ) (problem : Proble
   pub verdict_once : {v : Verdict} {x y : List ℕ} → VerdictAnswers table command name problem encoded spec s v x → VerdictAnswers table command name problem encoded spec s v y → x ≡ y
   verdict_once (is_proved {goal = goal} p) (is_proved q) = ap (λ text. status_line (codes "Unsatisfiable") name ++ text) (proof_once goal p q)
   verdict_once (is_proved p) (is_out l) = isnt_proved command s l
-  verdict_once is_saturated is_saturated = refl
-  verdict_once is_saturated (is_out l) = isnt_saturated command s l
+  verdict_once (is_saturated p) (is_saturated q) = ap (λ text. status_line (codes "Satisfiable") name ++ saturation_text table command name problem encoded spec s ++ text) (certificate_if_once table problem agrees encoded encodes spec s command.certificate p q)
+  verdict_once (is_saturated p) (is_out l) = isnt_saturated command s l
   verdict_once (is_out l) (is_proved q) = isnt_proved command s l
-  verdict_once (is_out l) is_saturated = isnt_saturated command s l
+  verdict_once (is_out l) (is_saturated q) = isnt_saturated command s l
   verdict_once (is_out l) (is_out k) = ap (λ line. status_line (codes "ResourceOut") name ++ line) (limit_once command s l k)

@@ -1,10 +1,15 @@
 -- What is read as items can be printed.
-use Rattle.std.proofs.Common.{ℕ, ◌≡◌, ◌≤◌, ◌+◌, false, List, [], ◌∷◌, Option, Some, None, refl, sym, ap, ap₂, subst, arith, unwrap_or}
+use Rattle.std.proofs.Common.{ℕ, suc, ◌≡◌, ◌<◌, ◌≤◌, ◌+◌, Bool, true, false, List, [], ◌∷◌, ◌++◌, length, Option, Some, None, refl, sym, ap, ap₂, subst, arith, unwrap_or}
 use Rattle.uc_term.specs.declared.node.Sym.{Sym}
 use Rattle.uc_term.specs.Tree.{Tree, Trees, count, nodes, nodes_all}
 use Rattle.uc_term.specs.Over.{AreOver}
 use Rattle.uc_term.specs.Table.{Table, Entry as Row, IsSymbol, name_of, arity_of}
+use Rattle.std.specs.Prelude.{bytes_eq}
+use Rattle.std.specs.List.{list_any, AllByRecursion}
+use Rattle.std.proofs.lemmas.List.{length-append, length-map}
 use Rattle.std.proofs.lemmas.Option.{slice_get_within}
+use Rattle.uc_term.specs.Variables.{variables, variables_all}
+use Rattle.uc_fact.proofs.Agreeing.{each_append}
 use Rattle.uc_clause.specs.declared.token.Token.{Token}
 use Rattle.uc_clause.specs.declared.terminal.Terminal.{Terminal}
 use Rattle.uc_clause.specs.declared.terminal.Terminal.TheVariants.{Lower, Upper, Quoted, Distinct, Integer, Dollar, Unequal, Open, Close, OpenSquare, CloseSquare, Comma, Dot, Equal, Bar, Tilde, Star, OtherMark, End}
@@ -17,15 +22,18 @@ use Rattle.uc_clause.specs.declared.clause.Item.TheVariants as item
 use Rattle.uc_clause.specs.Terminals.{terminal_at}
 use Rattle.uc_clause.specs.Tokens.{AreTokens}
 use Rattle.uc_clause.specs.Rules.{Outcome, read, stop, mapped, read_or_stop, goes_on, is_first, is_second}
+use Rattle.uc_clause.specs.Parse.{variables as variables_parsed, variables_all as all_variables_parsed}
 use Rattle.uc_clause.specs.Parse.{Parse, variable, applied, Parses, no_more, also, size, size_all, Sides, Literal, Formula, Entry, formula, inclusion}
 use Rattle.uc_clause.specs.Terms.{head_of, head_at, Term, Args, is_variable, is_constant, is_applied, is_node_too_many, is_no_term, stops_in_it, is_last, is_followed, is_one_too_many, is_followed_by_neither}
 use Rattle.uc_clause.specs.Items.{name_by, quoted_by}
 use Rattle.uc_clause.specs.Items as items
-use Rattle.uc_clause.specs.Meaning.{Variables, Means, variable_means, functor_means, MeanAll, none_mean, more_mean, MeansItem, MeanItems, no_items, one_item}
+use Rattle.uc_clause.specs.Terminals.{bytes_at}
+use Rattle.uc_clause.specs.Meaning.{Variables, with_name, with_names, variables_in, variables_of, Means, variable_means, functor_means, MeanAll, none_mean, more_mean, MeansItem, MeanItems, no_items, one_item}
 use Rattle.uc_clause.specs.Names.{IsSpellable}
 use Rattle.uc_clause.specs.Printable.{IsPrintableSymbol, IsPrintable, IsPrintableClause}
 use Rattle.uc_clause.specs.Reading.{ReadsFile}
 use Rattle.uc_clause.proofs.Sizes.{term_small}
+use Rattle.uc_certificate.specs.Printable.{AreFew}
 use Rattle.uc_answer.specs.PrintableProblems.{IsSmallClause}
 use Rattle.uc_answer.proofs.SpelledWords.{IsWordTerminal, IsNameTerminal, word_spellable, name_spellable}
 
@@ -98,6 +106,32 @@ filed End at k e = absurd cc
 picked : (o : Option ℕ) (at v end : ℕ) → read v end ≡ read_or_stop NoToken o at → o ≡ Some v
 picked None at v end e = absurd cc
 picked (Some w) at v end e = let same : v ≡ w = cc in ap Some (sym same)
+
+-- NAMES OF VARIABLES
+
+names_count : (seen : Variables) (xs : List (List ℕ)) → length (with_names seen xs) ≤ length seen + length xs
+names_count seen [] = omega arith
+names_count seen (x ∷ xs) = go (list_any (bytes_eq x) seen) refl
+  where
+    go : (b : Bool) → list_any (bytes_eq x) seen ≡ b → length (with_names (with_name seen x) xs) ≤ length seen + suc (length xs)
+    go true e = let r : with_name seen x ≡ seen = rw e refl in subst (λ (names : Variables). length (with_names names xs) ≤ length seen + suc (length xs)) (sym r) (let l = names_count seen xs in omega (arith, l))
+    go false e =
+        let r : with_name seen x ≡ seen ++ x ∷ [] = rw e refl in
+        let more = names_count (seen ++ x ∷ []) xs in
+        subst (λ (names : Variables). length (with_names names xs) ≤ length seen + suc (length xs)) (sym r) (omega (arith, more, length-append seen (x ∷ [])))
+
+mutual
+  count_variables : (p : Parse) → length (variables_parsed p) ≤ size p
+  count_variables (variable k) = omega arith
+  count_variables (applied k ps) = let l = count_all ps in omega (arith, l)
+
+  count_all : (ps : Parses) → length (all_variables_parsed ps) ≤ size_all ps
+  count_all no_more = omega arith
+  count_all (also p ps) = let a = count_variables p in let b = count_all ps in omega (arith, a, b, length-append (variables_parsed p) (all_variables_parsed ps))
+
+all_below : (m n : ℕ) (xs : List ℕ) → m ≤ n → AllByRecursion (λ x. x < m) xs → AllByRecursion (λ x. x < n) xs
+all_below m n [] l h = tt
+all_below m n (x ∷ xs) l h = (omega (arith, l, h.0), all_below m n xs l h.1)
 
 -- ITEMS
 
@@ -312,10 +346,33 @@ module _ (bytes : List ℕ) (tokens : List Token) where
     side_small : {seen : Variables} {p : Parse} {t : Tree} → Means bytes tokens table seen p t → size p ≤ 4096 → nodes t ≤ 4096
     side_small m h = omega (arith, sizes_are m, h)
 
+    -- a variable's number is less than that of the names
+    mutual
+      variables_seen : {seen : Variables} {p : Parse} {t : Tree} → Means bytes tokens table seen p t → AllByRecursion (λ x. x < length seen) (variables t)
+      variables_seen {seen} (variable_means {n = n} e) = (slice_get_within seen n _ e, tt)
+      variables_seen (functor_means s ms) = all_seen ms
+
+      all_seen : {seen : Variables} {ps : Parses} {ts : Trees} → MeanAll bytes tokens table seen ps ts → AllByRecursion (λ x. x < length seen) (variables_all ts)
+      all_seen none_mean = tt
+      all_seen {seen} (more_mean {t = t} {ts = ts} m ms) = each_append (λ x. x < length seen) (variables t) (variables_all ts) (variables_seen m) (all_seen ms)
+
+    -- there are no more names than nodes
+    few_seen : (sides : Sides) {t : Tree} {p : Parse} → size sides.left ≤ 4096 → size sides.right ≤ 4096 → Means bytes tokens table (variables_of bytes tokens sides) p t → AreFew (variables t)
+    few_seen sides {t} left right m =
+        let first = names_count [] (variables_in bytes tokens sides.left) in
+        let all = names_count (with_names [] (variables_in bytes tokens sides.left)) (variables_in bytes tokens sides.right) in
+        let few : length (variables_of bytes tokens sides) ≤ 8192 = omega (arith, first, all, length-map (variables_parsed sides.left) (bytes_at bytes tokens), length-map (variables_parsed sides.right) (bytes_at bytes tokens), count_variables sides.left, count_variables sides.right, left, right) in
+        all_below (length (variables_of bytes tokens sides)) 8192 (variables t) few (variables_seen m)
+
     item_means : (e : Entry) (i : Item) → MeansItem bytes tokens table e i → FineEntry e → PrintableItem table i
     item_means (formula f) (item.Clause c) m h = (
       (name_spellable bytes tokens are f.heading.name c.name m.name h.0, means_printable m.sides.means_left h.1.0.0, means_printable m.sides.means_right h.1.1.0),
-      (side_small m.sides.means_left h.1.0.1, side_small m.sides.means_right h.1.1.1),
+      record {
+        left = side_small m.sides.means_left h.1.0.1;
+        right = side_small m.sides.means_right h.1.1.1;
+        few_left = few_seen f.literal.sides h.1.0.1 h.1.1.1 m.sides.means_left;
+        few_right = few_seen f.literal.sides h.1.0.1 h.1.1.1 m.sides.means_right;
+      },
     )
     item_means (inclusion j) (item.Include i) m h = subst IsSpellable (sym m.file) (word_spellable bytes tokens are j.file h)
     item_means (formula f) (item.Include i) m h = absurd m

@@ -1,5 +1,5 @@
 -- What the answer for a verdict keeps.
-use Rattle.std.proofs.Common.{ℕ, ◌≡◌, List, [], ◌++◌, codes, refl, sym, ap, ◌∙◌, arith, append_assoc, subst}
+use Rattle.std.proofs.Common.{ℕ, ◌≡◌, true, List, [], ◌++◌, codes, refl, sym, ap, ◌∙◌, arith, append_assoc, subst}
 use Rattle.std.proofs.lemmas.List.{append-nil}
 use Rattle.uc_term.specs.Table.{Table}
 use Rattle.uc_order.specs.declared.spec.OrderSpec.{OrderSpec}
@@ -15,7 +15,7 @@ use Rattle.uc_ordering.specs.Meaning.{meaning_of}
 use Rattle.uc_answer.specs.StatusLines.{status_line, line_for}
 use Rattle.uc_answer.specs.VerdictLines.{verdict_status, opening_for, HasEnded}
 use Rattle.uc_answer.specs.LimitLines.{IsLimitLine}
-use Rattle.uc_answer.specs.Promises.{Certifies, IsRefuted, Settles, IsSettled, IsStopped, Keeps}
+use Rattle.uc_answer.specs.Promises.{Certifies, IsRefuted, Settles, HasPassed, IsSettled, IsStopped, Keeps}
 
 -- more may stand behind an answer
 module _ (table : Table) (command : Command) (name : List ℕ) (problem : Problem) where
@@ -27,12 +27,14 @@ module _ (table : Table) (command : Command) (name : List ℕ) (problem : Proble
     answer_is = ap (λ t. t ++ more) r.answer_is ∙ append_assoc (status_line (codes "Unsatisfiable") name ++ r.proof) r.history more;
   }
 
-  settled_more : (spec : OrderSpec) (answer more : List ℕ) → IsSettled table name problem spec answer → IsSettled table name problem spec (answer ++ more)
+  settled_more : (spec : OrderSpec) (answer more : List ℕ) → IsSettled table command name problem spec answer → IsSettled table command name problem spec (answer ++ more)
   settled_more spec answer more r = record {
     system = r.system;
+    certificate = r.certificate;
     history = r.history ++ more;
     settles = r.settles;
-    answer_is = ap (λ t. t ++ more) r.answer_is ∙ append_assoc (status_line (codes "Satisfiable") name ++ line_for (codes "% SZS output start Saturation") name ++ r.system ++ line_for (codes "% SZS output end Saturation") name) r.history more;
+    passed = r.passed;
+    answer_is = ap (λ t. t ++ more) r.answer_is ∙ append_assoc (status_line (codes "Satisfiable") name ++ line_for (codes "% SZS output start Saturation") name ++ r.system ++ line_for (codes "% SZS output end Saturation") name ++ r.certificate) r.history more;
   }
 
   stopped_more : (spec : OrderSpec) (answer more : List ℕ) → IsStopped table command name problem spec answer → IsStopped table command name problem spec (answer ++ more)
@@ -76,14 +78,21 @@ module _ (table : Table) (command : Command) (name : List ℕ) (problem : Proble
     in_a_row : (a b c d : List ℕ) → a ++ (b ++ c ++ d) ≡ a ++ b ++ c ++ d
     in_a_row a b c d = sym (append_assoc a (b ++ c) d) ∙ ap (λ t. t ++ d) (sym (append_assoc a b c))
 
-    pub saturated_keeps : (system answer : List ℕ) → HasEnded table command problem encoded spec Saturated s → Settles table problem spec system → answer ≡ status_line (codes "Satisfiable") name ++ (line_for (codes "% SZS output start Saturation") name ++ system ++ line_for (codes "% SZS output end Saturation") name) → Keeps table command name problem 1 answer
-    saturated_keeps system answer h c e = record {
+    pub saturated_keeps : (system certificate answer : List ℕ) → HasEnded table command problem encoded spec Saturated s → Settles table problem spec system → (command.certificate ≡ true → HasPassed table problem spec certificate) → answer ≡ status_line (codes "Satisfiable") name ++ (line_for (codes "% SZS output start Saturation") name ++ system ++ line_for (codes "% SZS output end Saturation") name) ++ certificate → Keeps table command name problem 1 answer
+    saturated_keeps system certificate answer h c passed e = record {
       fresh = encoded.fresh;
       marked = h.encodes.0;
       spec = spec;
       chosen = h.chosen;
       refuted = λ z. absurd (omega (arith, z));
-      settled = λ z. record { system = system; history = []; settles = c; answer_is = e ∙ in_a_row (status_line (codes "Satisfiable") name) (line_for (codes "% SZS output start Saturation") name) system (line_for (codes "% SZS output end Saturation") name) ∙ sym (append-nil (status_line (codes "Satisfiable") name ++ line_for (codes "% SZS output start Saturation") name ++ system ++ line_for (codes "% SZS output end Saturation") name)) };
+      settled = λ z. record {
+        system = system;
+        certificate = certificate;
+        history = [];
+        settles = c;
+        passed = passed;
+        answer_is = e ∙ ap (λ t. t ++ certificate) (in_a_row (status_line (codes "Satisfiable") name) (line_for (codes "% SZS output start Saturation") name) system (line_for (codes "% SZS output end Saturation") name)) ∙ sym (append-nil (status_line (codes "Satisfiable") name ++ line_for (codes "% SZS output start Saturation") name ++ system ++ line_for (codes "% SZS output end Saturation") name ++ certificate));
+      };
       stopped = λ z. absurd (omega (arith, z));
     }
 

@@ -98,7 +98,7 @@ module _ (table : Table) (command : Command) (problem : Problem) (encoded : Enco
   abbrev facts : List Equation
   facts = equations_of (live s.entries)
 
-  facts_over : AreOfSignature (HasSym (meaning_of table spec)) (meaning_of table spec).arity facts
+  pub facts_over : AreOfSignature (HasSym (meaning_of table spec)) (meaning_of table spec).arity facts
   facts_over = system_over (meaning_of table spec) (laws table command problem encoded spec Saturated s h) (o table command problem encoded spec Saturated s h) (opens table command problem encoded spec Saturated s h) s h.searched
 
   pub facts_of_table : (es : List Equation) → es ≡ facts → Each (IsEquationOf table) es
@@ -142,7 +142,7 @@ module _ (table : Table) (command : Command) (problem : Problem) (encoded : Enco
           in_order = record { left = order.left; right = order.right };
         }
 
-    system_printable : IsPrintableSystem table spec facts
+    pub system_printable : IsPrintableSystem table spec facts
     system_printable = record {
       fits = fits_itself table encoded.signature.symbols spec h.fits;
       symbols = each_from (IsPrintableSymbol table) encoded.signature.symbols (precedence_of spec) (each_printable table command problem encoded spec Saturated s h printable) (precedence_known table encoded.signature.symbols spec h.fits);

@@ -48,7 +48,7 @@ use Rattle.uc_answer.proofs.PrintableSymbols.{symbols_printable, encoded_symbols
 use Rattle.uc_proof.proofs.Printing.{conclusion_printable}
 use Rattle.uc_proof.proofs.TableLines.{ArePartsOf, IsChainOf, conclusion_of_table}
 
-each_at : {A : Type 0} (P : A → Type 0) (xs : List A) → Each P xs → (n : ℕ) (x : A) → slice_get xs n ≡ Some x → P x
+pub each_at : {A : Type 0} (P : A → Type 0) (xs : List A) → Each P xs → (n : ℕ) (x : A) → slice_get xs n ≡ Some x → P x
 each_at P [] h n x e = absurd cc
 each_at P (y ∷ ys) h zero x e = let same : y ≡ x = cc in subst P same h.0
 each_at P (y ∷ ys) h (suc n) x e = each_at P ys h.1 n x e

@@ -11,6 +11,7 @@ pub mod PairLines
 pub mod TraceLines
 pub mod StatusLines
 pub mod LimitLines
+pub mod CertificateLines
 pub mod VerdictLines
 pub mod PrintableProblems
 pub mod Promises

@@ -3,12 +3,14 @@ use Rattle.std.specs.Prelude.{ℕ, ◌≡◌, ◌≤◌, Bool, true, List, [], �
 use Rattle.std.specs.List.{list_all}
 use Rattle.uc_term.specs.Table.{Table}
 use Rattle.uc_term.specs.Tree.{nodes}
+use Rattle.uc_term.specs.Variables.{variables}
 use Rattle.uc_clause.specs.declared.clause.Clause.{Clause}
 use Rattle.uc_clause.specs.declared.clause.Sourced.{Sourced}
 use Rattle.uc_clause.specs.Bytes.{between}
 use Rattle.uc_clause.specs.Names.{IsSpellable}
 use Rattle.uc_clause.specs.Printable.{IsPrintableClause}
 use Rattle.uc_tstp.specs.Printable.{IsProofName}
+use Rattle.uc_certificate.specs.Printable.{AreFew}
 use Rattle.uc_problem.specs.declared.problem.Problem.{Problem}
 
 -- all bytes are visible ones or spaces
@@ -20,9 +22,12 @@ abbrev pub IsRootSeen : Option (List ℕ) → Type 0
 IsRootSeen None = Unit {0}
 IsRootSeen (Some root) = are_seen root ≡ true
 
--- no side has more than 4,096 nodes
-abbrev pub IsSmallClause : Clause → Type 0
-IsSmallClause c = (nodes c.left ≤ 4096) × (nodes c.right ≤ 4096)
+-- no side has more than 4,096 nodes, and join lines can name its variables
+pub record IsSmallClause (c : Clause) : Type 0 where
+  pub left : nodes c.left ≤ 4096
+  pub right : nodes c.right ≤ 4096
+  pub few_left : AreFew (variables c.left)
+  pub few_right : AreFew (variables c.right)
 
 module _ (table : Table) where
   -- a clause that can be printed, of terms that aren't too large, from a file whose name can be spelled

@@ -1,5 +1,5 @@
 -- What the lines of a verdict promise.
-use Rattle.std.specs.Prelude.{ℕ, ◌≡◌, ◌↔◌, List, ◌++◌, length, codes, Option, Ok}
+use Rattle.std.specs.Prelude.{ℕ, ◌≡◌, ◌↔◌, true, List, ◌++◌, length, codes, Option, Ok}
 use Rattle.uc_term.specs.declared.fresh.Fresh.{Fresh}
 use Rattle.uc_term.specs.Tree.{Tree}
 use Rattle.uc_term.specs.Over.{IsGround}
@@ -23,6 +23,10 @@ use Rattle.uc_worker.specs.Ends.{IsSearchedBy}
 use Rattle.uc_decide.specs.NormalForms.{HasNormalForm, HasOneNormalForm}
 use Rattle.uc_decide.specs.Deciding.{Decides}
 use Rattle.uc_system.specs.Reading.{ReadsSystem}
+use Rattle.uc_certificate.specs.declared.certificate.Certificate.{Certificate}
+use Rattle.uc_certificate.specs.Reading.{ReadsCertificate}
+use Rattle.uc_certify.specs.declared.certified.Certified.TheVariants.{Yes}
+use Rattle.uc_certify.specs.Certifying.{IsCertified}
 use Rattle.uc_words.specs.declared.command.Command.{Command}
 use Rattle.uc_ordering.specs.Choice.{IsChosen, all_symbols}
 use Rattle.uc_ordering.specs.Fits.{Fits}
@@ -72,12 +76,25 @@ pub record Settles (table : Table) (problem : Problem) (spec : OrderSpec) (text 
   pub own : (u v n k : Tree) → IsOwnGround table problem u → IsOwnGround table problem v → HasNormalForm (meaning_of table spec) system.facts u n → HasNormalForm (meaning_of table spec) system.facts v k → (n ≡ k) ↔ Conv (axioms_of problem.clauses) u v
   pub none_follows : SomeFollows (axioms_of problem.clauses) (goals_of problem.clauses) → ⊥
 
--- the answer has such a system between its two lines
-pub record IsSettled (table : Table) (name : List ℕ) (problem : Problem) (spec : OrderSpec) (answer : List ℕ) : Type 0 where
+-- The text, whatever stands behind it, is read as one certificate. It is of this order, and by it all its tests are passed for the
+-- problem's encoding.
+pub record HasPassed (table : Table) (problem : Problem) (spec : OrderSpec) (text : List ℕ) : Type 0 where
+  pub encoded : Encoded
+  pub encodes : Encodes table problem (Ok encoded)
+  pub certificate : Certificate
+  pub of_order : certificate.text.spec ≡ spec
+  pub reads : (more : List ℕ) → ReadsCertificate table (text ++ more) (Ok certificate)
+  pub passes : IsCertified (meaning_of table spec) problem.clauses encoded certificate Yes
+
+-- The answer has such a system between its two lines, and behind it such a certificate, where the command asks for one, and the
+-- history, if there is one.
+pub record IsSettled (table : Table) (command : Command) (name : List ℕ) (problem : Problem) (spec : OrderSpec) (answer : List ℕ) : Type 0 where
   pub system : List ℕ
+  pub certificate : List ℕ
   pub history : List ℕ
   pub settles : Settles table problem spec system
-  pub answer_is : answer ≡ status_line (codes "Satisfiable") name ++ line_for (codes "% SZS output start Saturation") name ++ system ++ line_for (codes "% SZS output end Saturation") name ++ history
+  pub passed : command.certificate ≡ true → HasPassed table problem spec certificate
+  pub answer_is : answer ≡ status_line (codes "Satisfiable") name ++ line_for (codes "% SZS output start Saturation") name ++ system ++ line_for (codes "% SZS output end Saturation") name ++ certificate ++ history
 
 -- A LIMIT
 
@@ -97,12 +114,13 @@ pub record IsStopped (table : Table) (command : Command) (name : List ℕ) (prob
 -- THE PROMISE
 
 -- For a problem and the order that the command names for it: with status 0 the answer has a proof of the problem, with status 1 a
--- system that settles it, and with status 2 the limit that ended the search, with its cause.
+-- system that settles it, and a certificate of it where one is asked for, and with status 2 the limit that ended the search, with its
+-- cause.
 pub record Keeps (table : Table) (command : Command) (name : List ℕ) (problem : Problem) (status : ℕ) (answer : List ℕ) : Type 0 where
   pub fresh : Option Fresh
   pub marked : Marks table problem (Ok fresh)
   pub spec : OrderSpec
   pub chosen : IsChosen table problem.signature command.order fresh spec
   pub refuted : status ≡ 0 → IsRefuted table name problem answer
-  pub settled : status ≡ 1 → IsSettled table name problem spec answer
+  pub settled : status ≡ 1 → IsSettled table command name problem spec answer
   pub stopped : status ≡ 2 → IsStopped table command name problem spec answer

@@ -24,6 +24,7 @@ use Rattle.uc_ordering.specs.Meaning.{meaning_of}
 use Rattle.uc_answer.specs.TraceLines.{trace_text}
 use Rattle.uc_answer.specs.StatusLines.{line_for, status_line}
 use Rattle.uc_answer.specs.LimitLines.{IsLimitLine}
+use Rattle.uc_answer.specs.CertificateLines.{IsCertificateIf}
 
 -- the history with the shares of all hands, where the command asks for it
 abbrev pub trace_if : Command → State → List ℕ
@@ -63,8 +64,9 @@ module _ (table : Table) (command : Command) (name : List ℕ) where
     abbrev pub saturation_text : List ℕ
     saturation_text = line_for (codes "% SZS output start Saturation") name ++ system_text table spec (equations_of (live s.entries)) ++ line_for (codes "% SZS output end Saturation") name
 
-    -- the text for the verdict of a book in this state
+    -- The text for the verdict of a book in this state: the proof; the system, with its certificate behind it where one is asked for; or
+    -- the limit.
     pub data VerdictAnswers : Verdict → List ℕ → Type 0 where
       is_proved : {goal : ℕ} {text : List ℕ} → IsProofText goal text → VerdictAnswers (Proved goal) (status_line (codes "Unsatisfiable") name ++ text)
-      is_saturated : VerdictAnswers Saturated (status_line (codes "Satisfiable") name ++ saturation_text)
+      is_saturated : {text : List ℕ} → IsCertificateIf table problem encoded spec s command.certificate text → VerdictAnswers Saturated (status_line (codes "Satisfiable") name ++ saturation_text ++ text)
       is_out : {v : Verdict} {line : List ℕ} → IsLimitLine command s v line → VerdictAnswers v (status_line (codes "ResourceOut") name ++ line)

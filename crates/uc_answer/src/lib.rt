@@ -5,6 +5,7 @@
 #![tactic(auto)]
 
 mod answer;
+mod certificate_lines;
 mod certify_lines;
 mod chaining;
 mod choosing;

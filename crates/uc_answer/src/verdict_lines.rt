@@ -6,6 +6,7 @@ ghost use Rattle.uc_shelf.specs.Entries.{live};
 ghost use Rattle.uc_machine.specs.declared.event.Verdict.TheVariants.{Proved, Saturated};
 ghost use Rattle.uc_worker.specs.Commits.{shares_of};
 ghost use Rattle.uc_worker.specs.Hands.{hands_of};
+ghost use Rattle.uc_ordering.specs.Meaning.{meaning_of};
 ghost use Rattle.uc_system.specs.Printing.{system_text};
 ghost use Rattle.uc_answer.specs.Lines.{joined};
 ghost use Rattle.uc_answer.specs.PrintableProblems.{CanBePrinted};
@@ -14,6 +15,7 @@ ghost use Rattle.uc_answer.specs.VerdictLines.{verdict_status, trace_if, saturat
 ghost use Rattle.uc_answer.specs.Promises.{Certifies, Settles, Keeps};
 
 use crate::answer::{Answer, DONE, NO, STOPPED};
+use crate::certificate_lines::certified;
 use crate::limit_lines::out_lines;
 use crate::szs::{line_for, status_line};
 use crate::trace_lines::trace_lines;
@@ -49,9 +51,11 @@ pub fn verdict_answer<O: Order>(
     alloc: Global,
     closed: &Closed,
     book: &Book<O>,
+    order: &O,
     shares: &[u64],
     verdict: Verdict,
 ) -> Result<Answer, AllocError>
+    requires order { O.meaning order.now ≡ meaning_of closed.now.symbols.now closed.now.spec.now }
     requires shelf { book.now.opening.shelf ≡ closed.now.shelf.now }
     requires problem { book.now.opening.problem ≡ closed.now.encoded.now }
     requires ended { HasEnded closed.now.symbols.now closed.now.command.now closed.now.problem.now closed.now.encoded.now closed.now.spec.now verdict book.now.state }
@@ -60,7 +64,7 @@ pub fn verdict_answer<O: Order>(
     ensures answers { IfOk result (λ answer. (text : List ℕ) × VerdictAnswers closed.now.symbols.now closed.now.command.now closed.now.name.now closed.now.problem.now closed.now.encoded.now closed.now.spec.now book.now.state verdict text × (joined answer.lines ≡ text ++ trace_if closed.now.command.now book.now.state)) }
     ensures promise { IfOk result (λ answer. CanBePrinted closed.now.symbols.now closed.now.name.now closed.now.problem.now → Keeps closed.now.symbols.now closed.now.command.now closed.now.name.now closed.now.problem.now (verdict_status verdict) (joined answer.lines)) }
 {
-    let lines = verdict_lines(alloc, closed, book, verdict)?;
+    let lines = verdict_lines(alloc, closed, book, order, verdict)?;
     Ok(Answer {
         status: verdict_status(verdict),
         lines: traced(alloc, closed.command, lines, book, shares)?,
@@ -105,8 +109,10 @@ fn verdict_lines<O: Order>(
     alloc: Global,
     closed: &Closed,
     book: &Book<O>,
+    order: &O,
     verdict: Verdict,
 ) -> Result<Seq<Text>, AllocError>
+    requires order { O.meaning order.now ≡ meaning_of closed.now.symbols.now closed.now.spec.now }
     requires shelf { book.now.opening.shelf ≡ closed.now.shelf.now }
     requires problem { book.now.opening.problem ≡ closed.now.encoded.now }
     requires ended { HasEnded closed.now.symbols.now closed.now.command.now closed.now.problem.now closed.now.encoded.now closed.now.spec.now verdict book.now.state }
@@ -115,7 +121,7 @@ fn verdict_lines<O: Order>(
 {
     match verdict {
         Verdict::Proved(goal) => proved_lines(alloc, closed, book, goal),
-        Verdict::Saturated => saturated_lines(alloc, closed, book),
+        Verdict::Saturated => saturated_lines(alloc, closed, book, order),
         _ => out_lines(
             alloc,
             closed.command,
@@ -171,7 +177,7 @@ const MOST_LINES: usize = 4_294_967_296;
 
 /// Refuses so many sources of axioms, goals and facts that the lines of a proof from them can't be numbered, and no others. A
 /// problem has at most 10,000 clauses, and a search keeps at most 10,000,000 facts.
-fn are_few(sources: usize, goals: usize, facts: usize) -> Result<(), AllocError>
+pub(crate) fn are_few(sources: usize, goals: usize, facts: usize) -> Result<(), AllocError>
     ensures few { OnOk result (sources + goals + facts + 2 < 2 ^ 32) }
     ensures refused { OnErr result (2 ^ 32 ≤ sources + goals + facts + 2) }
 {
@@ -183,8 +189,27 @@ fn are_few(sources: usize, goals: usize, facts: usize) -> Result<(), AllocError>
     }
 }
 
-/// The lines of a problem that is saturated: its status and the system of the facts that live.
+/// The lines of a problem that is saturated: its status, the system of the facts that live, and its certificate where one is asked
+/// for.
 fn saturated_lines<O: Order>(
+    alloc: Global,
+    closed: &Closed,
+    book: &Book<O>,
+    order: &O,
+) -> Result<Seq<Text>, AllocError>
+    requires order { O.meaning order.now ≡ meaning_of closed.now.symbols.now closed.now.spec.now }
+    requires shelf { book.now.opening.shelf ≡ closed.now.shelf.now }
+    requires problem { book.now.opening.problem ≡ closed.now.encoded.now }
+    requires ended { HasEnded closed.now.symbols.now closed.now.command.now closed.now.problem.now closed.now.encoded.now closed.now.spec.now Saturated book.now.state }
+    ensures answers { IfOk result (λ lines. VerdictAnswers closed.now.symbols.now closed.now.command.now closed.now.name.now closed.now.problem.now closed.now.encoded.now closed.now.spec.now book.now.state Saturated (joined lines)) }
+    ensures promise { IfOk result (λ lines. CanBePrinted closed.now.symbols.now closed.now.name.now closed.now.problem.now → Keeps closed.now.symbols.now closed.now.command.now closed.now.name.now closed.now.problem.now 1 (joined lines)) }
+{
+    let lines = system_lines(alloc, closed, book)?;
+    certified(alloc, closed, lines, book, order)
+}
+
+/// The lines of the system of the facts that live, behind the status.
+fn system_lines<O: Order>(
     alloc: Global,
     closed: &Closed,
     book: &Book<O>,
@@ -215,7 +240,7 @@ fn system_of<O: Order>(alloc: Global, closed: &Closed, book: &Book<O>) -> Result
 }
 
 /// The lines of a text, each with its line feed.
-fn lines_of(alloc: Global, text: &[u8]) -> Result<Seq<Text>, AllocError>
+pub(crate) fn lines_of(alloc: Global, text: &[u8]) -> Result<Seq<Text>, AllocError>
     ensures { IfOk result (λ lines. joined lines ≡ text.now) }
 {
     let mut lines = Seq::new(alloc);

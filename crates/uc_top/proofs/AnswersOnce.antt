@@ -1,5 +1,5 @@
 -- Words and files have one answer.
-use Rattle.std.proofs.Common.{◌⊎◌, inl, inr, ℕ, ◌≡◌, ◌≤◌, Bool, true, false, List, [], ◌∷◌, Option, Some, sym, ◌∙◌, subst}
+use Rattle.std.proofs.Common.{◌⊎◌, inl, inr, ℕ, ◌≡◌, ◌≤◌, List, [], ◌∷◌, Option, Some, sym, ◌∙◌, subst}
 use Rattle.uc_edge.specs.Files.{Files}
 use Rattle.uc_edge.specs.Faults.{Rose}
 use Rattle.uc_problem.proofs.FreshMarks.{signature_has}
@@ -32,7 +32,7 @@ use Rattle.uc_top.proofs.SearchLaws.{OneSearch}
 use Rattle.uc_top.proofs.ProveOnce.{prove_answers_once}
 use Rattle.uc_top.proofs.DecideOnce.{decided_once}
 use Rattle.uc_top.proofs.VariableWeights.{w0_within}
-use Rattle.uc_top.proofs.ByVerb.{IsUsage, OfProveBy, OfDecide, Of, of_command, read_or_not}
+use Rattle.uc_top.proofs.ByVerb.{IsUsage, OfProve, OfDecide, Of, of_command, read_or_not}
 
 -- THE COMMANDS
 
@@ -73,9 +73,8 @@ module _ (files : Files) (before now again later : ℕ) where
     decide_once : (k : Command) → IsWithin k → (name : List ℕ) (questions : List (List ℕ)) {s t : ℕ} {a b : List ℕ} → (s ≤ 2 → k.workers ≡ 1) → (s ≡ 5 → Rose before now → ⊥) → (t ≡ 5 → Rose again later → ⊥) → DecideAnswers (Some files) before now k name questions s a → DecideAnswers (Some files) again later k name questions t b → (s ≡ t) × (a ≡ b)
     decide_once k within name questions alone v w x y = load_once files k.root name before now again later (λ table problem status text. (status ≤ 2 → k.workers ≡ 1) × IsDecided table k name questions problem status text) (λ table. IsDecided table k name questions) (λ table problem s t a b d l v w p q. decided_once one_search table d k within.0 within.1 name questions problem l.holds.agrees p.0 p.1 q) v w (with_premise files k.root name before now (λ table. IsDecided table k name questions) (λ status. status ≤ 2 → k.workers ≡ 1) alone x) y
 
-    prove_command_once : (certificate : Bool) (k : Command) → IsWithin k → {s t : ℕ} {a b : List ℕ} → (s ≤ 2 → k.workers ≡ 1) → (s ≡ 5 → Rose before now → ⊥) → (t ≡ 5 → Rose again later → ⊥) → OfProveBy (Some files) before now certificate k s a → OfProveBy (Some files) again later certificate k t b → (s ≡ t) × (a ≡ b)
-    prove_command_once true k within alone v w x y = usage_once x y
-    prove_command_once false k within {t = t} {b = b} alone v w (name, p, x) (named, q, y) = prove_answers_once one_search k within.0 within.1 name files before now again later alone v w x (subst (λ n. ProveAnswers k n (Some files) again later t b) (only_name (sym q ∙ p)) y)
+    prove_command_once : (k : Command) → IsWithin k → {s t : ℕ} {a b : List ℕ} → (s ≤ 2 → k.workers ≡ 1) → (s ≡ 5 → Rose before now → ⊥) → (t ≡ 5 → Rose again later → ⊥) → OfProve (Some files) before now k s a → OfProve (Some files) again later k t b → (s ≡ t) × (a ≡ b)
+    prove_command_once k within {t = t} {b = b} alone v w (name, p, x) (named, q, y) = prove_answers_once one_search k within.0 within.1 name files before now again later alone v w x (subst (λ n. ProveAnswers k n (Some files) again later t b) (only_name (sym q ∙ p)) y)
 
     decide_command_once : (k : Command) → IsWithin k → {s t : ℕ} {a b : List ℕ} → (s ≤ 2 → k.workers ≡ 1) → (s ≡ 5 → Rose before now → ⊥) → (t ≡ 5 → Rose again later → ⊥) → OfDecide (Some files) before now k s a → OfDecide (Some files) again later k t b → (s ≡ t) × (a ≡ b)
     decide_command_once k within {t = t} {b = b} alone v w (name, questions, p, x) (named, asked, q, y) =
@@ -88,7 +87,7 @@ module _ (files : Files) (before now again later : ℕ) where
         check_once k.root name proof v w x (subst (λ n. CheckAnswers (Some files) again later k.root n proof t b) (first_name names) (subst (λ n. CheckAnswers (Some files) again later k.root named n t b) (second_name names) y))
     verb_once verb.Show k within {t = t} {b = b} alone v w (name, p, x) (named, q, y) = show_once k.root name v w x (subst (λ n. ShowAnswers (Some files) again later k.root n t b) (only_name (sym q ∙ p)) y)
     verb_once verb.Order k within {t = t} {b = b} alone v w (name, p, x) (named, q, y) = order_once k.order k.root name v w x (subst (λ n. OrderAnswers (Some files) again later k.order k.root n t b) (only_name (sym q ∙ p)) y)
-    verb_once verb.Prove k within alone v w x y = prove_command_once k.certificate k within (λ few. alone few tt) v w x y
+    verb_once verb.Prove k within alone v w x y = prove_command_once k within (λ few. alone few tt) v w x y
     verb_once verb.Decide k within alone v w x y = decide_command_once k within (λ few. alone few tt) v w x y
     verb_once verb.Rewrite k within {t = t} {b = b} alone v w (name, word, p, x) (named, other, q, y) =
         let names : named ∷ other ∷ [] ≡ name ∷ word ∷ [] = sym q ∙ p in

@@ -1,5 +1,5 @@
 -- An answer to words is the answer to the command that they are.
-use Rattle.std.proofs.Common.{◌⊎◌, inl, inr, ℕ, ◌≡◌, Bool, true, false, List, [], ◌∷◌, Option, refl, sym, subst}
+use Rattle.std.proofs.Common.{◌⊎◌, inl, inr, ℕ, ◌≡◌, List, [], ◌∷◌, Option, refl, sym, subst}
 use Rattle.uc_edge.specs.Files.{Files}
 use Rattle.uc_words.specs.declared.command.Command.{Command}
 use Rattle.uc_words.specs.declared.command.Verb.{Verb}
@@ -7,20 +7,15 @@ use Rattle.uc_words.specs.declared.command.Verb.TheVariants as verb
 use Rattle.uc_words.specs.Reads.{Reads}
 use Rattle.uc_words.proofs.Only.{only}
 use Rattle.uc_answer.specs.Lines.{usage_line}
-use Rattle.uc_top.specs.Answers.{IsBuilt, CheckAnswers, ShowAnswers, OrderAnswers, RewriteAnswers, PairsAnswers, DecideAnswers, TableAnswers, ModelAnswers, CertifyAnswers, Answers, has_no_reading, isnt_built, isnt_certified, checks, shows, orders, rewrites, pairs_up, proves, decides, tables, models, certifies}
+use Rattle.uc_top.specs.Answers.{IsBuilt, CheckAnswers, ShowAnswers, OrderAnswers, RewriteAnswers, PairsAnswers, DecideAnswers, TableAnswers, ModelAnswers, CertifyAnswers, Answers, has_no_reading, isnt_built, checks, shows, orders, rewrites, pairs_up, proves, decides, tables, models, certifies}
 use Rattle.uc_top.specs.ProveAnswers.{ProveAnswers}
 
 module _ (holds : Option Files) (before now : ℕ) where
   abbrev pub IsUsage : ℕ → List ℕ → Type 0
   IsUsage status text = (status ≡ 4) × (text ≡ usage_line)
 
-  -- the answer to `prove`, with a certificate or without
-  abbrev pub OfProveBy : Bool → Command → ℕ → List ℕ → Type 0
-  OfProveBy true k status text = IsUsage status text
-  OfProveBy false k status text = (name : List ℕ) × (k.positionals ≡ name ∷ []) × ProveAnswers k name holds before now status text
-
   abbrev pub OfProve : Command → ℕ → List ℕ → Type 0
-  OfProve k = OfProveBy k.certificate k
+  OfProve k status text = (name : List ℕ) × (k.positionals ≡ name ∷ []) × ProveAnswers k name holds before now status text
 
   abbrev pub OfDecide : Command → ℕ → List ℕ → Type 0
   OfDecide k status text = (name : List ℕ) × (questions : List (List ℕ)) × (k.positionals ≡ name ∷ questions) × DecideAnswers holds before now k name questions status text
@@ -65,8 +60,7 @@ module _ (holds : Option Files) (before now : ℕ) where
     of_command {status = status} {text = text} x (orders {name = name} y v p a) = of_other verb.Order status text x y v (name, p, a)
     of_command {status = status} {text = text} x (rewrites {name = name} {word = word} y v p a) = of_other verb.Rewrite status text x y v (name, word, p, a)
     of_command {status = status} {text = text} x (pairs_up {name = name} y v p a) = of_other verb.Pairs status text x y v (name, p, a)
-    of_command x (isnt_certified {command = other} y v e) = of_other verb.Prove 4 usage_line x y v (subst (λ b. OfProveBy b other 4 usage_line) (sym e) (refl, refl))
-    of_command {status = status} {text = text} x (proves {command = other} {name = name} y v e p a) = of_other verb.Prove status text x y v (subst (λ b. OfProveBy b other status text) (sym e) (name, p, a))
+    of_command {status = status} {text = text} x (proves {name = name} y v p a) = of_other verb.Prove status text x y v (name, p, a)
     of_command {status = status} {text = text} x (tables {name = name} {file = file} y v p a) = of_other verb.Table status text x y v (name, file, p, a)
     of_command {status = status} {text = text} x (models {name = name} y v p a) = of_other verb.Model status text x y v (name, p, a)
     of_command {status = status} {text = text} x (certifies {name = name} {file = file} y v p a) = of_other verb.Certify status text x y v (name, file, p, a)
@@ -80,13 +74,12 @@ module _ (holds : Option Files) (before now : ℕ) where
     pub read_or_not : (status : ℕ) (text : List ℕ) → Answers holds before now words status text → ((command : Command) × Reads words command) ⊎ (((command : Command) → Reads words command → ⊥) × IsUsage status text)
     read_or_not status text (has_no_reading n) = inr (n, (refl, refl))
     read_or_not status text (isnt_built {command = other} y n) = inl (other, y)
-    read_or_not status text (isnt_certified {command = other} y v e) = inl (other, y)
     read_or_not status text (checks {command = other} y v p a) = inl (other, y)
     read_or_not status text (shows {command = other} y v p a) = inl (other, y)
     read_or_not status text (orders {command = other} y v p a) = inl (other, y)
     read_or_not status text (rewrites {command = other} y v p a) = inl (other, y)
     read_or_not status text (pairs_up {command = other} y v p a) = inl (other, y)
-    read_or_not status text (proves {command = other} y v e p a) = inl (other, y)
+    read_or_not status text (proves {command = other} y v p a) = inl (other, y)
     read_or_not status text (decides {command = other} y v p a) = inl (other, y)
     read_or_not status text (tables {command = other} y v p a) = inl (other, y)
     read_or_not status text (models {command = other} y v p a) = inl (other, y)

@@ -1,5 +1,5 @@
 -- How `prove` ends.
-use Rattle.std.proofs.Common.{ℕ, ◌≡◌, ◌≤◌, false, List, [], Option, Some, Result, Ok, Err, refl, sym, ap, ◌∙◌, subst, arith}
+use Rattle.std.proofs.Common.{ℕ, ◌≡◌, ◌≤◌, List, [], Option, Some, Result, Ok, Err, refl, sym, ap, ◌∙◌, subst, arith}
 use Rattle.std.specs.Result.{IfOk}
 use Rattle.std.specs.declared.alloc.AllocError.{AllocError}
 use Rattle.std.specs.Io.KnownBytes.{Appends}
@@ -30,7 +30,7 @@ use Rattle.uc_top.specs.ProveAnswers.{IsProveAnswer, is_unordered, is_searched, 
 use Rattle.uc_top.specs.Runs.{MayAnswer, is_answer, wants_memory, IsRun}
 use Rattle.uc_top.specs.ProveRuns.{KeepsCommand, KeepsWord, IsHeldAnswer, ProveEnds, tells_verdict, lacks_memory, CompletesProve}
 use Rattle.uc_top.proofs.Positionals.{only_name}
-use Rattle.uc_top.proofs.ByVerb.{OfProveBy, of_verb}
+use Rattle.uc_top.proofs.ByVerb.{OfProve, of_verb}
 use Rattle.uc_top.proofs.Completing.{told_whole}
 use Rattle.uc_top.proofs.LoadedOnce.{loaded_once}
 use Rattle.uc_top.proofs.EncodedTables.{marks_grow}
@@ -76,9 +76,9 @@ module _ (files : Files) (loaded table : Table) (distinct : IsDistinct table) (c
 module _ (files : Files) (before now : ℕ) (well : Rose before now → ⊥) (words : List (List ℕ)) (old new : Option (List ℕ)) where
   whole : {status result : ℕ} {text : List ℕ} → MayAnswer (Some files) before now words status text → Appends old new text → result ≡ status → CompletesProve files words old new result
   whole wants_memory written e command name loaded table problem encoded spec reads is_prove plain names distinct held adds encodes is_chosen = rw e (lacks_memory written)
-  whole {status} {result} {text} (is_answer a) written e command name loaded table problem encoded spec reads is_prove plain names distinct held adds encodes is_chosen = go (subst (λ b. OfProveBy (Some files) before now b command status text) plain (of_verb (Some files) before now words verb.Prove is_prove reads a))
+  whole {status} {result} {text} (is_answer a) written e command name loaded table problem encoded spec reads is_prove names distinct held adds encodes is_chosen = go (of_verb (Some files) before now words verb.Prove is_prove reads a)
     where
-      go : OfProveBy (Some files) before now false command status text → ProveEnds files command name old new result
+      go : OfProve (Some files) before now command status text → ProveEnds files command name old new result
       go p =
           let answer : ProveAnswers command name (Some files) before now status text = subst (λ n. ProveAnswers command n (Some files) before now status text) (only_name (sym p.1 ∙ names)) p.2 in
           rw e (tells_verdict (prove_ends files loaded table distinct command name problem encoded spec held adds encodes is_chosen before now well answer) written)

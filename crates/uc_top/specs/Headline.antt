@@ -9,7 +9,8 @@ use Rattle.uc_top.specs.DecideRuns.{KeepsDecideWord}
 --
 -- * `prove`, by its status: a proof, which, read back, derives a goal of the problem from its axioms by instances and replacement
 --   of equals; a system, read back, under which every ground term has exactly one normal form, two terms share it exactly if
---   their equation follows from the axioms (those of the encoding, where a goal has a variable), and no goal follows; or a limit, with what was spent or passed.
+--   their equation follows from the axioms (those of the encoding, where a goal has a variable), and no goal follows, with a
+--   certificate, read back, that passes all tests, where one is asked for; or a limit, with what was spent or passed.
 -- * `decide`: a line for each question, which says that its equation follows only where it does, and that it doesn't only where it
 --   doesn't, or says nothing of it, since its steps are spent or a term grew too large; or a limit, with what was spent or passed.
 pub record Headline (files : Files) (words : List (List ℕ)) (old new : Option (List ℕ)) (result : ℕ) : Type 0 where

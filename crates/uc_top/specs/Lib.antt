@@ -22,4 +22,5 @@ pub mod DecideTold
 pub mod TableRuns
 pub mod ModelRuns
 pub mod CertifyRuns
+pub mod Completeness
 pub mod Headline

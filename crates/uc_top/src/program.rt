@@ -9,15 +9,13 @@ ghost use Rattle.uc_words.specs.declared.command.Verb.TheVariants.{Check, Prove,
 ghost use Rattle.uc_words.specs.Reads.{Reads};
 ghost use Rattle.uc_words.specs.Table.{fits};
 ghost use Rattle.uc_answer.specs.Lines.{joined, usage_line};
-ghost use Rattle.uc_top.specs.Runs.{MayAnswer, IsRun, IsCertified, Completes, CompletesCheck};
-ghost use Rattle.uc_top.specs.OrderRuns.{CompletesOrder};
-ghost use Rattle.uc_top.specs.RewriteRuns.{CompletesRewrite};
-ghost use Rattle.uc_top.specs.PairsRuns.{CompletesPairs};
-ghost use Rattle.uc_top.specs.ProveRuns.{KeepsCommand, CompletesProve};
-ghost use Rattle.uc_top.specs.DecideRuns.{KeepsDecideCommand, CompletesDecide};
-ghost use Rattle.uc_top.specs.TableRuns.{KeepsTableWord, CompletesTable};
-ghost use Rattle.uc_top.specs.ModelRuns.{KeepsModelWord, CompletesModel};
-ghost use Rattle.uc_top.specs.CertifyRuns.{KeepsCertifyWord, CompletesCertify};
+ghost use Rattle.uc_top.specs.Runs.{MayAnswer, IsRun, IsCertified};
+ghost use Rattle.uc_top.specs.Completeness.{IsComplete};
+ghost use Rattle.uc_top.specs.ProveRuns.{KeepsCommand};
+ghost use Rattle.uc_top.specs.DecideRuns.{KeepsDecideCommand};
+ghost use Rattle.uc_top.specs.TableRuns.{KeepsTableWord};
+ghost use Rattle.uc_top.specs.ModelRuns.{KeepsModelWord};
+ghost use Rattle.uc_top.specs.CertifyRuns.{KeepsCertifyWord};
 ghost use Rattle.uc_top.specs.Faulting.{TellsFault, AnswersFault, IsStatusFaulted, IsWholeFaulted, IsFaultedRun, fault_opening, fault_text};
 ghost use Rattle.uc_top.specs.Told.{CountsWrites};
 ghost use Rattle.uc_top.specs.Given.{GivesAnswer};
@@ -86,20 +84,11 @@ pub fn run<R: Threads + Wait + Sync, L: Library, S: Sink, G: Gate + Sync>(
 ) -> u8
     ensures answers { IsRun (L.holds library.old) (L.faults library.old) (L.faults library.new) (map string_bytes words.now) (S.written sink.old) (S.written sink.new) (S.faults sink.old) (S.faults sink.new) result }
     ensures certified { result ≡ 0 → (files : Files) → L.holds library.old ≡ Some files → (command : Command) → Reads (map string_bytes words.now) command → command.verb ≡ Check → IsCertified files command }
-    ensures complete { (files : Files) → L.holds library.old ≡ Some files → (Rose (L.faults library.old) (L.faults library.new) → ⊥) → (Rose (S.faults sink.old) (S.faults sink.new) → ⊥) → Completes files (map string_bytes words.now) (S.written sink.old) (S.written sink.new) result }
-    ensures complete_check { (files : Files) → L.holds library.old ≡ Some files → (Rose (L.faults library.old) (L.faults library.new) → ⊥) → (Rose (S.faults sink.old) (S.faults sink.new) → ⊥) → CompletesCheck files (map string_bytes words.now) (S.written sink.old) (S.written sink.new) result }
-    ensures complete_order { (files : Files) → L.holds library.old ≡ Some files → (Rose (L.faults library.old) (L.faults library.new) → ⊥) → (Rose (S.faults sink.old) (S.faults sink.new) → ⊥) → CompletesOrder files (map string_bytes words.now) (S.written sink.old) (S.written sink.new) result }
-    ensures complete_rewrite { (files : Files) → L.holds library.old ≡ Some files → (Rose (L.faults library.old) (L.faults library.new) → ⊥) → (Rose (S.faults sink.old) (S.faults sink.new) → ⊥) → CompletesRewrite files (map string_bytes words.now) (S.written sink.old) (S.written sink.new) result }
-    ensures complete_pairs { (files : Files) → L.holds library.old ≡ Some files → (Rose (L.faults library.old) (L.faults library.new) → ⊥) → (Rose (S.faults sink.old) (S.faults sink.new) → ⊥) → CompletesPairs files (map string_bytes words.now) (S.written sink.old) (S.written sink.new) result }
+    ensures complete { (files : Files) → L.holds library.old ≡ Some files → (Rose (L.faults library.old) (L.faults library.new) → ⊥) → (Rose (S.faults sink.old) (S.faults sink.new) → ⊥) → IsComplete files (map string_bytes words.now) (S.written sink.old) (S.written sink.new) result }
     ensures headline { (files : Files) → L.holds library.old ≡ Some files → Headline files (map string_bytes words.now) (S.written sink.old) (S.written sink.new) result }
-    ensures complete_prove { (files : Files) → L.holds library.old ≡ Some files → (Rose (L.faults library.old) (L.faults library.new) → ⊥) → (Rose (S.faults sink.old) (S.faults sink.new) → ⊥) → CompletesProve files (map string_bytes words.now) (S.written sink.old) (S.written sink.new) result }
-    ensures complete_decide { (files : Files) → L.holds library.old ≡ Some files → (Rose (L.faults library.old) (L.faults library.new) → ⊥) → (Rose (S.faults sink.old) (S.faults sink.new) → ⊥) → CompletesDecide files (map string_bytes words.now) (S.written sink.old) (S.written sink.new) result }
     ensures tabled { (files : Files) → L.holds library.old ≡ Some files → KeepsTableWord files (map string_bytes words.now) result }
-    ensures complete_table { (files : Files) → L.holds library.old ≡ Some files → (Rose (L.faults library.old) (L.faults library.new) → ⊥) → (Rose (S.faults sink.old) (S.faults sink.new) → ⊥) → CompletesTable files (map string_bytes words.now) (S.written sink.old) (S.written sink.new) result }
     ensures modelled { (files : Files) → L.holds library.old ≡ Some files → KeepsModelWord files (map string_bytes words.now) (S.written sink.old) (S.written sink.new) result }
-    ensures complete_model { (files : Files) → L.holds library.old ≡ Some files → (Rose (L.faults library.old) (L.faults library.new) → ⊥) → (Rose (S.faults sink.old) (S.faults sink.new) → ⊥) → CompletesModel files (map string_bytes words.now) (S.written sink.old) (S.written sink.new) result }
     ensures certificate { (files : Files) → L.holds library.old ≡ Some files → KeepsCertifyWord files (map string_bytes words.now) result }
-    ensures complete_certify { (files : Files) → L.holds library.old ≡ Some files → (Rose (L.faults library.old) (L.faults library.new) → ⊥) → (Rose (S.faults sink.old) (S.faults sink.new) → ⊥) → CompletesCertify files (map string_bytes words.now) (S.written sink.old) (S.written sink.new) result }
     ensures same { L.holds library.new ≡ L.holds library.old }
     ensures later { L.faults library.old ≤ L.faults library.new }
     ensures faulted { IsFaultedRun (L.faults library.old) (L.faults library.new) (L.failed_at library.old) (L.failed_at library.new) result }
@@ -237,9 +226,6 @@ fn prove_command<R: Threads + Wait + Sync, L: Library, G: Gate + Sync>(
     ensures later { L.faults library.old ≤ L.faults library.new }
     ensures faulted { AnswersFault (L.faults library.old) (L.faults library.new) (L.failed_at library.old) (L.failed_at library.new) (fault_opening command.now) result }
 {
-    if command.certificate {
-        return usage_answer(alloc);
-    }
     match command.positionals.as_slice() {
         [name] => prove_answer(rt, alloc, command, name, library, gate),
         _ => unreachable!(),

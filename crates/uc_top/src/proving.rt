@@ -227,6 +227,7 @@ fn searched_answer<R: Threads + Wait + Sync, G: Gate + Sync>(
         alloc,
         &closed,
         &searched.book,
+        &order,
         searched.shares.as_slice(),
         searched.verdict,
     )

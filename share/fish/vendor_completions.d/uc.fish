@@ -23,3 +23,4 @@ complete -c uc -n '__fish_seen_subcommand_from decide' -l steps -d 'rewrite step
 complete -c uc -n '__fish_seen_subcommand_from rewrite' -l limit -d 'rewrite steps' -x
 complete -c uc -n '__fish_seen_subcommand_from model' -l size -d 'greatest size of a table' -x
 complete -c uc -n '__fish_seen_subcommand_from prove' -l trace -d 'prints the history of the search after the answer'
+complete -c uc -n '__fish_seen_subcommand_from prove' -l certificate -d 'prints a certificate after a saturated system, which certify checks'

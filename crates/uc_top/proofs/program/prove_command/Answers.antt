@@ -1,10 +1,8 @@
 use Rattle.std.proofs.Common.{◌≡◌, [], ◌∷◌, refl, sym, ◌∙◌, subst}
 use Rattle.std.proofs.lemmas.Result.{IfOk-weaker}
-use Rattle.uc_top.specs.Answers.{proves, isnt_certified}
-use Rattle.uc_top.specs.Runs.{MayAnswer, is_answer}
-use Rattle.uc_top.specs.Faulting.{fault_opening}
-use Rattle.uc_top.proofs.Answering.{one_line, one_name}
-use Rattle.uc_top.proofs.Faulted.{none_failed}
+use Rattle.uc_top.specs.Answers.{proves}
+use Rattle.uc_top.specs.Runs.{is_answer}
+use Rattle.uc_top.proofs.Answering.{one_name}
 use Rattle.uc_top.proofs.Positionals.{only_name}
 use Rattle.uc_top.proofs.SeenWords.{AreTitles, positionals_seen, root_seen, budget_within, pairs_within, workers_within}
 use Rattle.uc_top.proofs.VariableWeights.{w0_within}
@@ -44,7 +42,7 @@ prove_answer-requires-clause-some g c κs within =
 pub returns-clause-answers : goal.returns-clause-answers
 returns-clause-answers g c words r =
     let names : c.args.command.now.positionals ≡ c.name-item.result ∷ [] = sym c.as_slice.ensures ∙ one_name c.as_slice.result.now c.name-item.result c.in-len1.len_at_least c.in-len1.len_below c.name-item.is in
-    IfOk-weaker c.prove_answer.result _ _ (λ answer a. is_answer (proves r c.requires.prove c.if-command.false names a)) c.prove_answer.ensures.answers
+    IfOk-weaker c.prove_answer.result _ _ (λ answer a. is_answer (proves r c.requires.prove names a)) c.prove_answer.ensures.answers
 
 pub returns-clause-promise : goal.returns-clause-promise
 returns-clause-promise g c =
@@ -55,9 +53,3 @@ pub returns-clause-faulted : goal.returns-clause-faulted
 returns-clause-faulted g c =
     let names : c.args.command.now.positionals ≡ c.name-item.result ∷ [] = sym c.as_slice.ensures ∙ one_name c.as_slice.result.now c.name-item.result c.in-len1.len_at_least c.in-len1.len_below c.name-item.is in
     rw (c.requires.prove, names) c.prove_answer.ensures.faulted
-
-pub returns-then-command-clause-answers : goal.returns-then-command-clause-answers
-returns-then-command-clause-answers g c = λ words r. one_line c.usage_answer.result (MayAnswer _ _ _ words) _ _ c.usage_answer.ensures (is_answer (isnt_certified r c.requires.prove c.if-command.true))
-
-pub returns-then-command-clause-faulted : goal.returns-then-command-clause-faulted
-returns-then-command-clause-faulted g c = none_failed (g.L.Library.faults c.args.library.now) (g.L.Library.faults c.args.library.now) (g.L.Library.failed_at c.args.library.now) (g.L.Library.failed_at c.args.library.now) (fault_opening c.args.command.now) c.usage_answer.result (refl, refl)

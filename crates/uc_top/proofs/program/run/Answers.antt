@@ -1,16 +1,12 @@
 use Rattle.std.proofs.Common.{arith}
 use Rattle.uc_top.specs.Runs.{wants_memory}
-use Rattle.uc_top.proofs.Completing.{own_status, completes}
-use Rattle.uc_top.proofs.OrderCompleting.{order_completes}
-use Rattle.uc_top.proofs.CheckEnding.{completes_check}
-use Rattle.uc_top.proofs.RewriteCompleting.{rewrite_completes}
-use Rattle.uc_top.proofs.PairsCompleting.{pairs_complete}
-use Rattle.uc_top.proofs.TableCompleting.{table_completes, keeps_table_word}
-use Rattle.uc_top.proofs.ModelCompleting.{model_completes, keeps_model_word}
-use Rattle.uc_top.proofs.CertifyCompleting.{certify_completes, keeps_certify_word}
-use Rattle.uc_top.proofs.ProveCompleting.{prove_completes, keeps_word}
+use Rattle.uc_top.proofs.Completeness.{all_complete}
+use Rattle.uc_top.proofs.Completing.{own_status}
+use Rattle.uc_top.proofs.TableCompleting.{keeps_table_word}
+use Rattle.uc_top.proofs.ModelCompleting.{keeps_model_word}
+use Rattle.uc_top.proofs.CertifyCompleting.{keeps_certify_word}
+use Rattle.uc_top.proofs.ProveCompleting.{keeps_word}
 use Rattle.uc_top.proofs.DecidePromises.{keeps_decide_word}
-use Rattle.uc_top.proofs.DecideCompleting.{decide_completes}
 use Rattle.uc_top.proofs.Faulted.{wants, tells, named, never_five}
 use Rattle.uc_top.proofs.program.run.Goals as goal
 
@@ -18,37 +14,13 @@ pub returns-in-Err-clause-answers : goal.returns-in-Err-clause-answers
 returns-in-Err-clause-answers g c = record { status = 7; text = _; answer = wants_memory; told = c.tell_memory_out.ensures.told }
 
 pub returns-in-Err-clause-complete : goal.returns-in-Err-clause-complete
-returns-in-Err-clause-complete g c = completes _ _ _ _ _ _ _ _ _ (record { status = 7; text = _; answer = wants_memory; told = c.tell_memory_out.ensures.told })
+returns-in-Err-clause-complete g c = all_complete _ _ _ _ _ _ _ _ _ (record { status = 7; text = _; answer = wants_memory; told = c.tell_memory_out.ensures.told })
 
-pub returns-in-Err-clause-complete_check : goal.returns-in-Err-clause-complete_check
-returns-in-Err-clause-complete_check g c = completes_check _ _ _ _ _ _ _ _ _ (record { status = 7; text = _; answer = wants_memory; told = c.tell_memory_out.ensures.told })
+pub returns-in-Ok-clause-complete : goal.returns-in-Ok-clause-complete
+returns-in-Ok-clause-complete g c = all_complete _ _ _ _ _ _ _ _ _ (record { status = _; text = _; answer = c.in-Ok.ensures.answers; told = c.tell.ensures.told })
 
 pub returns-in-Ok-clause-certified : goal.returns-in-Ok-clause-certified
 returns-in-Ok-clause-certified g c done = c.in-Ok.ensures.certified (own_status c.tell.ensures.told done)
-
-pub returns-in-Ok-clause-complete : goal.returns-in-Ok-clause-complete
-returns-in-Ok-clause-complete g c = completes _ _ _ _ _ _ _ _ _ (record { status = _; text = _; answer = c.in-Ok.ensures.answers; told = c.tell.ensures.told })
-
-pub returns-in-Err-clause-complete_order : goal.returns-in-Err-clause-complete_order
-returns-in-Err-clause-complete_order g c = order_completes _ _ _ _ _ _ _ _ _ (record { status = 7; text = _; answer = wants_memory; told = c.tell_memory_out.ensures.told })
-
-pub returns-in-Ok-clause-complete_order : goal.returns-in-Ok-clause-complete_order
-returns-in-Ok-clause-complete_order g c = order_completes _ _ _ _ _ _ _ _ _ (record { status = _; text = _; answer = c.in-Ok.ensures.answers; told = c.tell.ensures.told })
-
-pub returns-in-Ok-clause-complete_check : goal.returns-in-Ok-clause-complete_check
-returns-in-Ok-clause-complete_check g c = completes_check _ _ _ _ _ _ _ _ _ (record { status = _; text = _; answer = c.in-Ok.ensures.answers; told = c.tell.ensures.told })
-
-pub returns-in-Err-clause-complete_rewrite : goal.returns-in-Err-clause-complete_rewrite
-returns-in-Err-clause-complete_rewrite g c = rewrite_completes _ _ _ _ _ _ _ _ _ (record { status = 7; text = _; answer = wants_memory; told = c.tell_memory_out.ensures.told })
-
-pub returns-in-Ok-clause-complete_rewrite : goal.returns-in-Ok-clause-complete_rewrite
-returns-in-Ok-clause-complete_rewrite g c = rewrite_completes _ _ _ _ _ _ _ _ _ (record { status = _; text = _; answer = c.in-Ok.ensures.answers; told = c.tell.ensures.told })
-
-pub returns-in-Err-clause-complete_pairs : goal.returns-in-Err-clause-complete_pairs
-returns-in-Err-clause-complete_pairs g c = pairs_complete _ _ _ _ _ _ _ _ _ (record { status = 7; text = _; answer = wants_memory; told = c.tell_memory_out.ensures.told })
-
-pub returns-in-Ok-clause-complete_pairs : goal.returns-in-Ok-clause-complete_pairs
-returns-in-Ok-clause-complete_pairs g c = pairs_complete _ _ _ _ _ _ _ _ _ (record { status = _; text = _; answer = c.in-Ok.ensures.answers; told = c.tell.ensures.told })
 
 pub returns-in-Err-clause-headline : goal.returns-in-Err-clause-headline
 returns-in-Err-clause-headline g c files told = record {
@@ -61,18 +33,6 @@ returns-in-Ok-clause-headline g c files told = record {
   prove = keeps_word files _ _ _ _ _ _ _ _ c.tell.ensures.told (λ few. c.in-Ok.ensures.promise few files told);
   decide = keeps_decide_word files _ _ _ _ _ _ _ _ c.tell.ensures.told (λ few. c.in-Ok.ensures.decided few files told);
 }
-
-pub returns-in-Err-clause-complete_prove : goal.returns-in-Err-clause-complete_prove
-returns-in-Err-clause-complete_prove g c = prove_completes _ _ _ _ _ _ _ _ _ (record { status = 7; text = _; answer = wants_memory; told = c.tell_memory_out.ensures.told })
-
-pub returns-in-Ok-clause-complete_prove : goal.returns-in-Ok-clause-complete_prove
-returns-in-Ok-clause-complete_prove g c = prove_completes _ _ _ _ _ _ _ _ _ (record { status = _; text = _; answer = c.in-Ok.ensures.answers; told = c.tell.ensures.told })
-
-pub returns-in-Err-clause-complete_decide : goal.returns-in-Err-clause-complete_decide
-returns-in-Err-clause-complete_decide g c = decide_completes _ _ _ _ _ _ _ _ _ (record { status = 7; text = _; answer = wants_memory; told = c.tell_memory_out.ensures.told })
-
-pub returns-in-Ok-clause-complete_decide : goal.returns-in-Ok-clause-complete_decide
-returns-in-Ok-clause-complete_decide g c = decide_completes _ _ _ _ _ _ _ _ _ (record { status = _; text = _; answer = c.in-Ok.ensures.answers; told = c.tell.ensures.told })
 
 pub returns-in-Ok-clause-faulted : goal.returns-in-Ok-clause-faulted
 returns-in-Ok-clause-faulted g c = tells (g.L.Library.faults c.args.library.now) (g.L.Library.faults c.whole_answer.new.library) (g.L.Library.failed_at c.args.library.now) (g.L.Library.failed_at c.whole_answer.new.library) c.in-Ok.ensures.counted c.tell.ensures.counted
@@ -92,23 +52,11 @@ returns-in-Ok-clause-sink_counted g c = (_, c.tell.ensures.counted)
 pub returns-in-Err-clause-sink_counted : goal.returns-in-Err-clause-sink_counted
 returns-in-Err-clause-sink_counted g c = (7, c.tell_memory_out.ensures.counted)
 
-pub returns-in-Err-clause-complete_table : goal.returns-in-Err-clause-complete_table
-returns-in-Err-clause-complete_table g c = table_completes _ _ _ _ _ _ _ _ _ (record { status = 7; text = _; answer = wants_memory; told = c.tell_memory_out.ensures.told })
-
-pub returns-in-Ok-clause-complete_table : goal.returns-in-Ok-clause-complete_table
-returns-in-Ok-clause-complete_table g c = table_completes _ _ _ _ _ _ _ _ _ (record { status = _; text = _; answer = c.in-Ok.ensures.answers; told = c.tell.ensures.told })
-
 pub returns-in-Err-clause-tabled : goal.returns-in-Err-clause-tabled
 returns-in-Err-clause-tabled g c = keeps_table_word _ 0 0 _ _ _ _ _ _ (record { status = 7; text = _; answer = wants_memory; told = c.tell_memory_out.ensures.told })
 
 pub returns-in-Ok-clause-tabled : goal.returns-in-Ok-clause-tabled
 returns-in-Ok-clause-tabled g c = keeps_table_word _ _ _ _ _ _ _ _ _ (record { status = _; text = _; answer = c.in-Ok.ensures.answers; told = c.tell.ensures.told })
-
-pub returns-in-Err-clause-complete_model : goal.returns-in-Err-clause-complete_model
-returns-in-Err-clause-complete_model g c = model_completes _ _ _ _ _ _ _ _ _ (record { status = 7; text = _; answer = wants_memory; told = c.tell_memory_out.ensures.told })
-
-pub returns-in-Ok-clause-complete_model : goal.returns-in-Ok-clause-complete_model
-returns-in-Ok-clause-complete_model g c = model_completes _ _ _ _ _ _ _ _ _ (record { status = _; text = _; answer = c.in-Ok.ensures.answers; told = c.tell.ensures.told })
 
 pub returns-in-Err-clause-modelled : goal.returns-in-Err-clause-modelled
 returns-in-Err-clause-modelled g c = keeps_model_word _ 0 0 _ _ _ _ _ _ (record { status = 7; text = _; answer = wants_memory; told = c.tell_memory_out.ensures.told })
@@ -121,12 +69,6 @@ returns-in-Ok-clause-given g c = record { status = _; text = _; answer = c.in-Ok
 
 pub returns-in-Err-clause-given : goal.returns-in-Err-clause-given
 returns-in-Err-clause-given g c = record { status = 7; text = _; answer = wants_memory; gives = c.tell_memory_out.ensures.given }
-
-pub returns-in-Err-clause-complete_certify : goal.returns-in-Err-clause-complete_certify
-returns-in-Err-clause-complete_certify g c = certify_completes _ _ _ _ _ _ _ _ _ (record { status = 7; text = _; answer = wants_memory; told = c.tell_memory_out.ensures.told })
-
-pub returns-in-Ok-clause-complete_certify : goal.returns-in-Ok-clause-complete_certify
-returns-in-Ok-clause-complete_certify g c = certify_completes _ _ _ _ _ _ _ _ _ (record { status = _; text = _; answer = c.in-Ok.ensures.answers; told = c.tell.ensures.told })
 
 pub returns-in-Err-clause-certificate : goal.returns-in-Err-clause-certificate
 returns-in-Err-clause-certificate g c = keeps_certify_word _ 0 0 _ _ _ _ _ _ (record { status = 7; text = _; answer = wants_memory; told = c.tell_memory_out.ensures.told })

@@ -1,0 +1,26 @@
+-- What every command comes to.
+use Rattle.std.specs.Prelude.{ℕ, List, Option}
+use Rattle.uc_edge.specs.Files.{Files}
+use Rattle.uc_top.specs.Runs.{Completes, CompletesCheck}
+use Rattle.uc_top.specs.OrderRuns.{CompletesOrder}
+use Rattle.uc_top.specs.RewriteRuns.{CompletesRewrite}
+use Rattle.uc_top.specs.PairsRuns.{CompletesPairs}
+use Rattle.uc_top.specs.ProveRuns.{CompletesProve}
+use Rattle.uc_top.specs.DecideRuns.{CompletesDecide}
+use Rattle.uc_top.specs.TableRuns.{CompletesTable}
+use Rattle.uc_top.specs.ModelRuns.{CompletesModel}
+use Rattle.uc_top.specs.CertifyRuns.{CompletesCertify}
+
+-- Where no fetch and no write fails, no command gives up: for words and files that a command accepts, its answer is told with its
+-- status, or memory is wanted.
+pub record IsComplete (files : Files) (words : List (List ℕ)) (old new : Option (List ℕ)) (result : ℕ) : Type 0 where
+  pub show : Completes files words old new result
+  pub check : CompletesCheck files words old new result
+  pub order : CompletesOrder files words old new result
+  pub rewrite : CompletesRewrite files words old new result
+  pub pairs : CompletesPairs files words old new result
+  pub prove : CompletesProve files words old new result
+  pub decide : CompletesDecide files words old new result
+  pub table : CompletesTable files words old new result
+  pub model : CompletesModel files words old new result
+  pub certify : CompletesCertify files words old new result
