@@ -158,7 +158,7 @@ module _ (table : Table) (command : Command) (problem : Problem) (encoded : Enco
   source_within : (k : ℕ) (e : Equation) → IsFrom problem encoded k e → k < length encoded.sources
   source_within k e (from_clause i x at there p q) = slice_get_within encoded.sources k _ at
   source_within k e (from_reflexive marks at f q) = slice_get_within encoded.sources k _ at
-  source_within k e (from_goal marks i x at f there open q) = slice_get_within encoded.sources k _ at
+  source_within k e (from_goal marks i x at f there is_open q) = slice_get_within encoded.sources k _ at
 
   none_past : length encoded.sources < length encoded.axioms → ⊥
   none_past l =
