@@ -24,6 +24,7 @@ pub mod ProvedTexts
 pub mod SmallAxioms
 pub mod SaturatedTexts
 pub mod SaturatedCertificates
+pub mod SettledLines
 pub mod PassedCertificates
 pub mod ProveKeeping
 pub mod LargeLines

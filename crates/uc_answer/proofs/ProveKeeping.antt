@@ -1,5 +1,5 @@
 -- What the answer for a verdict keeps.
-use Rattle.std.proofs.Common.{ℕ, ◌≡◌, true, List, [], ◌++◌, codes, refl, sym, ap, ◌∙◌, arith, append_assoc, subst}
+use Rattle.std.proofs.Common.{ℕ, ◌≡◌, true, false, List, [], ◌++◌, codes, refl, sym, ap, ◌∙◌, arith, append_assoc, subst}
 use Rattle.std.proofs.lemmas.List.{append-nil}
 use Rattle.uc_term.specs.Table.{Table}
 use Rattle.uc_order.specs.declared.spec.OrderSpec.{OrderSpec}
@@ -33,7 +33,8 @@ module _ (table : Table) (command : Command) (name : List ℕ) (problem : Proble
     certificate = r.certificate;
     history = r.history ++ more;
     settles = r.settles;
-    passed = r.passed;
+    asked = r.asked;
+    not_asked = r.not_asked;
     answer_is = ap (λ t. t ++ more) r.answer_is ∙ append_assoc (status_line (codes "Satisfiable") name ++ line_for (codes "% SZS output start Saturation") name ++ r.system ++ line_for (codes "% SZS output end Saturation") name ++ r.certificate) r.history more;
   }
 
@@ -78,8 +79,8 @@ module _ (table : Table) (command : Command) (name : List ℕ) (problem : Proble
     in_a_row : (a b c d : List ℕ) → a ++ (b ++ c ++ d) ≡ a ++ b ++ c ++ d
     in_a_row a b c d = sym (append_assoc a (b ++ c) d) ∙ ap (λ t. t ++ d) (sym (append_assoc a b c))
 
-    pub saturated_keeps : (system certificate answer : List ℕ) → HasEnded table command problem encoded spec Saturated s → Settles table problem spec system → (command.certificate ≡ true → HasPassed table problem spec certificate) → answer ≡ status_line (codes "Satisfiable") name ++ (line_for (codes "% SZS output start Saturation") name ++ system ++ line_for (codes "% SZS output end Saturation") name) ++ certificate → Keeps table command name problem 1 answer
-    saturated_keeps system certificate answer h c passed e = record {
+    pub saturated_keeps : (system certificate answer : List ℕ) → HasEnded table command problem encoded spec Saturated s → (c : Settles table problem spec system) → (command.certificate ≡ true → HasPassed table problem spec c.system (status_line (codes "Satisfiable") name ++ (line_for (codes "% SZS output start Saturation") name ++ system ++ line_for (codes "% SZS output end Saturation") name)) certificate) → (command.certificate ≡ false → certificate ≡ []) → answer ≡ status_line (codes "Satisfiable") name ++ (line_for (codes "% SZS output start Saturation") name ++ system ++ line_for (codes "% SZS output end Saturation") name) ++ certificate → Keeps table command name problem 1 answer
+    saturated_keeps system certificate answer h c asked not_asked e = record {
       fresh = encoded.fresh;
       marked = h.encodes.0;
       spec = spec;
@@ -90,7 +91,8 @@ module _ (table : Table) (command : Command) (name : List ℕ) (problem : Proble
         certificate = certificate;
         history = [];
         settles = c;
-        passed = passed;
+        asked = λ is. subst (λ before. HasPassed table problem spec c.system before certificate) (in_a_row (status_line (codes "Satisfiable") name) (line_for (codes "% SZS output start Saturation") name) system (line_for (codes "% SZS output end Saturation") name)) (asked is);
+        not_asked = not_asked;
         answer_is = e ∙ ap (λ t. t ++ certificate) (in_a_row (status_line (codes "Satisfiable") name) (line_for (codes "% SZS output start Saturation") name) system (line_for (codes "% SZS output end Saturation") name)) ∙ sym (append-nil (status_line (codes "Satisfiable") name ++ line_for (codes "% SZS output start Saturation") name ++ system ++ line_for (codes "% SZS output end Saturation") name ++ certificate));
       };
       stopped = λ z. absurd (omega (arith, z));

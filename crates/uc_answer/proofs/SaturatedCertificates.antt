@@ -1,5 +1,5 @@
 -- From an ended search to the certificate of its facts: it passes all tests, and it can be printed.
-use Rattle.std.proofs.Common.{◌⊎◌, inl, inr, ℕ, zero, suc, ◌≡◌, ◌<◌, ◌≤◌, ◌+◌, ◌^◌, List, [], ◌∷◌, ◌++◌, length, map, slice_get, get_or, Some, Result, Ok, Err, refl, sym, ap, ◌∙◌, subst, arith}
+use Rattle.std.proofs.Common.{Bool, ◌⊎◌, inl, inr, ℕ, zero, suc, ◌≡◌, ◌<◌, ◌≤◌, ◌+◌, ◌^◌, List, [], ◌∷◌, ◌++◌, length, map, slice_get, get_or, Some, Result, Ok, Err, refl, sym, ap, ◌∙◌, subst, arith}
 use Rattle.std.proofs.lemmas.List.{length-map}
 use Rattle.std.proofs.lemmas.Option.{slice_get_within, slice_get-get_or}
 use Rattle.std.specs.Result.{IfOk}
@@ -21,10 +21,12 @@ use Rattle.uc_order.specs.declared.spec.OrderSpec.TheVariants.{Kbo, Lpo}
 use Rattle.uc_kbo.proofs.Tables.{each_in}
 use Rattle.uc_fact.specs.declared.fact.Fact.{Fact}
 use Rattle.uc_fact.specs.Ground.{AreOfSignature}
-use Rattle.uc_fact.specs.Live.{Live, equation_of, equations_of}
+use Rattle.uc_fact.specs.Live.{Live, equation_of, equations_of, numbered_from}
 use Rattle.uc_rewrite.specs.Replay.{FactsReplay}
 use Rattle.uc_shelf.specs.declared.entry.Entry.{Entry}
-use Rattle.uc_shelf.specs.Entries.{born, live}
+use Rattle.std.specs.Prelude.{not, filter}
+use Rattle.std.proofs.lemmas.List.Filters.{length-filter_both}
+use Rattle.uc_shelf.specs.Entries.{born, is_dead, equations, live}
 use Rattle.uc_problem.specs.declared.problem.Problem.{Problem}
 use Rattle.uc_problem.specs.declared.problem.Encoded.{Encoded}
 use Rattle.uc_machine.specs.declared.event.Verdict.TheVariants.{Saturated}
@@ -62,7 +64,7 @@ use Rattle.uc_certify.proofs.PrintableJoins.{made_of_table}
 use Rattle.uc_words.specs.declared.command.Command.{Command}
 use Rattle.uc_ordering.specs.Fits.{Fits}
 use Rattle.uc_ordering.specs.Meaning.{meaning_of}
-use Rattle.uc_answer.specs.CertificateLines.{live_numbers, IsCertificateFor, IsTold}
+use Rattle.uc_answer.specs.CertificateLines.{live_numbers, IsCertificateFor, IsReadBack}
 use Rattle.uc_answer.specs.VerdictLines.{HasEnded}
 use Rattle.uc_answer.proofs.SearchEnds.{o, laws, reaches, verdict_is, replay, opens, encoding, parts_of, each_at}
 use Rattle.uc_answer.proofs.SpecSymbols.{known_symbol}
@@ -70,12 +72,22 @@ use Rattle.uc_answer.proofs.SaturatedTexts.{spec_of_table, facts_over, facts_of_
 
 -- FACTS THAT LIVE, AND THEIR NUMBERS
 
+filter_count : {A : Type 0} (xs : List A) (is : A → Bool) → length (filter is xs) ≤ length xs
+filter_count xs is = let e = length-filter_both is (λ x. not (is x)) (λ x. refl) xs in omega (arith, e)
+
+numbered_count : (n : ℕ) (es : List Equation) → length (numbered_from n es) ≡ length es
+numbered_count n [] = refl
+numbered_count n (e ∷ es) = ap suc (numbered_count (n + 1) es)
+
 abbrev IsBornAs : List Fact → Live → Type 0
 IsBornAs facts f = slice_get (map equation_of facts) f.number ≡ Some f.equation
 
 born_numbers : (facts : List Fact) (fs : List Live) → Each (IsBornAs facts) fs → AreBorn facts (map (λ (f : Live). f.number) fs)
 born_numbers facts [] h = tt
 born_numbers facts (f ∷ fs) h = (fact_count facts f.number f.equation h.0, born_numbers facts fs h.1)
+
+live_count : (es : List Entry) → length (equations_of (live es)) ≤ length (born es)
+live_count es = omega (arith, length-map (live es) (λ (f : Live). f.equation), filter_count (numbered_from 0 (equations es)) (λ (f : Live). not (is_dead es f.number)), numbered_count 0 (equations es), length-map (born es) equation_of)
 
 -- the fact that lives at a place
 live_there : (fs : List Live) (k : ℕ) (e : Equation) → slice_get (equations_of fs) k ≡ Some e → (f : Live) × (slice_get fs k ≡ Some f) × (f.equation ≡ e) × (slice_get (map (λ (g : Live). g.number) fs) k ≡ Some f.number)
@@ -154,6 +166,10 @@ module _ (table : Table) (command : Command) (problem : Problem) (encoded : Enco
       let system : System = record { facts = equations_of (live ends.drained.entries) } in
       subst (λ (es : List Entry). AllAreFoundJoined m (equations_of (live es)) encoded.axioms) (sym same) (convergent_found m encoded.axioms ends.drained system ends.is_final)
 
+  -- no more facts live than are born
+  pub few_live : (others : ℕ) → others + length (born s.entries) < 2 ^ 32 → length facts < 2 ^ 32
+  few_live others few = let l = live_count s.entries in omega (arith, few, l)
+
   -- there is a source for each axiom
   source_within : (k : ℕ) (e : Equation) → IsFrom problem encoded k e → k < length encoded.sources
   source_within k e (from_clause i x at there p q) = slice_get_within encoded.sources k _ at
@@ -220,10 +236,10 @@ module _ (table : Table) (command : Command) (problem : Problem) (encoded : Enco
           lines = proof_lines_of table problem encoded (born s.entries) (aim.Facts (live_numbers s)) c.lines.lines files (parts_of table command problem encoded spec Saturated s h) tt is_for.derived.derivation;
           as_many = as_many_numbers is_for.derived.derivation.plan (live_numbers s) c.facts is_for.derived.numbers_are ∙ length-map (live s.entries) (λ (f : Live). f.number) ∙ sym (length-map (live s.entries) (λ (f : Live). f.equation)) ∙ ap (λ (t : SystemText). length t.system.facts) text;
           facts = within is_for.derived.derivation.plan (live_numbers s) c.facts (length c.lines.lines) many_parts is_for.derived.numbers_are;
-          joins = made_of_table table m (laws table command problem encoded spec Saturated s h) facts encoded.axioms c.joins is_for.made (facts_over table command problem encoded spec s h) axioms_over (symbols_in table encoded.signature.symbols (Has table) h.fits.of_table spec h.fits);
+          joins = made_of_table m (laws table command problem encoded spec Saturated s h) table facts encoded.axioms (facts_over table command problem encoded spec s h) axioms_over (symbols_in table encoded.signature.symbols (Has table) h.fits.of_table spec h.fits) c.joins is_for.made;
         }
 
     -- its text
-    pub told_text : (r : Result (List ℕ) AllocError) → length encoded.sources + length problem.goals + length (born s.entries) + 2 < 2 ^ 32 → IfOk r (λ text. text ≡ certificate_text table files c) → (IsPrintableCertificate table files c → (before behind : List ℕ) → HasNoLine (is_border Start) before → IfOk r (λ text. ReadsCertificate table (before ++ text ++ behind) (Ok c))) → IfOk r (IsTold table problem encoded spec s)
-    told_text (Ok text) few is reads = record { is_text = record { files = files; certificate = c; is_for = is_for; text_is = is }; read_back = reads; few = few }
-    told_text (Err fault) few is reads = tt
+    pub told_text : (r : Result (List ℕ) AllocError) → IfOk r (λ text. text ≡ certificate_text table files c) → (IsPrintableCertificate table files c → (before behind : List ℕ) → HasNoLine (is_border Start) before → IfOk r (λ text. ReadsCertificate table (before ++ text ++ behind) (Ok c))) → IfOk r (IsReadBack table problem encoded spec s)
+    told_text (Ok text) is reads = record { is_text = record { files = files; certificate = c; is_for = is_for; text_is = is }; read_back = reads }
+    told_text (Err fault) is reads = tt

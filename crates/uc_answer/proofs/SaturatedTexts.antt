@@ -149,22 +149,24 @@ module _ (table : Table) (command : Command) (problem : Problem) (encoded : Enco
       facts = each_of_all (IsFact table (precedence_of spec)) facts fact_printable;
     }
 
-  pub settles : (es : List Equation) (name text : List ℕ) → es ≡ facts → (IsPrintableSystem table spec es → ReadsSystem table text (Ok (record { spec = spec; system = record { facts = es } }))) → CanBePrinted table name problem → Settles table problem spec text
+  settles : (es : List Equation) (name text : List ℕ) → es ≡ facts → (IsPrintableSystem table spec es → ReadsSystem table text (Ok (record { spec = spec; system = record { facts = es } }))) → CanBePrinted table name problem → (settled : Settles table problem spec text) × (settled.system.facts ≡ facts)
   settles es name text e reads can =
-      let printed = subst (λ x. IsPrintableSystem table spec x → ReadsSystem table text (Ok (record { spec = spec; system = record { facts = x } }))) e reads in
-      record {
-        encoded = encoded;
-        encodes = h.encodes;
-        fits = subst (λ (fs : List Sym). Fits table fs spec) (encoded_symbols table problem encoded h.encodes) h.fits;
-        system = record { facts = facts };
-        reads = printed (system_printable can.clauses);
-        decides = decided;
-        own_form = λ u over. decided.one_normal_form u (own_ground table problem h.agrees encoded h.encodes spec h.fits u over);
-        own = own;
-        none_follows = λ f. no_goal (meaning_of table spec) (laws table command problem encoded spec Saturated s h) facts encoded.axioms decided encoded.goals apart (encoded_follows table problem h.agrees encoded h.encodes f);
-      }
+      let printed = subst (λ x. IsPrintableSystem table spec x → ReadsSystem table text (Ok (record { spec = spec; system = record { facts = x } }))) e reads in (
+        record {
+          encoded = encoded;
+          encodes = h.encodes;
+          fits = subst (λ (fs : List Sym). Fits table fs spec) (encoded_symbols table problem encoded h.encodes) h.fits;
+          system = record { facts = facts };
+          reads = printed (system_printable can.clauses);
+          decides = decided;
+          own_form = λ u over. decided.one_normal_form u (own_ground table problem h.agrees encoded h.encodes spec h.fits u over);
+          own = own;
+          none_follows = λ f. no_goal (meaning_of table spec) (laws table command problem encoded spec Saturated s h) facts encoded.axioms decided encoded.goals apart (encoded_follows table problem h.agrees encoded h.encodes f);
+        },
+        refl,
+      )
 
   -- the text that is printed
-  pub system_told : (es : List Equation) (name : List ℕ) (r : Result (List ℕ) AllocError) → es ≡ facts → (IsPrintableSystem table spec es → IfOk r (λ text. ReadsSystem table text (Ok (record { spec = spec; system = record { facts = es } })))) → IfOk r (λ text. CanBePrinted table name problem → Settles table problem spec text)
+  pub system_told : (es : List Equation) (name : List ℕ) (r : Result (List ℕ) AllocError) → es ≡ facts → (IsPrintableSystem table spec es → IfOk r (λ text. ReadsSystem table text (Ok (record { spec = spec; system = record { facts = es } })))) → IfOk r (λ text. CanBePrinted table name problem → (settled : Settles table problem spec text) × (settled.system.facts ≡ facts))
   system_told es name (Ok text) e reads = settles es name text e reads
   system_told es name (Err fault) e reads = tt

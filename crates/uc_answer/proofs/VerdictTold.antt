@@ -18,9 +18,9 @@ use Rattle.uc_answer.specs.PrintableProblems.{CanBePrinted}
 use Rattle.uc_answer.specs.StatusLines.{status_line, line_for}
 use Rattle.uc_answer.specs.VerdictLines.{verdict_status, saturation_text, IsProofText, VerdictAnswers, is_proved, is_saturated, is_out, HasEnded}
 use Rattle.uc_answer.specs.LimitLines.{IsLimitLine}
-use Rattle.uc_answer.specs.CertificateLines.{IsToldIf}
+use Rattle.uc_answer.specs.CertificateLines.{IsReadBackIf}
 use Rattle.uc_answer.specs.Promises.{Certifies, Settles, Keeps}
-use Rattle.uc_answer.proofs.PassedCertificates.{certificate_if, passed_if}
+use Rattle.uc_answer.proofs.PassedCertificates.{certificate_if, none_if, passed_if}
 use Rattle.uc_answer.proofs.DirectedLines.{joined_one}
 use Rattle.uc_answer.proofs.ProveKeeping.{keeps_more, proved_keeps, saturated_keeps, stopped_keeps}
 
@@ -57,14 +57,14 @@ module _ (table : Table) (command : Command) (name : List ℕ) (problem : Proble
     -- the certificate's lines behind those of the system
     module _ (lines : List (List ℕ)) (told : joined lines ≡ status_line (codes "Satisfiable") name ++ saturation_text table command name problem encoded spec s) where
       abbrev ToldCertificate : List (List ℕ) → Type 0
-      ToldCertificate all = (text : List ℕ) × IsToldIf table problem encoded spec s command.certificate text × (joined all ≡ joined lines ++ text)
+      ToldCertificate all = (text : List ℕ) × IsReadBackIf table problem encoded spec s command.certificate text × (joined all ≡ joined lines ++ text)
 
       pub saturated_told : (r : Result (List (List ℕ)) AllocError) → IfOk r ToldCertificate → IfOk r (λ all. VerdictAnswers table command name problem encoded spec s Saturated (joined all))
       saturated_told (Ok all) t = rw (t.2 ∙ ap (λ z. z ++ t.0) told) (is_saturated (certificate_if table problem encoded spec s command.certificate t.1))
       saturated_told (Err fault) t = tt
 
-      pub saturated_promised : (r : Result (List (List ℕ)) AllocError) → HasEnded table command problem encoded spec Saturated s → (CanBePrinted table name problem → Settles table problem spec (system_text table spec (equations_of (live s.entries)))) → IfOk r ToldCertificate → IfOk r (λ all. Promises 1 (joined all))
-      saturated_promised (Ok all) h settles t = λ can. saturated_keeps table command name problem encoded spec s (system_text table spec (equations_of (live s.entries))) t.0 (joined all) h (settles can) (passed_if table command name problem encoded spec s h can t.1) (t.2 ∙ ap (λ z. z ++ t.0) told)
+      pub saturated_promised : (r : Result (List (List ℕ)) AllocError) → HasEnded table command problem encoded spec Saturated s → (CanBePrinted table name problem → (settled : Settles table problem spec (system_text table spec (equations_of (live s.entries)))) × (settled.system.facts ≡ equations_of (live s.entries))) → IfOk r ToldCertificate → IfOk r (λ all. Promises 1 (joined all))
+      saturated_promised (Ok all) h settles t = λ can. saturated_keeps table command name problem encoded spec s (system_text table spec (equations_of (live s.entries))) t.0 (joined all) h (settles can).0 (passed_if table command name problem encoded spec s h can (settles can).0.system (settles can).1 t.1) (none_if table problem encoded spec s command.certificate t.1) (t.2 ∙ ap (λ z. z ++ t.0) told)
       saturated_promised (Err fault) h settles t = tt
 
     pub out_told : (v : Verdict) (r : Result (List (List ℕ)) AllocError) → IfOk r (ToldLimit v) → IfOk r (λ lines. VerdictAnswers table command name problem encoded spec s v (joined lines))

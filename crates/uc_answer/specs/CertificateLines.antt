@@ -38,15 +38,19 @@ module _ (table : Table) (problem : Problem) (encoded : Encoded) (spec : OrderSp
     pub text_is : text ≡ certificate_text table files certificate
 
   -- The text is that of this certificate. Where this can be printed, the text is read as it, behind whole lines none of which begins
-  -- as a certificate does, whatever stands behind it. There are numbers for its lines.
-  pub record IsTold (text : List ℕ) : Type 0 where
+  -- as a certificate does, whatever stands behind it. What `run` promises of the text follows from this, since it can be printed.
+  pub record IsReadBack (text : List ℕ) : Type 0 where
     pub is_text : IsCertificateText text
     pub read_back : IsPrintableCertificate table is_text.files is_text.certificate → (before behind : List ℕ) → HasNoLine (is_border Start) before → ReadsCertificate table (before ++ text ++ behind) (Ok is_text.certificate)
-    pub few : length encoded.sources + length problem.goals + length (born s.entries) + 2 < 2 ^ 32
 
-  pub data IsToldIf : Bool → List ℕ → Type 0 where
-    is_untold : IsToldIf false []
-    is_told : {text : List ℕ} → IsTold text → IsToldIf true text
+  -- There are numbers for the lines of a derivation.
+  abbrev pub HasFewLines : Type 0
+  HasFewLines = length encoded.sources + length problem.goals + length (born s.entries) + 2 < 2 ^ 32
+
+  -- so it is, where one is asked for
+  pub data IsReadBackIf : Bool → List ℕ → Type 0 where
+    has_none : IsReadBackIf false []
+    has_one : {text : List ℕ} → IsReadBack text → HasFewLines → IsReadBackIf true text
 
   -- it is printed where one is asked for
   pub data IsCertificateIf : Bool → List ℕ → Type 0 where

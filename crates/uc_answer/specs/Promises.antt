@@ -1,5 +1,5 @@
 -- What the lines of a verdict promise.
-use Rattle.std.specs.Prelude.{ℕ, ◌≡◌, ◌↔◌, true, List, ◌++◌, length, codes, Option, Ok}
+use Rattle.std.specs.Prelude.{ℕ, ◌≡◌, ◌↔◌, true, false, List, [], ◌∷◌, ◌++◌, length, codes, Option, Ok}
 use Rattle.uc_term.specs.declared.fresh.Fresh.{Fresh}
 use Rattle.uc_term.specs.Tree.{Tree}
 use Rattle.uc_term.specs.Over.{IsGround}
@@ -24,6 +24,7 @@ use Rattle.uc_decide.specs.NormalForms.{HasNormalForm, HasOneNormalForm}
 use Rattle.uc_decide.specs.Deciding.{Decides}
 use Rattle.uc_system.specs.Reading.{ReadsSystem}
 use Rattle.uc_certificate.specs.declared.certificate.Certificate.{Certificate}
+use Rattle.uc_certificate.specs.Headings.{certificate_line}
 use Rattle.uc_certificate.specs.Reading.{ReadsCertificate}
 use Rattle.uc_certify.specs.declared.certified.Certified.TheVariants.{Yes}
 use Rattle.uc_certify.specs.Certifying.{IsCertified}
@@ -76,25 +77,27 @@ pub record Settles (table : Table) (problem : Problem) (spec : OrderSpec) (text 
   pub own : (u v n k : Tree) → IsOwnGround table problem u → IsOwnGround table problem v → HasNormalForm (meaning_of table spec) system.facts u n → HasNormalForm (meaning_of table spec) system.facts v k → (n ≡ k) ↔ Conv (axioms_of problem.clauses) u v
   pub none_follows : SomeFollows (axioms_of problem.clauses) (goals_of problem.clauses) → ⊥
 
--- The text, whatever stands behind it, is read as one certificate. It is of this order, and by it all its tests are passed for the
--- problem's encoding.
-pub record HasPassed (table : Table) (problem : Problem) (spec : OrderSpec) (text : List ℕ) : Type 0 where
+-- Behind these lines, and whatever stands behind it, the text is read as one certificate, with whose first line it begins. It is of
+-- this order and this system, and by it all its tests are passed for the problem's encoding. The reading has no limit on the length.
+pub record HasPassed (table : Table) (problem : Problem) (spec : OrderSpec) (system : System) (before text : List ℕ) : Type 0 where
   pub encoded : Encoded
   pub encodes : Encodes table problem (Ok encoded)
   pub certificate : Certificate
-  pub of_order : certificate.text.spec ≡ spec
-  pub reads : (more : List ℕ) → ReadsCertificate table (text ++ more) (Ok certificate)
+  pub text_is : certificate.text ≡ record { spec = spec; system = system }
+  pub begins : (rest : List ℕ) × (text ≡ certificate_line ++ 10 ∷ rest)
+  pub reads : (more : List ℕ) → ReadsCertificate table (before ++ text ++ more) (Ok certificate)
   pub passes : IsCertified (meaning_of table spec) problem.clauses encoded certificate Yes
 
--- The answer has such a system between its two lines, and behind it such a certificate, where the command asks for one, and the
--- history, if there is one.
+-- The answer has such a system between its two lines. Behind them stands such a certificate of it, where the command asks for one,
+-- and then the history, if there is one.
 pub record IsSettled (table : Table) (command : Command) (name : List ℕ) (problem : Problem) (spec : OrderSpec) (answer : List ℕ) : Type 0 where
   pub system : List ℕ
   pub certificate : List ℕ
   pub history : List ℕ
   pub settles : Settles table problem spec system
-  pub passed : command.certificate ≡ true → HasPassed table problem spec certificate
   pub answer_is : answer ≡ status_line (codes "Satisfiable") name ++ line_for (codes "% SZS output start Saturation") name ++ system ++ line_for (codes "% SZS output end Saturation") name ++ certificate ++ history
+  pub asked : command.certificate ≡ true → HasPassed table problem spec settles.system (status_line (codes "Satisfiable") name ++ line_for (codes "% SZS output start Saturation") name ++ system ++ line_for (codes "% SZS output end Saturation") name) certificate
+  pub not_asked : command.certificate ≡ false → certificate ≡ []
 
 -- A LIMIT
 

@@ -1,12 +1,12 @@
 //! The certificate of a system that is printed.
 
-ghost use Rattle.std.specs.Prelude.{◌≡◌, ◌<◌, ◌≤◌, ◌+◌, ◌^◌, ◌++◌, ℕ, List, length, IfOk, OnOk, OnErr};
+ghost use Rattle.std.specs.Prelude.{◌≡◌, ◌<◌, ◌≤◌, ◌^◌, ◌++◌, ℕ, List, IfOk, OnOk, OnErr};
 ghost use Rattle.uc_shelf.specs.Entries.{born};
 ghost use Rattle.uc_machine.specs.declared.event.Verdict.TheVariants.{Saturated};
 ghost use Rattle.uc_proof.specs.Extracted.{AreDerivedFacts};
 ghost use Rattle.uc_ordering.specs.Meaning.{meaning_of};
 ghost use Rattle.uc_answer.specs.Lines.{joined};
-ghost use Rattle.uc_answer.specs.CertificateLines.{live_numbers, IsTold, IsToldIf};
+ghost use Rattle.uc_answer.specs.CertificateLines.{live_numbers, IsReadBack, HasFewLines, IsReadBackIf};
 ghost use Rattle.uc_answer.specs.VerdictLines.{HasEnded};
 
 use crate::verdict_lines::{Closed, are_few, lines_of};
@@ -31,7 +31,7 @@ pub(crate) fn certified<O: Order>(
     requires shelf { book.now.opening.shelf ≡ closed.now.shelf.now }
     requires problem { book.now.opening.problem ≡ closed.now.encoded.now }
     requires ended { HasEnded closed.now.symbols.now closed.now.command.now closed.now.problem.now closed.now.encoded.now closed.now.spec.now Saturated book.now.state }
-    ensures { IfOk result (λ all. (text : List ℕ) × IsToldIf closed.now.symbols.now closed.now.problem.now closed.now.encoded.now closed.now.spec.now book.now.state closed.now.command.now.certificate text × (joined all ≡ joined lines ++ text)) }
+    ensures { IfOk result (λ all. (text : List ℕ) × IsReadBackIf closed.now.symbols.now closed.now.problem.now closed.now.encoded.now closed.now.spec.now book.now.state closed.now.command.now.certificate text × (joined all ≡ joined lines ++ text)) }
 {
     if !closed.command.certificate {
         return Ok(lines);
@@ -53,7 +53,8 @@ fn certificate_text<O: Order>(
     requires shelf { book.now.opening.shelf ≡ closed.now.shelf.now }
     requires problem { book.now.opening.problem ≡ closed.now.encoded.now }
     requires ended { HasEnded closed.now.symbols.now closed.now.command.now closed.now.problem.now closed.now.encoded.now closed.now.spec.now Saturated book.now.state }
-    ensures { IfOk result (IsTold closed.now.symbols.now closed.now.problem.now closed.now.encoded.now closed.now.spec.now book.now.state) }
+    ensures read_back { IfOk result (IsReadBack closed.now.symbols.now closed.now.problem.now closed.now.encoded.now closed.now.spec.now book.now.state) }
+    ensures few { IfOk result (λ _. HasFewLines closed.now.symbols.now closed.now.problem.now closed.now.encoded.now closed.now.spec.now book.now.state) }
 {
     let (derivation, numbers) = derived(alloc, closed, book)?;
     let system = live_system(alloc, closed.shelf, book.front())?;
@@ -73,7 +74,7 @@ fn derived<O: Order>(
     requires shelf { book.now.opening.shelf ≡ closed.now.shelf.now }
     requires ended { HasEnded closed.now.symbols.now closed.now.command.now closed.now.problem.now closed.now.encoded.now closed.now.spec.now Saturated book.now.state }
     ensures derived { IfOk result (λ made. AreDerivedFacts closed.now.problem.now closed.now.encoded.now (born book.now.state.entries) (live_numbers book.now.state) made.0.proof.lines made.0.files made.1) }
-    ensures few { IfOk result (λ _. length closed.now.encoded.now.sources + length closed.now.problem.now.goals + length (born book.now.state.entries) + 2 < 2 ^ 32) }
+    ensures few { IfOk result (λ _. HasFewLines closed.now.symbols.now closed.now.problem.now closed.now.encoded.now closed.now.spec.now book.now.state) }
 {
     let facts = all_facts(alloc, closed.shelf, book.front())?;
     let live = live_numbers(alloc, closed.shelf, book.front())?;

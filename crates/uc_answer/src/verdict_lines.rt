@@ -45,8 +45,8 @@ pub struct Closed<'a> {
     pub shelf: &'a Shelf,
 }
 
-/// Returns the answer of `prove` for a book with this verdict, with the book's history and the shares of its workers where they are
-/// asked for.
+/// Returns the answer of `prove` for a book with this verdict: a proof, a system, with its certificate where one is asked for, or a
+/// limit; with the book's history and the shares of its workers where they are asked for.
 pub fn verdict_answer<O: Order>(
     alloc: Global,
     closed: &Closed,
@@ -217,7 +217,7 @@ fn system_lines<O: Order>(
     requires shelf { book.now.opening.shelf ≡ closed.now.shelf.now }
     requires ended { HasEnded closed.now.symbols.now closed.now.command.now closed.now.problem.now closed.now.encoded.now closed.now.spec.now Saturated book.now.state }
     ensures lines { IfOk result (λ lines. joined lines ≡ status_line (codes "Satisfiable") closed.now.name.now ++ saturation_text closed.now.symbols.now closed.now.command.now closed.now.name.now closed.now.problem.now closed.now.encoded.now closed.now.spec.now book.now.state) }
-    ensures promise { IfOk result (λ _. CanBePrinted closed.now.symbols.now closed.now.name.now closed.now.problem.now → Settles closed.now.symbols.now closed.now.problem.now closed.now.spec.now (system_text closed.now.symbols.now closed.now.spec.now (equations_of (live book.now.state.entries)))) }
+    ensures promise { IfOk result (λ _. CanBePrinted closed.now.symbols.now closed.now.name.now closed.now.problem.now → (settled : Settles closed.now.symbols.now closed.now.problem.now closed.now.spec.now (system_text closed.now.symbols.now closed.now.spec.now (equations_of (live book.now.state.entries)))) × (settled.system.facts ≡ equations_of (live book.now.state.entries))) }
 {
     let text = system_of(alloc, closed, book)?;
     let mut lines = Seq::new(alloc);
@@ -233,7 +233,7 @@ fn system_of<O: Order>(alloc: Global, closed: &Closed, book: &Book<O>) -> Result
     requires shelf { book.now.opening.shelf ≡ closed.now.shelf.now }
     requires ended { HasEnded closed.now.symbols.now closed.now.command.now closed.now.problem.now closed.now.encoded.now closed.now.spec.now Saturated book.now.state }
     ensures text { IfOk result (λ text. text ≡ system_text closed.now.symbols.now closed.now.spec.now (equations_of (live book.now.state.entries))) }
-    ensures promise { IfOk result (λ text. CanBePrinted closed.now.symbols.now closed.now.name.now closed.now.problem.now → Settles closed.now.symbols.now closed.now.problem.now closed.now.spec.now text) }
+    ensures promise { IfOk result (λ text. CanBePrinted closed.now.symbols.now closed.now.name.now closed.now.problem.now → (settled : Settles closed.now.symbols.now closed.now.problem.now closed.now.spec.now text) × (settled.system.facts ≡ equations_of (live book.now.state.entries))) }
 {
     let system = live_system(alloc, closed.shelf, book.front())?;
     print_system(alloc, closed.spec, &system, closed.symbols)

@@ -12,11 +12,16 @@ ghost use Rattle.uc_problem.specs.declared.problem.Encoded.{Encoded};
 ghost use Rattle.uc_rewrite.specs.Replay.{FactsReplay};
 ghost use Rattle.uc_proof.specs.Chains.{ProvesGoal};
 ghost use Rattle.uc_proof.specs.Printable.{ArePrintable};
-ghost use Rattle.uc_proof.specs.Extracted.{IsEncodingOf, IsExtracted};
+ghost use Rattle.uc_proof.specs.Extracted.{IsEncodingOf, IsExtracted, AreDerivedFacts};
 
 /// The facts' chains and those of a goal determine one proof, and one file for each of its lines.
 pub fn one_extraction()
     ensures { (problem : Problem) (encoded : Encoded) (facts : List Fact) (left right : Chain) (goal : ℕ) (xs ys : List Line) (fs gs : List (List ℕ)) → IsEncodingOf problem encoded → IsExtracted problem encoded facts left right goal xs fs → IsExtracted problem encoded facts left right goal ys gs → (xs ≡ ys) × (fs ≡ gs) }
+{}
+
+/// The facts' chains determine one derivation of some of them, one file for each of its lines, and one number for each of these facts.
+pub fn one_derivation()
+    ensures { (problem : Problem) (encoded : Encoded) (facts : List Fact) (live : List ℕ) (xs ys : List Line) (fs gs : List (List ℕ)) (ns ms : List ℕ) → IsEncodingOf problem encoded → AreDerivedFacts problem encoded facts live xs fs ns → AreDerivedFacts problem encoded facts live ys gs ms → (xs ≡ ys) × (fs ≡ gs) × (ns ≡ ms) }
 {}
 
 /// Where the chains replay, all lines of the proof are right for the problem's clauses and the last one is a refutation. The

@@ -15,4 +15,4 @@ mod renumbering;
 mod steps;
 
 pub use extraction::{Extracted, extract_facts_from, extract_from};
-pub use laws::{extraction_is_right, one_extraction};
+pub use laws::{extraction_is_right, one_derivation, one_extraction};

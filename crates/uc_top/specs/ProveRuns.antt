@@ -76,6 +76,6 @@ pub data ProveEnds (files : Files) (command : Command) (name : List ℕ) (old ne
   lacks_memory : Appends old new memory_line → ProveEnds files command name old new 7
 
 -- Where the words of `prove` name an order for a problem that the files hold, none of whose goals is too large to be encoded, `prove`
--- ends so: with a proof, a system, or a limit. The problem's symbols stand in the table that loading and encoding it leave.
+-- ends so: with a proof, a system, with its certificate where one is asked for, or a limit. The problem's symbols stand in the table that loading and encoding it leave.
 abbrev pub CompletesProve : Files → List (List ℕ) → Option (List ℕ) → Option (List ℕ) → ℕ → Type 0
 CompletesProve files words old new result = (command : Command) (name : List ℕ) (loaded table : Table) (problem : Problem) (encoded : Encoded) (spec : OrderSpec) → Reads words command → command.verb ≡ Prove → command.positionals ≡ name ∷ [] → IsDistinct table → IsLoaded files command.root name loaded problem → AddsMarks loaded table encoded.fresh → Encodes table problem (Ok encoded) → IsChosen table problem.signature command.order encoded.fresh spec → ProveEnds files command name old new result

@@ -53,7 +53,7 @@ use uc_words::{Command, Verb, WordsFault, read_words};
 /// where the order is refused; else 3. For `prove` it is 0 where the text has a proof of the problem, each line of it right and the
 /// last one a refutation of a goal; 1 where it has a system by which each ground term has exactly one
 /// normal form, two terms share it exactly if their equation follows from the axioms, those of the encoding where a goal has a
-/// variable, and no goal follows; 2 where the text names the budget, the limit on pairs or the size that ended the search; 4
+/// variable, and no goal follows, and behind it, where `--certificate` is given, a certificate of it that passes all tests; 2 where the text names the budget, the limit on pairs or the size that ended the search; 4
 /// where the order is refused; else 3. For `decide` it is 0 where each question has its line, `equal` where its
 /// equation follows from the axioms and `different` where it doesn't, with the least terms to which its sides are equal; 2
 /// where a question stays open, since its steps are spent or a term grew too large, or where the text names the budget, the
