@@ -26,3 +26,10 @@ pub mod SystemPasses
 pub mod SystemHere
 pub mod JoinsOf
 pub mod CertificateInterned
+pub mod PrintedNumbers
+pub mod JoinPieces
+pub mod JoinTermsAgain
+pub mod JoinsAgain
+pub mod LinesPassed
+pub mod PartsAgain
+pub mod CertificateAgain

@@ -8,7 +8,7 @@
 --
 -- A last line without its line feed is a line, and departs. A number in place of the first one's 1 is of another version.
 use Rattle.std.specs.Prelude.{◌≡◌, ◌≢◌, ℕ, ◌+◌, ◌<◌, ◌≤◌, ◌==◌, ◌&&◌, ◌||◌, not, nat_eq, bytes_eq, position, slice_get, Bool, true, false, List, [], ◌∷◌, ◌++◌, length, take, drop, codes, map, Option, Some, None, if◌then◌else◌}
-use Rattle.std.specs.List.{starts_with, prefix_len, flat_map, AllByRecursion, list_any}
+use Rattle.std.specs.List.{starts_with, prefix_len, flat_map, AllByRecursion, list_all, list_any}
 use Rattle.std.specs.Str.Parse.{digits_value}
 use Rattle.uc_clause.specs.Bytes.{in_line, is_digits, is_name}
 use Rattle.uc_clause.specs.Tokens.{place_of}
@@ -71,6 +71,11 @@ first_unknown names words = position (λ word. not (list_any (bytes_eq word) nam
 pub data AreNumbered (names : List (List ℕ)) : List (List ℕ) → List ℕ → Type 0 where
   none_numbered : AreNumbered names [] []
   one_numbered : {word : List ℕ} {words : List (List ℕ)} {number : ℕ} {numbers : List ℕ} → slice_get names number ≡ Some word → AreNumbered names words numbers → AreNumbered names (word ∷ words) (number ∷ numbers)
+
+-- whole lines, none of which passes the test
+pub data HasNoLine (test : List ℕ → Bool) : List ℕ → Type 0 where
+  nothing_stands : HasNoLine test []
+  other_stands : {line rest : List ℕ} → list_all in_line line ≡ true → test line ≡ false → HasNoLine test rest → HasNoLine test (line ++ 10 ∷ rest)
 
 module _ (text : List ℕ) where
   -- the line that begins at a byte, whether a line feed ends it or the text

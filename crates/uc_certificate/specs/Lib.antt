@@ -10,5 +10,6 @@ pub mod Reads
 pub mod Interning
 pub mod FactNames
 pub mod Faults
+pub mod Bounds
 pub mod Printing
 pub mod Printable

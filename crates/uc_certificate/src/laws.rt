@@ -1,10 +1,15 @@
 //! Laws over the definitions, each the contract of a function that does nothing.
 
-ghost use Rattle.std.specs.Prelude.{◌≡◌, ℕ, List, Result, Err};
+ghost use Rattle.std.specs.Prelude.{◌≡◌, ◌++◌, ℕ, List, Result, Ok, Err};
 ghost use Rattle.uc_term.specs.Table.{Table, Grows, IsDistinct};
+ghost use Rattle.uc_certificate.specs.declared.border.Border.TheVariants.{Start};
 ghost use Rattle.uc_certificate.specs.declared.certificate.Certificate.{Certificate};
 ghost use Rattle.uc_certificate.specs.declared.fault.CertFault.{CertFault};
+ghost use Rattle.uc_certificate.specs.Bounds.{IsBoundedCertificate};
+ghost use Rattle.uc_certificate.specs.Headings.{is_border, HasNoLine};
 ghost use Rattle.uc_certificate.specs.Interning.{InternsCertificate};
+ghost use Rattle.uc_certificate.specs.Printable.{IsPrintableCertificate};
+ghost use Rattle.uc_certificate.specs.Printing.{certificate_text, IsCertificateOf};
 ghost use Rattle.uc_certificate.specs.Reading.{ReadsCertificate};
 
 /// In a table whose entries are all different a text reads as at most one certificate, or is refused for one reason at one place. So
@@ -27,4 +32,10 @@ pub fn reading_stays()
 /// is refused in each for the same reason and at the same place.
 pub fn one_refusal()
     ensures { (table other : Table) (text : List ℕ) (fault : CertFault) (answer : Result Certificate CertFault) → IsDistinct table → IsDistinct other → ReadsCertificate table text (Err fault) → ReadsCertificate other text answer → answer ≡ Err fault }
+{}
+
+/// The printed text of a certificate that is printable in a table reads there as this certificate: behind whole lines none of
+/// which begins as a certificate does, and whatever stands behind its last line.
+pub fn printed_reads_back()
+    ensures { (table : Table) (files : List (List ℕ)) (c : Certificate) (before behind : List ℕ) → IsCertificateOf table c → IsBoundedCertificate c → IsPrintableCertificate table files c → HasNoLine (is_border Start) before → ReadsCertificate table (before ++ certificate_text table files c ++ behind) (Ok c) }
 {}

@@ -4,6 +4,7 @@
 #![tactic(auto)]
 
 mod border;
+mod bounds;
 mod cases;
 mod certificate;
 mod classes;
@@ -22,6 +23,6 @@ mod words;
 
 pub use certificate::{Case, Certificate, End, Join, Move, What};
 pub use fault::CertFault;
-pub use laws::{one_reading, one_refusal, one_table, reading_stays};
+pub use laws::{one_reading, one_refusal, one_table, printed_reads_back, reading_stays};
 pub use printing::print_certificate;
 pub use reading::read_certificate;

@@ -1,6 +1,6 @@
 //! Printing a certificate.
 
-ghost use Rattle.std.specs.Prelude.{◌≡◌, ◌<◌, ◌++◌, length, map, codes, decimal, Ok, IfOk, OnOk};
+ghost use Rattle.std.specs.Prelude.{◌≡◌, ◌<◌, ◌++◌, ℕ, List, length, map, codes, decimal, Ok, IfOk, OnOk};
 ghost use Rattle.std.specs.List.{AllByRecursion};
 ghost use Rattle.uc_term.specs.Table.{IsOf};
 ghost use Rattle.uc_clause.specs.Names.{spelling};
@@ -8,9 +8,13 @@ ghost use Rattle.uc_clause.specs.Printing.{term_text, variable_text};
 ghost use Rattle.uc_order.specs.Members.{Each};
 ghost use Rattle.uc_tstp.specs.Printing.{further, listed, path_text, way_text, names_in, line_name, lines_text, AreNumbers, AreLinesOf};
 ghost use Rattle.uc_system.specs.Printing.{system_text, IsSpecOf, IsEquationOf};
-ghost use Rattle.uc_certificate.specs.Headings.{spaced};
+ghost use Rattle.uc_certificate.specs.declared.border.Border.TheVariants.{Start};
+ghost use Rattle.uc_certificate.specs.Headings.{spaced, is_border, HasNoLine};
+ghost use Rattle.uc_certificate.specs.Printable.{IsPrintableCertificate};
 ghost use Rattle.uc_certificate.specs.Printing.{certificate_text, system_part, derivation_part, joins_part, list_text, side_text, fact_side_text, overlap_text, what_text, class_text, replacement_text, move_text, moves_text, case_text, ending_text, join_text, joins_text, IsCertificateOf, AreMovesOf, IsCaseOf, IsEndOf, IsJoinOf};
+ghost use Rattle.uc_certificate.specs.Reading.{ReadsCertificate};
 
+use crate::bounds::see_bounds;
 use crate::headings::{CERTIFICATE_LINE, DERIVATION_LINE, END_LINE, FACTS, JOINS_LINE};
 use crate::{Case, Certificate, End, Join, Move, What};
 use itoa::Buffer;
@@ -28,6 +32,11 @@ use uc_tstp::print_lines;
 ///
 /// Names and files stand bare where they are lower-case words and else in quotes, variable `n` is `X` and `n + 1`, and terms and
 /// paths have no spaces; `, ` stands between all other members.
+///
+/// The text is read again as the very same certificate, behind whole lines none of which begins as a certificate does and before
+/// whatever follows, where: its system and its derivation can be read again, with the variables of each line numbered by first
+/// occurrence and no refutation; paths have numbers from 1 to 255; the variables of the joins are below 8,192; and no class and no
+/// list of cases is empty.
 pub fn print_certificate(
     alloc: Global,
     certificate: &Certificate,
@@ -36,8 +45,10 @@ pub fn print_certificate(
 ) -> Result<Text, AllocError>
     requires files { length file_of.now ≡ length certificate.now.lines.lines }
     requires of_table { IsCertificateOf symbols.now certificate.now }
-    ensures { IfOk result (λ text. text ≡ certificate_text symbols.now file_of.now certificate.now) }
+    ensures text { IfOk result (λ text. text ≡ certificate_text symbols.now file_of.now certificate.now) }
+    ensures read_back { IsPrintableCertificate symbols.now file_of.now certificate.now → (before behind : List ℕ) → HasNoLine (is_border Start) before → IfOk result (λ text. ReadsCertificate symbols.now (before ++ text ++ behind) (Ok certificate.now)) }
 {
+    see_bounds(certificate);
     let mut out = Text::new(alloc);
     write_system(alloc, &mut out, &certificate.text, symbols)?;
     let facts = &certificate.facts;
