@@ -8,3 +8,4 @@ pub mod Settings
 pub mod Knowing
 pub mod Replacing
 pub mod Testing
+pub mod Naming

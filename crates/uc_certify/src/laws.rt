@@ -1,6 +1,7 @@
 //! Laws over the definitions, each the contract of a function that does nothing.
 
 ghost use Rattle.std.specs.Prelude.{◌≡◌, List};
+ghost use Rattle.std.specs.List.{AllByRecursion};
 ghost use Rattle.uc_term.specs.declared.equation.Equation.{Equation};
 ghost use Rattle.uc_clause.specs.declared.clause.Sourced.{Sourced};
 ghost use Rattle.uc_order.specs.Laws.{HasSym};
@@ -15,8 +16,13 @@ ghost use Rattle.uc_decide.specs.Deciding.{Decides};
 ghost use Rattle.uc_problem.specs.declared.problem.Encoded.{Encoded};
 ghost use Rattle.uc_system.specs.Reading.{precedence_of};
 ghost use Rattle.uc_term.specs.Tree.{Tree};
+ghost use Rattle.uc_term.specs.Table.{Table, Has};
+ghost use Rattle.uc_clause.specs.Printable.{IsPrintableSymbol};
+ghost use Rattle.uc_runs.specs.Written.{AreNumbered, AreSmall};
 ghost use Rattle.uc_certificate.specs.declared.certificate.Certificate.{Certificate};
 ghost use Rattle.uc_certificate.specs.declared.certificate.Join.{Join};
+ghost use Rattle.uc_certificate.specs.Printing.{IsJoinOf};
+ghost use Rattle.uc_certificate.specs.Printable.{IsPrintableJoin};
 ghost use Rattle.uc_certify.specs.declared.certified.Certified.{Certified};
 ghost use Rattle.uc_certify.specs.declared.certified.Certified.TheVariants.{Yes};
 ghost use Rattle.uc_certify.specs.declared.expected.Member.{Member};
@@ -25,6 +31,7 @@ ghost use Rattle.uc_certify.specs.Expecting.{AreExpected};
 ghost use Rattle.uc_certify.specs.Certifying.{AreSameSymbols, IsCertified};
 ghost use Rattle.uc_certify.specs.Making.{AllAreFoundJoined, AreAllMade};
 ghost use Rattle.uc_certify.specs.Settings.{IsEncodingOf};
+ghost use Rattle.uc_certify.specs.Naming.{AreSymbolsIn, HaveFewVariables};
 
 use uc_order::Order;
 
@@ -55,4 +62,13 @@ pub fn convergent_is_joined<O: Order>(order: &O)
 /// One list of joins is made for a system and its axioms.
 pub fn one_making<O: Order>(order: &O)
     ensures { (facts axioms : List Equation) (a b : List Join) → AreAllMade (O.meaning order.now) facts axioms a → AreAllMade (O.meaning order.now) facts axioms b → a ≡ b }
+{}
+
+/// Joins that are made can be printed in each table that has the order's symbols with their arities, where the facts and the axioms
+/// are over its signature. They are read again as they were printed where these symbols are, and where join lines can name the
+/// variables of the axioms. They can name those of equations that are numbered by first occurrence, with at most 4,096 nodes a side.
+pub fn made_joins_are_printable<O: Order>(order: &O)
+    ensures of_table { (table : Table) (facts axioms : List Equation) (joins : List Join) → AreAllMade (O.meaning order.now) facts axioms joins → AreOfSignature (HasSym (O.meaning order.now)) (O.meaning order.now).arity facts → AreOfSignature (HasSym (O.meaning order.now)) (O.meaning order.now).arity axioms → AreSymbolsIn table (Has table) (O.meaning order.now) → AllByRecursion (IsJoinOf table) joins }
+    ensures printable { (table : Table) (facts axioms : List Equation) (joins : List Join) → AreAllMade (O.meaning order.now) facts axioms joins → AreOfSignature (HasSym (O.meaning order.now)) (O.meaning order.now).arity facts → AreOfSignature (HasSym (O.meaning order.now)) (O.meaning order.now).arity axioms → AreSymbolsIn table (IsPrintableSymbol table) (O.meaning order.now) → HaveFewVariables axioms → AllByRecursion (IsPrintableJoin table) joins }
+    ensures few { (equations : List Equation) → AreNumbered equations → AreSmall equations → HaveFewVariables equations }
 {}

@@ -23,6 +23,7 @@ pub use certified::Certified;
 pub use checking::check_certificate;
 pub use expected::{Member, expected_members};
 pub use laws::{
-    certified_decides, convergent_is_joined, joins_are_joinable, one_certified, one_making,
+    certified_decides, convergent_is_joined, joins_are_joinable, made_joins_are_printable,
+    one_certified, one_making,
 };
 pub use making::make_certificate;
