@@ -6,7 +6,7 @@ use Rattle.uc_term.specs.declared.fresh.Fresh.{Fresh}
 use Rattle.uc_term.specs.declared.equation.Equation.{Equation}
 use Rattle.uc_term.specs.Table.{arity_of}
 use Rattle.uc_term.specs.Tree.{Tree, var, app, Trees, none, more}
-use Rattle.uc_term.specs.Over.{IsTerm, AreOver}
+use Rattle.uc_term.specs.Over.{IsOver, AreOver, IsTerm}
 use Rattle.uc_term.specs.Conversion.{Conv}
 use Rattle.uc_clause.specs.declared.clause.Sourced.{Sourced}
 use Rattle.uc_check.specs.declared.proof.Line.{Line}
@@ -39,14 +39,19 @@ use Rattle.uc_certify.proofs.Derived.{premises, says_all}
 
 -- a term over a signature is one over another that has its symbols, with the same arities
 module _ (has had : Sym → Type 0) (arity other : Sym → ℕ) (into : (f : Sym) → has f → had f × (other f ≡ arity f)) where
-  mutual
-    term_into : (t : Tree) → IsTerm has arity t → IsTerm had other t
-    term_into (var x) o = tt
-    term_into (app f ts) o = let i = into f o.0 in (i.0, o.1 ∙ sym i.1, terms_into ts o.2)
+  -- with any variables
+  module _ (Known : ℕ → Type 0) where
+    mutual
+      pub over_into : (t : Tree) → IsOver has arity Known t → IsTerm had other t
+      over_into (var x) o = tt
+      over_into (app f ts) o = let i = into f o.0 in (i.0, o.1 ∙ sym i.1, all_over_into ts o.2)
 
-    terms_into : (ts : Trees) → AreOver has arity (λ _. Unit {0}) ts → AreOver had other (λ _. Unit {0}) ts
-    terms_into none o = tt
-    terms_into (more t ts) o = (term_into t o.0, terms_into ts o.1)
+      all_over_into : (ts : Trees) → AreOver has arity Known ts → AreOver had other (λ _. Unit {0}) ts
+      all_over_into none o = tt
+      all_over_into (more t ts) o = (over_into t o.0, all_over_into ts o.1)
+
+  term_into : (t : Tree) → IsTerm has arity t → IsTerm had other t
+  term_into = over_into (λ _. Unit {0})
 
 no_chain_refutes : (source : LineSource) → IsChain source → IsRefutation source → ⊥
 no_chain_refutes (File name) c r = c

@@ -24,3 +24,8 @@ pub mod Outcome
 pub mod OtherNumbers
 pub mod OtherOverlaps
 pub mod FinalJoins
+pub mod FewVariables
+pub mod FilledOrders
+pub mod PrintablePaths
+pub mod SuchJoins
+pub mod PrintableJoins

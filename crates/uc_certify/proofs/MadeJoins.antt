@@ -60,7 +60,7 @@ module _ (m : Meaning) (laws : Laws m) (facts axioms : List Equation) (over : Ar
         ends = subst (λ (u : Tree). IsRightEnd m facts u (moved r join.right) join.end) (sym left.1) (subst (λ (u : Tree). IsRightEnd m facts f.left.term u join.end) (sym right.1) end);
       }
 
-  sides_over : (x : Member) (l r : Tree) → AreSides facts axioms x l r → Over l × Over r
+  pub sides_over : (x : Member) (l r : Tree) → AreSides facts axioms x l r → Over l × Over r
   sides_over _ _ _ (of_axiom {k = k} {e = e} at) = axioms_over k e at
   sides_over _ _ _ (of_overlap {formed = formed} {a = a} {b = b} {left = l} {right = r} {chain = chain} at bt pair) =
       let p = pair_over m a b formed.overlap (Pair l r chain) (over formed.overlap.outer a at) (over formed.overlap.inner b bt) pair in

@@ -65,8 +65,8 @@ pub fn one_making<O: Order>(order: &O)
 {}
 
 /// Joins that are made can be printed in each table that has the order's symbols with their arities, where the facts and the axioms
-/// are over its signature. They are read again as they were printed where these symbols are, and where join lines can name the
-/// variables of the axioms. They can name those of equations that are numbered by first occurrence, with at most 4,096 nodes a side.
+/// are over its signature. They can be read back where the table's tokens spell these symbols and join lines name the variables of
+/// the axioms. They name those of equations with at most 4,096 nodes a side that are numbered by first occurrence.
 pub fn made_joins_are_printable<O: Order>(order: &O)
     ensures of_table { (table : Table) (facts axioms : List Equation) (joins : List Join) → AreAllMade (O.meaning order.now) facts axioms joins → AreOfSignature (HasSym (O.meaning order.now)) (O.meaning order.now).arity facts → AreOfSignature (HasSym (O.meaning order.now)) (O.meaning order.now).arity axioms → AreSymbolsIn table (Has table) (O.meaning order.now) → AllByRecursion (IsJoinOf table) joins }
     ensures printable { (table : Table) (facts axioms : List Equation) (joins : List Join) → AreAllMade (O.meaning order.now) facts axioms joins → AreOfSignature (HasSym (O.meaning order.now)) (O.meaning order.now).arity facts → AreOfSignature (HasSym (O.meaning order.now)) (O.meaning order.now).arity axioms → AreSymbolsIn table (IsPrintableSymbol table) (O.meaning order.now) → HaveFewVariables axioms → AllByRecursion (IsPrintableJoin table) joins }
