@@ -1,12 +1,11 @@
 -- A printed certificate is read again, whatever stands behind it, and behind lines none of which begins one.
-use Rattle.std.proofs.Common.{◌≡◌, ℕ, ◌+◌, ◌-◌, ◌<◌, ◌≤◌, ◌^◌, true, List, [], ◌∷◌, ◌++◌, length, drop, map, append_assoc, refl, sym, ap, ◌∙◌, subst, arith, Ok}
+use Rattle.std.proofs.Common.{◌≡◌, ℕ, ◌+◌, ◌≤◌, true, List, [], ◌∷◌, ◌++◌, length, drop, append_assoc, refl, sym, ap, ◌∙◌, subst, arith, Ok}
 use Rattle.std.specs.Prelude.{bytes_eq}
-use Rattle.std.specs.List.{list_all, AllByRecursion}
+use Rattle.std.specs.List.{AllByRecursion}
 use Rattle.std.proofs.lemmas.List.{length-map}
 use Rattle.std.proofs.lemmas.Slice.Eq.{bytes_eq-Decides}
 use Rattle.uc_term.specs.Table.{Table}
 use Rattle.uc_clause.specs.declared.token.Token.{Token}
-use Rattle.uc_clause.specs.Bytes.{in_line}
 use Rattle.uc_clause.specs.Tokens.{Cut, place_of}
 use Rattle.uc_clause.specs.Rules.{read}
 use Rattle.uc_clause.proofs.Joined.{joined, tokens_of, cut_pieces}
@@ -30,7 +29,7 @@ use Rattle.uc_certificate.specs.Bounds.{IsBoundedCertificate}
 use Rattle.uc_certificate.specs.JoinLines.{joins}
 use Rattle.uc_certificate.specs.JoinMeaning.{MeanJoins}
 use Rattle.uc_certificate.specs.JoinParse as parse
-use Rattle.uc_certificate.specs.Headings.{certificate_line, derivation_line, facts_line, joins_line, end_line, AreNames, is_border, behind_line, FirstLine, HasNoLine, picked, version_by, heading, heading_at, this_by, the_line, facts, are_facts}
+use Rattle.uc_certificate.specs.Headings.{certificate_line, derivation_line, facts_line, joins_line, end_line, AreNames, is_border, behind_line, FirstLine, HasNoLine, picked, version_by, heading_at, this_by, the_line, are_facts}
 use Rattle.uc_certificate.specs.Parts.{gets, goes_on}
 use Rattle.uc_certificate.specs.Printing.{fact_names, joins_text, certificate_text, IsCertificateOf}
 use Rattle.uc_certificate.specs.Printable.{IsPrintableCertificate}

@@ -1,12 +1,12 @@
 -- Printed join lines as pieces.
-use Rattle.std.proofs.Common.{◌≡◌, ℕ, ◌+◌, ◌<◌, ◌≤◌, ◌^◌, Bool, true, false, List, [], ◌∷◌, ◌++◌, refl, sym, ap, ◌∙◌, arith, append_assoc}
-use Rattle.std.specs.Prelude.{codes, decimal, nat_eq, ◌≢◌}
-use Rattle.std.specs.List.{list_all, AllByRecursion}
+use Rattle.std.proofs.Common.{◌≡◌, ℕ, ◌<◌, Bool, true, false, List, [], ◌∷◌, ◌++◌, refl, sym, ap, ◌∙◌, arith, append_assoc}
+use Rattle.std.specs.Prelude.{codes, decimal, ◌≢◌}
+use Rattle.std.specs.List.{AllByRecursion}
 use Rattle.uc_term.specs.Table.{Table}
 use Rattle.uc_term.specs.Variables.{variables}
 use Rattle.uc_term.specs.declared.equation.Side.{Side}
 use Rattle.uc_term.specs.declared.equation.Side.TheVariants.{Left, Right}
-use Rattle.uc_clause.specs.Bytes.{in_line, is_name}
+use Rattle.uc_clause.specs.Bytes.{is_name}
 use Rattle.uc_clause.specs.Tokens.{Skips}
 use Rattle.uc_clause.specs.Printing.{variable_text}
 use Rattle.uc_clause.proofs.Longest.{white_at}
@@ -26,7 +26,7 @@ use Rattle.uc_certificate.specs.declared.certificate.End.TheVariants.{Same, Inst
 use Rattle.uc_certificate.specs.declared.certificate.Case.{Case}
 use Rattle.uc_certificate.specs.Bounds.{IsShort, IsBoundedWhat, IsBoundedMove, AreBoundedMoves, IsBoundedCase, IsBoundedEnd, IsBoundedJoin}
 use Rattle.uc_certificate.specs.JoinLines.{MOST_VARIABLES}
-use Rattle.uc_certificate.specs.Printing.{list_text, side_text, fact_side_text, overlap_text, what_text, class_text, replacement_text, move_text, moves_text, case_text, ending_text, join_text, joins_text}
+use Rattle.uc_certificate.specs.Printing.{list_text, side_text, fact_side_text, what_text, class_text, move_text, moves_text, case_text, ending_text, joins_text}
 use Rattle.uc_certificate.specs.Printable.{AreFew, IsPrintableWhat, IsPrintableClass, IsPrintableMove, ArePrintableMoves, IsPrintableCase, IsPrintableEnd, IsPrintableJoin}
 use Rattle.uc_certificate.proofs.PrintedNumbers.{integer_spells, variable, variable_spells}
 

@@ -1,7 +1,6 @@
 -- Printed terms of join lines: each Upper among their tokens names a variable, and they mean what was printed.
-use Rattle.std.proofs.Common.{◌≡◌, ℕ, ◌+◌, ◌-◌, ◌<◌, ◌≤◌, Bool, true, false, List, [], ◌∷◌, ◌++◌, length, refl, sym, ap, ap₂, ◌∙◌, subst, arith, ⊎_elim, Option, Some, None}
-use Rattle.std.specs.Prelude.{is_none, slice_get}
-use Rattle.std.specs.List.{AllByRecursion}
+use Rattle.std.proofs.Common.{◌≡◌, ℕ, ◌+◌, ◌-◌, ◌<◌, ◌≤◌, false, List, [], ◌∷◌, ◌++◌, length, refl, sym, ap, ap₂, ◌∙◌, subst, arith, ⊎_elim, Option, Some, None}
+use Rattle.std.specs.Prelude.{is_none}
 use Rattle.std.proofs.lemmas.Bool.{cases_Bool}
 use Rattle.std.proofs.lemmas.Option.{slice_get-get_or, unwrap_or-slice_get}
 use Rattle.uc_term.specs.declared.node.Sym.{Sym}
@@ -13,7 +12,7 @@ use Rattle.uc_clause.specs.declared.terminal.Terminal.{Terminal}
 use Rattle.uc_clause.specs.declared.terminal.Terminal.TheVariants as terminal
 use Rattle.uc_clause.specs.Bytes.{is_name}
 use Rattle.uc_clause.specs.Names.{spelling, kind_of_word}
-use Rattle.uc_clause.specs.Terminals.{terminal_at, terminal_of_mark, terminal_of_kind, bytes_at, word_at}
+use Rattle.uc_clause.specs.Terminals.{terminal_of_mark, terminal_of_kind, word_at}
 use Rattle.uc_clause.specs.Rules.{read}
 use Rattle.uc_clause.specs.Printing.{variable_text}
 use Rattle.uc_clause.specs.Printable.{IsPrintableSymbol}

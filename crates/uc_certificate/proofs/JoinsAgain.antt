@@ -1,5 +1,5 @@
 -- Printed join lines are read again.
-use Rattle.std.proofs.Common.{◌≡◌, ◌≢◌, ℕ, ◌+◌, ◌<◌, Bool, true, false, List, [], ◌∷◌, length, refl, sym, ap, ap₂, ◌∙◌, subst, arith, Some}
+use Rattle.std.proofs.Common.{◌≡◌, ◌≢◌, ℕ, ◌+◌, ◌<◌, false, List, [], ◌∷◌, length, refl, sym, ap, ap₂, ◌∙◌, subst, arith, Some}
 use Rattle.std.specs.Prelude.{codes, bytes_eq}
 use Rattle.std.specs.List.{AllByRecursion}
 use Rattle.uc_term.specs.Table.{Table}
@@ -9,8 +9,8 @@ use Rattle.uc_clause.specs.declared.token.Token.{Token}
 use Rattle.uc_clause.specs.declared.terminal.Terminal.{Terminal}
 use Rattle.uc_clause.specs.declared.terminal.Terminal.TheVariants as terminal
 use Rattle.uc_clause.specs.declared.grammar.stop.Why.TheVariants.{NoToken}
-use Rattle.uc_clause.specs.Terminals.{terminal_at, bytes_at}
-use Rattle.uc_clause.specs.Rules.{Rule, read, read_or_stop, goes_on}
+use Rattle.uc_clause.specs.Terminals.{terminal_at}
+use Rattle.uc_clause.specs.Rules.{read, read_or_stop, goes_on}
 use Rattle.uc_clause.specs.Printing.{variable_text}
 use Rattle.uc_clause.proofs.Joined.{Piece}
 use Rattle.uc_clause.proofs.Printed.{width, parse_at, at_end}
@@ -26,7 +26,7 @@ use Rattle.uc_certificate.specs.declared.certificate.Move.{Move}
 use Rattle.uc_certificate.specs.declared.certificate.End.{End}
 use Rattle.uc_certificate.specs.declared.certificate.End.TheVariants.{Same, Instance, Orders}
 use Rattle.uc_certificate.specs.declared.certificate.Case.{Case}
-use Rattle.uc_certificate.specs.Bounds.{IsShort, IsBoundedWhat}
+use Rattle.uc_certificate.specs.Bounds.{IsBoundedWhat}
 use Rattle.uc_certificate.specs.JoinLines.{MOST_VARIABLES, side_of, side_by, is_axiom, is_overlap, is_same, is_instance, is_orders, is_no_join, has_join}
 use Rattle.uc_certificate.specs.JoinLines as rules
 use Rattle.uc_certificate.specs.JoinParse as parse
@@ -35,7 +35,7 @@ use Rattle.uc_certificate.specs.JoinMeaning.{MeanAll, none_mean, more_mean, Mean
 use Rattle.uc_certificate.specs.Printing.{side_text, class_text, move_text, case_text}
 use Rattle.uc_certificate.specs.Printable.{AreFew, IsPrintableWhat, IsPrintableClass}
 use Rattle.uc_certificate.proofs.PrintedNumbers.{integer_here, variable, variable_here}
-use Rattle.uc_certificate.proofs.JoinPieces.{each, list_pieces, fact_side_pieces, what_pieces, move_pieces, moves_pieces, class_pieces, classes_pieces, case_pieces, ending_pieces, front_pieces, end_pieces, joins_pieces, IsMoveAgain, IsCaseAgain, IsEndAgain, IsJoinAgain}
+use Rattle.uc_certificate.proofs.JoinPieces.{each, what_pieces, move_pieces, moves_pieces, class_pieces, classes_pieces, case_pieces, ending_pieces, front_pieces, end_pieces, joins_pieces, IsMoveAgain, IsCaseAgain, IsEndAgain, IsJoinAgain}
 use Rattle.uc_certificate.proofs.JoinTermsAgain.{join_term_here}
 
 module _ (text : List ℕ) (tokens : List Token) where

@@ -1,13 +1,12 @@
 -- The lines of a printed certificate: which of them end a part of the text, and the facts' line.
 use Rattle.std.proofs.Common.{◌≡◌, ℕ, zero, suc, ◌<◌, true, false, List, [], ◌∷◌, ◌++◌, length, map, get_or, append_assoc, refl, sym, ap, ◌∙◌, subst, arith, Some}
-use Rattle.std.specs.Prelude.{bytes_eq, slice_get}
 use Rattle.std.specs.List.{list_all, AllByRecursion}
 use Rattle.std.proofs.lemmas.Option.{slice_get-get_or}
 use Rattle.uc_term.specs.Table.{Table}
 use Rattle.uc_clause.specs.Bytes.{in_line, is_name}
 use Rattle.uc_clause.specs.Names.{spelling}
 use Rattle.uc_check.specs.declared.proof.Line.{Line}
-use Rattle.uc_tstp.specs.Printing.{line_name, line_text, lines_text, AreNumbers}
+use Rattle.uc_tstp.specs.Printing.{line_name, lines_text, AreNumbers}
 use Rattle.uc_tstp.specs.Printable.{AreLineNames}
 use Rattle.uc_tstp.proofs.PrintedPieces.{all_both, lower_spells}
 use Rattle.uc_tstp.proofs.LinePieces as derivation
@@ -15,7 +14,7 @@ use Rattle.uc_tstp.proofs.LinePieces.{AreInLines}
 use Rattle.uc_certificate.specs.declared.certificate.Join.{Join}
 use Rattle.uc_certificate.specs.declared.border.Border.TheVariants.{Facts, End}
 use Rattle.uc_certificate.specs.Headings.{facts_words, spaced, facts_line, AreNames, AreNumbered, none_numbered, one_numbered, is_border, HasNoLine, nothing_stands, other_stands}
-use Rattle.uc_certificate.specs.Printing.{join_text, joins_text}
+use Rattle.uc_certificate.specs.Printing.{joins_text}
 use Rattle.uc_certificate.proofs.JoinPieces.{IsJoinAgain, front_text, front_spells}
 
 feed_last : (front more : List ℕ) → (front ++ 41 ∷ 46 ∷ []) ++ 10 ∷ more ≡ (front ++ 41 ∷ 46 ∷ 10 ∷ []) ++ more

@@ -1,9 +1,9 @@
 -- Numbers and variables of join lines as pieces, and what the grammar reads from them.
-use Rattle.std.proofs.Common.{◌≡◌, ◌≢◌, ℕ, ◌+◌, ◌-◌, ◌<◌, ◌≤◌, ◌^◌, ◌==◌, ◌&&◌, ◌||◌, not, Bool, true, false, List, [], ◌∷◌, length, get_or, refl, sym, ap, ap₂, ◌∙◌, arith, decimal, Some}
-use Rattle.std.specs.Prelude.{nat_eq, nat_le, nat_lt, if◌then◌else◌}
+use Rattle.std.proofs.Common.{◌≡◌, ◌≢◌, ℕ, ◌+◌, ◌-◌, ◌<◌, ◌≤◌, ◌^◌, ◌&&◌, Bool, true, false, List, [], ◌∷◌, length, get_or, refl, sym, ap, ap₂, ◌∙◌, arith, decimal, Some}
+use Rattle.std.specs.Prelude.{nat_le, nat_lt}
 use Rattle.std.specs.List.{list_all, prefix_len}
 use Rattle.std.specs.Str.Parse.{AllDigits, digits_value}
-use Rattle.std.proofs.lemmas.Bool.{and_from, or_right, cases_Bool}
+use Rattle.std.proofs.lemmas.Bool.{and_from, or_right}
 use Rattle.std.proofs.lemmas.Bool.Decides.{nat_tests}
 use Rattle.std.proofs.lemmas.Fmt.{decimal_is_IsNumeral, first_decimal}
 use Rattle.std.proofs.lemmas.Str.Parse.{digit_from_value}
@@ -16,8 +16,8 @@ use Rattle.uc_clause.specs.declared.terminal.Terminal.TheVariants as terminal
 use Rattle.uc_clause.specs.declared.grammar.stop.Why.TheVariants.{NoToken}
 use Rattle.uc_clause.specs.Bytes.{is_digit, is_digits, is_sign, is_word}
 use Rattle.uc_clause.specs.Tokens.{spells}
-use Rattle.uc_clause.specs.Terminals.{terminal_at, bytes_at}
-use Rattle.uc_clause.specs.Rules.{read, read_or_stop}
+use Rattle.uc_clause.specs.Terminals.{terminal_at}
+use Rattle.uc_clause.specs.Rules.{read_or_stop}
 use Rattle.uc_clause.specs.Printing.{variable_text}
 use Rattle.uc_clause.proofs.Joined.{Piece, lexeme, joined, integer_stands}
 use Rattle.uc_clause.proofs.Printed.{facts}

@@ -1,4 +1,4 @@
-use Rattle.std.proofs.Common.{◌≡◌, ◌++◌, ap, sym, subst, ◌∙◌, Ok}
+use Rattle.std.proofs.Common.{◌++◌, ap, sym, subst, ◌∙◌, Ok}
 use Rattle.uc_certificate.specs.Printing.{system_part, derivation_part, joins_part}
 use Rattle.uc_certificate.specs.Reading.{ReadsCertificate}
 use Rattle.uc_certificate.proofs.CertificateAgain.{certificate_again}
