@@ -13,7 +13,7 @@ use Rattle.uc_order.specs.Members.{In, in_front, in_rest}
 use Rattle.uc_order.proofs.Respected.{is_among-In, In-is_among}
 use Rattle.uc_fact.proofs.NewVariables.{in_value}
 use Rattle.uc_fact.proofs.Occurring.{occurs, among}
-use Rattle.uc_runs.specs.Written.{IsNumbered, AreNumbered, AreSmall}
+use Rattle.uc_runs.specs.Written.{AreNumbered, AreSmall}
 use Rattle.uc_runs.proofs.OverTerms.{image_over, instance_over}
 use Rattle.uc_tstp.proofs.InOrder.{among_firsts}
 use Rattle.uc_certificate.specs.Printable.{AreFew}

@@ -1,5 +1,5 @@
 -- The orders of some variables: there is one, and each has these variables alone, and no empty class.
-use Rattle.std.proofs.Common.{◌≡◌, ℕ, List, [], ◌∷◌, ◌++◌, map, flat_map}
+use Rattle.std.proofs.Common.{ℕ, List, [], ◌∷◌, ◌++◌, map, flat_map}
 use Rattle.std.specs.Prelude.{◌≢◌}
 use Rattle.std.specs.List.{AllByRecursion}
 use Rattle.uc_order.specs.Members.{In, in_front, in_rest, Each}

@@ -39,7 +39,7 @@ use Rattle.uc_certify.proofs.FewVariables.{Few, few_if, over_if, known_if, numbe
 use Rattle.uc_certify.proofs.FilledOrders.{IsFilled}
 use Rattle.uc_certify.proofs.MadeJoins.{sides_over}
 use Rattle.uc_certify.proofs.PrintablePaths.{path_printable}
-use Rattle.uc_certify.proofs.SuchJoins.{IsSuchCase, IsSuchEnd, IsSuchJoin, OverKnown, join_so}
+use Rattle.uc_certify.proofs.SuchJoins.{IsSuchCase, IsSuchEnd, OverKnown, join_so}
 
 all_from : {A : Type 0} (P Q : A → Type 0) (xs : List A) → ((x : A) → P x → Q x) → AllByRecursion P xs → AllByRecursion Q xs
 all_from P Q [] h a = tt

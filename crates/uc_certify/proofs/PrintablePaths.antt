@@ -1,5 +1,5 @@
 -- A position in a term that can be printed can be printed.
-use Rattle.std.proofs.Common.{◌≡◌, ℕ, zero, suc, ◌+◌, ◌<◌, ◌≤◌, List, [], ◌∷◌, Option, Some, None, option_and_then, refl, subst, arith}
+use Rattle.std.proofs.Common.{◌≡◌, ℕ, zero, suc, ◌<◌, ◌≤◌, List, [], ◌∷◌, Option, Some, None, option_and_then, refl, subst, arith}
 use Rattle.uc_term.specs.Over.{AreOver}
 use Rattle.uc_term.specs.Path.{nth, written_argument, at_position}
 use Rattle.uc_term.specs.Table.{Table, arity_of}
