@@ -1,5 +1,5 @@
 -- Why two ends are joined: what the test of them answers, and that the end of a join that says so is right.
-use Rattle.std.proofs.Common.{◌≡◌, ℕ, ◌+◌, ◌≤◌, List, [], ◌∷◌, ◌++◌, length, map, refl, sym, ap, ap₂, ◌∙◌, subst, append_assoc, append-nil}
+use Rattle.std.proofs.Common.{◌≡◌, ℕ, ◌≤◌, List, [], ◌∷◌, ◌++◌, length, map, refl, sym, ap, ap₂, ◌∙◌, subst, append_assoc, append-nil}
 use Rattle.uc_term.specs.declared.equation.Equation.{Equation}
 use Rattle.uc_term.specs.Over.{IsOver, IsTerm}
 use Rattle.uc_term.specs.Tree.{Tree, var}
@@ -13,8 +13,7 @@ use Rattle.uc_order.specs.Members.{In, Each}
 use Rattle.uc_order.specs.VarOrders.{Classes, Among, HasOnly, orders_of, represented, representative}
 use Rattle.uc_order.specs.Laws.{Meaning, HasSym, Laws}
 use Rattle.uc_order.proofs.Respected.{representative-among}
-use Rattle.uc_rewrite.proofs.Unique.{one_normal}
-use Rattle.uc_ground.specs.Joining.{AreVariables, IsLeastInstance, IsInstance, ComesTo, IsTriedUnder, agree_under_all, agree_under, differ_under, IsAnswer, are_equal, are_sides, have_many, are_tried}
+use Rattle.uc_ground.specs.Joining.{AreVariables, IsLeastInstance, IsInstance, IsTriedUnder, agree_under_all, agree_under, differ_under, IsAnswer, are_equal, are_sides, have_many, are_tried}
 use Rattle.uc_ground.specs.Ends.{EndsAgree}
 use Rattle.uc_ground.proofs.Tried.{all_members, known_left, known_right}
 use Rattle.uc_ground.proofs.Unique.{one_variables}
@@ -22,9 +21,8 @@ use Rattle.uc_runs.proofs.OverTerms.{instance_over}
 use Rattle.uc_certificate.specs.declared.certificate.Case.{Case}
 use Rattle.uc_certificate.specs.declared.certificate.End.{End}
 use Rattle.uc_certificate.specs.declared.certificate.End.TheVariants.{Same, Instance, Orders}
-use Rattle.uc_certify.specs.Moving.{moved}
-use Rattle.uc_certify.specs.Joining.{IsRightCase, AreRightCases, IsRightEnd}
-use Rattle.uc_certify.specs.Making.{IsMadeCase, AreMadeCases, AreAllCases, SaysWhy}
+use Rattle.uc_certify.specs.Joining.{IsRightCase, IsRightEnd}
+use Rattle.uc_certify.specs.Making.{IsMadeCase, AreMadeCases, SaysWhy}
 use Rattle.uc_certify.proofs.MadeMoves.{moves_made}
 
 module _ (m : Meaning) (live : List Live) (s t : Tree) where

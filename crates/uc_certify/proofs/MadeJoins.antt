@@ -1,7 +1,6 @@
 -- The joins that are made pass all tests.
-use Rattle.std.proofs.Common.{◌≡◌, ℕ, zero, suc, ◌+◌, ◌<◌, Result, Ok, Err, get_or, List, [], ◌∷◌, ◌++◌, drop, length, slice_get, Some, refl, sym, ap, ◌∙◌, subst, append_assoc, append-nil}
+use Rattle.std.proofs.Common.{◌≡◌, ℕ, zero, suc, ◌+◌, Result, Ok, Err, get_or, List, [], ◌∷◌, ◌++◌, drop, length, slice_get, Some, refl, sym, ap, ◌∙◌, subst, append_assoc, append-nil}
 use Rattle.uc_term.specs.declared.equation.Equation.{Equation}
-use Rattle.uc_term.specs.Equations.{side_of}
 use Rattle.uc_term.specs.Over.{IsTerm}
 use Rattle.uc_term.specs.Tree.{Tree}
 use Rattle.std.specs.Result.{IfOk}
@@ -29,12 +28,11 @@ use Rattle.uc_certify.specs.declared.certified.Certified.TheVariants.{Yes}
 use Rattle.uc_certify.specs.declared.expected.Member.{Member}
 use Rattle.uc_certify.specs.declared.expected.Member.TheVariants as member
 use Rattle.uc_certify.specs.Moving.{moved}
-use Rattle.uc_certify.specs.Joining.{Joins, IsRightEnd, NamesOverlap, Names, AreSides, of_axiom, of_overlap, IsRightJoin}
+use Rattle.uc_certify.specs.Joining.{Joins, IsRightEnd, Names, AreSides, of_axiom, of_overlap, IsRightJoin}
 use Rattle.uc_certify.specs.Expecting.{AreExpected}
 use Rattle.uc_certify.specs.Certifying.{AreSameSymbols, AreDerivedBefore, AreTested, all_joined, is_right, IsCertified, by_joins}
 use Rattle.uc_certify.specs.Gathering.{IsKnownMember}
 use Rattle.uc_certify.specs.Making.{IsMade, IsFoundJoined, AllAreFoundJoined, NamesIt, IsMadeFor, AreMadeFor, AreAllMade}
-use Rattle.uc_certify.proofs.Covered.{equations_numbered}
 use Rattle.uc_certify.proofs.MadeMoves.{moves_made, least_over, all_over}
 use Rattle.uc_certify.proofs.MadeEnds.{answered, end_right}
 

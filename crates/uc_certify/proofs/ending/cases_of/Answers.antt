@@ -1,9 +1,8 @@
-use Rattle.std.proofs.Common.{◌≡◌, ◌∙◌, ◌∷◌, [], ℕ, List, length, refl, sym, ap, subst}
+use Rattle.std.proofs.Common.{◌≡◌, ◌∙◌, ◌∷◌, [], List, length, refl, sym, ap, subst}
 use Rattle.uc_fact.specs.declared.joinable.Joinable.TheVariants.{Joined}
 use Rattle.uc_fact.specs.declared.joinable.Reason.TheVariants as reason
 use Rattle.uc_order.specs.VarOrders.{Classes, orders_of}
 use Rattle.uc_ground.proofs.Tried.{known_left, known_right}
-use Rattle.uc_certificate.specs.declared.certificate.Case.{Case}
 use Rattle.uc_certify.specs.Making.{AreMadeCases}
 use Rattle.uc_certify.proofs.MadeEnds.{answered, casing_begins, agrees_here, member_here, casing_on, casing_ends}
 use Rattle.uc_certify.proofs.ending.cases_of.Goals as goal

@@ -1,12 +1,9 @@
-use Rattle.std.proofs.Common.{◌≡◌, sym, subst}
-use Rattle.std.specs.Result.{IfOk}
+use Rattle.std.proofs.Common.{◌≡◌, subst}
 use Rattle.std.proofs.lemmas.Result.{IfOk-weaker}
-use Rattle.uc_fact.specs.declared.joinable.Joinable.{Joinable}
 use Rattle.uc_fact.specs.declared.joinable.Joinable.TheVariants.{Joined}
 use Rattle.uc_fact.specs.declared.joinable.Reason.{Reason}
 use Rattle.uc_ground.specs.Joining.{IsAnswer}
 use Rattle.uc_ground.proofs.Unique.{one_answer}
-use Rattle.uc_certificate.specs.declared.certificate.End.{End}
 use Rattle.uc_certify.specs.Making.{SaysWhy}
 use Rattle.uc_certify.proofs.ending.end_of.Goals as goal
 

@@ -1,6 +1,5 @@
-use Rattle.std.proofs.Common.{◌≡◌, Some, List, length, slice_get, refl, arith, ap, ◌∙◌, ◌++◌}
+use Rattle.std.proofs.Common.{◌≡◌, Some, length, slice_get, refl, arith, ap, ◌∙◌, ◌++◌}
 use Rattle.std.proofs.lemmas.Option.{slice_get_read}
-use Rattle.uc_certify.specs.declared.expected.Member.{Member}
 use Rattle.uc_certify.specs.Expecting.{members_of}
 use Rattle.uc_certify.proofs.Gathered.{first_none, first_next, first_end, known_next}
 use Rattle.uc_certify.proofs.expected.add_overlaps.Goals as goal

@@ -1,4 +1,3 @@
-use Rattle.std.proofs.Common.{arith}
 use Rattle.uc_certify.proofs.Gathered.{has_none, has_next, known_axioms}
 use Rattle.uc_certify.proofs.expected.expected_members.Goals as goal
 

@@ -1,8 +1,7 @@
 use Rattle.std.proofs.Common.{◌≡◌, ◌<◌, ◌∙◌, List, length, slice_get, Some, refl, sym, ap, subst}
 use Rattle.std.specs.Result.{IfOk}
 use Rattle.std.proofs.lemmas.Option.{slice_get-get_or}
-use Rattle.uc_term.specs.declared.equation.Equation.{Equation}
-use Rattle.uc_fact.specs.Live.{Live, numbered}
+use Rattle.uc_fact.specs.Live.{Live}
 use Rattle.uc_certificate.specs.declared.certificate.Join.{Join}
 use Rattle.uc_certificate.specs.declared.certificate.What.TheVariants.{Axiom}
 use Rattle.uc_certify.specs.declared.expected.Member.{Member}

@@ -1,4 +1,4 @@
-use Rattle.std.proofs.Common.{◌≡◌, ◌∙◌, List, refl, sym, ap, subst}
+use Rattle.std.proofs.Common.{◌≡◌, ap, subst}
 use Rattle.uc_term.specs.Tree.{Tree}
 use Rattle.uc_fact.specs.declared.joinable.Joinable.TheVariants.{Joined}
 use Rattle.uc_rewrite.specs.declared.normal.Normal.{Normal}

@@ -1,12 +1,9 @@
-use Rattle.std.proofs.Common.{◌≡◌, ◌∷◌, ◌+◌, ◌∙◌, List, drop, refl, sym, ap, subst}
+use Rattle.std.proofs.Common.{List, sym, subst}
 use Rattle.std.proofs.lemmas.List.{drop_more}
 use Rattle.std.proofs.Math.ListN.{drop_of_length-le}
 use Rattle.uc_order.specs.Members.{Each}
-use Rattle.uc_fact.specs.Live.{numbered}
-use Rattle.uc_certificate.specs.declared.certificate.Join.{Join}
 use Rattle.uc_certify.specs.declared.expected.Member.{Member}
 use Rattle.uc_certify.specs.Gathering.{IsKnownMember}
-use Rattle.uc_certify.specs.Expecting.{AreExpected}
 use Rattle.uc_certify.specs.Making.{IsFoundJoined, AreMadeFor}
 use Rattle.uc_certify.proofs.MadeJoins.{joining_begins, known_here, found_here, joining_on, joining_ends}
 use Rattle.uc_certify.proofs.making.joins_of.Goals as goal

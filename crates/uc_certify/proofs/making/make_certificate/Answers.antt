@@ -1,4 +1,4 @@
-use Rattle.std.proofs.Common.{◌≡◌, ◌<◌, ◌^◌, List, length, sym, ap₂, subst}
+use Rattle.std.proofs.Common.{◌<◌, ◌^◌, List, length, sym, ap₂, subst}
 use Rattle.uc_term.specs.declared.equation.Equation.{Equation}
 use Rattle.uc_fact.specs.declared.fact.System.{System}
 use Rattle.uc_order.specs.declared.spec.OrderSpec.{OrderSpec}

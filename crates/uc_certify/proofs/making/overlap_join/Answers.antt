@@ -1,7 +1,7 @@
-use Rattle.std.proofs.Common.{◌≡◌, ◌∙◌, List, refl, sym, ap, subst}
+use Rattle.std.proofs.Common.{◌≡◌, ◌∙◌, List, refl, sym, subst}
 use Rattle.uc_term.specs.declared.equation.Equation.{Equation}
 use Rattle.uc_fact.specs.declared.fact.Overlap.{Overlap}
-use Rattle.uc_fact.specs.Live.{Live, numbered}
+use Rattle.uc_fact.specs.Live.{Live}
 use Rattle.uc_pair.specs.declared.formation.Formation.{Formation}
 use Rattle.uc_pair.specs.declared.formation.Formation.TheVariants.{Pair, TooLarge}
 use Rattle.uc_pair.specs.Overlapping.{read_from}

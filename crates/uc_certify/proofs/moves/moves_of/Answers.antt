@@ -1,4 +1,4 @@
-use Rattle.std.proofs.Common.{List, ◌≡◌, sym, ◌∙◌, subst}
+use Rattle.std.proofs.Common.{List, sym, subst}
 use Rattle.uc_fact.specs.declared.chain.Step.{Step}
 use Rattle.uc_certificate.specs.declared.certificate.Move.{Move}
 use Rattle.uc_certify.specs.Making.{AreMovesOf}
