@@ -31,14 +31,24 @@ pub fn compare_so<O: Order>(order: &O, s: &Term, t: &Term, want: Cmp) -> bool {
         && order.compare(t.as_nodes(), s.as_nodes()) == turned(want)
 }
 
+// Whether the two terms on the stack compare so.
+fn holds_once<O: Order>(
+    alloc: Global,
+    order: &O,
+    stack: &mut Vec<Term>,
+    want: Cmp,
+) -> Result<bool, TermFault> {
+    let t = pop(alloc, stack)?;
+    let s = pop(alloc, stack)?;
+    Ok(compare_so(order, &s, &t, want))
+}
+
 /// Whether each verdict is that of the two terms before it, which the letters spell in postfix order.
 pub fn holds<O: Order>(alloc: Global, order: &O, rows: &[u8]) -> Result<bool, TermFault> {
     let mut stack: Vec<Term> = Vec::new(alloc);
     for letter in rows {
         if let Some(want) = verdict(*letter) {
-            let t = pop(alloc, &mut stack)?;
-            let s = pop(alloc, &mut stack)?;
-            if !compare_so(order, &s, &t, want) {
+            if !holds_once(alloc, order, &mut stack, want)? {
                 return Ok(false);
             }
         } else {
@@ -56,20 +66,39 @@ pub fn compared_under<O: Order>(order: &O, cases: &VarOrder, s: &Term, t: &Term)
     Some(order.compare_under(cases, s.as_nodes(), t.as_nodes()))
 }
 
-/// The same under an order of variables.
+fn holds_once_under<O: Order>(
+    alloc: Global,
+    order: &O,
+    cases: &VarOrder,
+    stack: &mut Vec<Term>,
+    want: Cmp,
+) -> Result<bool, TermFault> {
+    let t = pop(alloc, stack)?;
+    let s = pop(alloc, stack)?;
+    Ok(compared_under(order, cases, &s, &t) == Some(want))
+}
+
+/// The same under an order of variables, by its classes.
 pub fn holds_under<O: Order>(
     alloc: Global,
     order: &O,
-    cases: &[u8],
+    classes: &[u8],
     rows: &[u8],
 ) -> Result<bool, TermFault> {
-    let cases = read_classes(alloc, cases)?;
+    let cases = read_classes(alloc, classes)?;
+    hold_under(alloc, order, &cases, rows)
+}
+
+fn hold_under<O: Order>(
+    alloc: Global,
+    order: &O,
+    cases: &VarOrder,
+    rows: &[u8],
+) -> Result<bool, TermFault> {
     let mut stack: Vec<Term> = Vec::new(alloc);
     for letter in rows {
         if let Some(want) = verdict(*letter) {
-            let t = pop(alloc, &mut stack)?;
-            let s = pop(alloc, &mut stack)?;
-            if compared_under(order, &cases, &s, &t) != Some(want) {
+            if !holds_once_under(alloc, order, cases, &mut stack, want)? {
                 return Ok(false);
             }
         } else {

@@ -1,13 +1,13 @@
 //! Questions that a system decides.
 
 use crate::orders::{kbo_of, lpo_of};
-use crate::terms::{A, B, C, E, F, G, I, M, P, Pair, equations, is_term, term};
+use crate::terms::{A, B, C, E, F, G, I, M, P, Pair, equation, equations, is_term};
 use std::alloc::Global;
 use std::test::Fail;
 use uc_decide::{Reply, ask};
 use uc_fact::System;
 use uc_order::Order;
-use uc_term::{Seq, Sym};
+use uc_term::{Seq, Sym, TermFault};
 
 /// Of each precedence the least symbol stands first.
 pub const BY_WEIGHT: &[Sym] = &[A, B, C, F, G, M, P];
@@ -40,21 +40,30 @@ type Row = (&'static [Pair], Pair, u32, Answer);
 
 // Whether each question has its reply by its facts.
 fn are_replies<O: Order>(g: Global, order: &O, rows: &[Row]) -> Result<bool, Fail> {
-    for (facts, question, steps, want) in rows {
-        let system = System {
-            facts: Seq::from_vec(equations(g, facts)?),
-        };
-        if system.facts.len() > 99 {
-            return Err(Fail::from("too many facts"));
-        }
-        let s = term(g, question.0)?;
-        let t = term(g, question.1)?;
-        let found = ask(g, &system, order, &s, &t, *steps)?;
-        if !is_answer(g, &found, want)? {
+    for row in rows {
+        let found = reply(g, order, row)?;
+        if !is_answer(g, &found, &row.3)? {
             return Ok(false);
         }
     }
     Ok(true)
+}
+
+// What is replied to the question by the facts.
+fn reply<O: Order>(g: Global, order: &O, row: &Row) -> Result<Reply, Fail> {
+    let system = system(g, row.0)?;
+    if system.facts.len() > 99 {
+        return Err(Fail::from("too many facts"));
+    }
+    let question = equation(g, row.1)?;
+    Ok(ask(g, &system, order, &question.left, &question.right, row.2)?)
+}
+
+/// The system of these facts.
+pub fn system(g: Global, facts: &[Pair]) -> Result<System, TermFault> {
+    Ok(System {
+        facts: Seq::from_vec(equations(g, facts)?),
+    })
 }
 
 const MANY: u32 = 100_000;

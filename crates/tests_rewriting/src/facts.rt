@@ -1,35 +1,27 @@
 //! Facts with their chains.
 
-use crate::terms::term;
+use crate::replaying::{Row, chain};
+use crate::terms::equation;
 use std::alloc::Global;
 use std::test::Fail;
-use uc_fact::{By, Chain, Fact, Origin, Step, Stop};
-use uc_term::{Pos, Seq, TermFault};
+use uc_fact::{By, Chain, Equation, Fact, Origin, Stop};
+use uc_term::TermFault;
 
 // From f(f(a)) by an axiom to f(a), and by a fact to a.
+const STEPS: &[Row] = &[
+    (By::Axiom(3), true, 1, b"af"),
+    (By::Fact(5), false, 0, b"a"),
+];
+
 fn fact(g: Global) -> Result<Fact, TermFault> {
-    let mut steps = Vec::new(g);
-    steps.push(Step {
-        by: By::Axiom(3),
-        left_to_right: true,
-        position: Pos(1),
-        to: term(g, b"af")?,
-    })?;
-    steps.push(Step {
-        by: By::Fact(5),
-        left_to_right: false,
-        position: Pos(0),
-        to: term(g, b"a")?,
-    })?;
+    let Equation { left, right } = equation(g, (b"aff", b"a"))?;
+    let chain = chain(g, b"aff", STEPS)?;
     Ok(Fact {
-        left: term(g, b"aff")?,
-        right: term(g, b"a")?,
+        left,
+        right,
         oriented: true,
         origin: Origin::Revived(5),
-        chain: Chain {
-            start: term(g, b"aff")?,
-            steps: Seq::from_vec(steps),
-        },
+        chain,
         front: 7,
         stops: (Stop::Steps, Stop::Full),
     })
@@ -54,9 +46,19 @@ fn are_same(a: &Chain, b: &Chain) -> bool {
 fn copies_a_fact_with_its_chain(rt: HostRuntime) -> Result<(), Fail> {
     let fact = fact(rt.alloc())?;
     let copy = fact.copy(rt.alloc())?;
-    assert!(rt; copy.left.same(&fact.left) && copy.right.same(&fact.right));
+    assert!(rt; has_sides(&copy, &fact));
     assert!(rt; copy.chain.steps.len() == 2 && are_same(&copy.chain, &fact.chain));
-    assert!(rt; copy.oriented && copy.origin == Origin::Revived(5) && copy.front == 7);
-    assert!(rt; copy.stops == (Stop::Steps, Stop::Full));
+    assert!(rt; has_marks(&copy));
     Ok(())
+}
+
+fn has_sides(copy: &Fact, fact: &Fact) -> bool {
+    copy.left.same(&fact.left) && copy.right.same(&fact.right)
+}
+
+fn has_marks(copy: &Fact) -> bool {
+    copy.oriented
+        && copy.origin == Origin::Revived(5)
+        && copy.front == 7
+        && copy.stops == (Stop::Steps, Stop::Full)
 }

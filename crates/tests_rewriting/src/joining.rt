@@ -2,11 +2,12 @@
 
 use crate::cases::add_classes;
 use crate::orders::kbo_of;
-use crate::terms::{A, G, H, I, P, Pair, equations, is_term, term};
+use crate::terms::{A, G, H, I, P, Pair, equation, equations, is_term};
 use std::alloc::Global;
 use std::test::Fail;
 use uc_fact::{Joinable, Reason};
 use uc_ground::ground_join;
+use uc_kbo::Kbo;
 use uc_rewrite::Scan;
 use uc_term::Sym;
 
@@ -51,7 +52,9 @@ const EQUAL: &[Pair] = &[(b"XYXiZh", b"YXZXih")];
 const ENDS: &[Pair] = &[(b"ag", b"a")];
 
 // Facts, a pair, and what is answered for it.
-const JOINS: &[(&[Pair], Pair, Answer)] = &[
+type Case = (&'static [Pair], Pair, Answer);
+
+const JOINS: &[Case] = &[
     // equal terms are joined
     (TURNED, (b"XYp", b"XYp"), Answer::Joined(Reason::Same)),
     // an instance is joined either way round
@@ -103,16 +106,25 @@ const JOINS: &[(&[Pair], Pair, Answer)] = &[
 
 #[test]
 fn joins_under_all_orders(rt: HostRuntime) -> Result<(), Fail> {
-    let g = rt.alloc();
-    let order = kbo_of(g, PRECEDENCE, 1, &[1, 1, 1, 1, 1], PRECEDENCE)?;
-    for (facts, pair, want) in JOINS {
-        let list = equations(g, facts)?;
-        if list.len() > 9 {
-            return Err(Fail::from("too many facts"));
-        }
-        let scan = Scan::new(list.as_slice());
-        let found = ground_join(g, &term(g, pair.0)?, &term(g, pair.1)?, &scan, &order)?;
-        assert!(rt; is_answer(g, &found, want)?);
+    let order = kbo_of(rt.alloc(), PRECEDENCE, 1, &[1, 1, 1, 1, 1], PRECEDENCE)?;
+    for case in JOINS {
+        assert!(rt; joins_so(rt.alloc(), &order, case)?);
     }
     Ok(())
+}
+
+fn joins_so(g: Global, order: &Kbo, case: &Case) -> Result<bool, Fail> {
+    let found = joined(g, order, case.0, case.1)?;
+    is_answer(g, &found, &case.2)
+}
+
+// What is answered for a pair of terms.
+fn joined(g: Global, order: &Kbo, facts: &[Pair], pair: Pair) -> Result<Joinable, Fail> {
+    let list = equations(g, facts)?;
+    if list.len() > 9 {
+        return Err(Fail::from("too many facts"));
+    }
+    let scan = Scan::new(list.as_slice());
+    let pair = equation(g, pair)?;
+    Ok(ground_join(g, &pair.left, &pair.right, &scan, order)?)
 }

@@ -1,7 +1,5 @@
 //! The Knuth-Bendix order: its refusals, and comparisons by weights, heads and many variables.
 
-ghost use Rattle.std.specs.Prelude.{◌<◌};
-
 use crate::cases::single_classes;
 use crate::comparing::{compare_so, compared_under, holds, holds_under, verdict};
 use crate::orders::kbo_of;
@@ -9,7 +7,7 @@ use crate::terms::{A, B, E, I, M, pop, push};
 use std::alloc::{AllocError, Global};
 use std::test::Fail;
 use uc_kbo::Kbo;
-use uc_order::{Cmp, Order, OrderFault};
+use uc_order::{Cmp, Order, OrderFault, VarOrder};
 use uc_term::{Pos, Sym, Term, TermFault};
 
 const BY_ARITY: &[Sym] = &[E, A, B, I, M];
@@ -119,32 +117,57 @@ fn inverse(alloc: Global, x: u32) -> Result<Term, TermFault> {
     Term::app(alloc, I, &args)
 }
 
+// The inverse of the variable, or the product of the two.
+fn small(alloc: Global, variables: &[u32]) -> Result<Term, TermFault> {
+    match variables {
+        [x, y] => product(alloc, *x, *y),
+        [x] => inverse(alloc, *x),
+        _ => Term::app(alloc, E, &[]),
+    }
+}
+
+// The variables of two small terms, and how these compare.
+type Row = (&'static [u32], &'static [u32], Cmp);
+
+fn is_so(alloc: Global, order: &Kbo, row: &Row) -> Result<bool, TermFault> {
+    let s = small(alloc, row.0)?;
+    let t = small(alloc, row.1)?;
+    Ok(compare_so(order, &s, &t, row.2))
+}
+
+fn is_so_under(alloc: Global, order: &Kbo, cases: &VarOrder, row: &Row) -> Result<bool, TermFault> {
+    let s = small(alloc, row.0)?;
+    let t = small(alloc, row.1)?;
+    Ok(compared_under(order, cases, &s, &t) == Some(row.2))
+}
+
 // Variables of numbers and classes for which there is no counter.
+const MANY: &[Row] = &[
+    (&[100, u32::MAX], &[u32::MAX], Cmp::Greater),
+    (&[100, u32::MAX], &[64], Cmp::Unknown),
+];
+
 #[test]
 fn compares_many_variables(rt: HostRuntime) -> Result<(), Fail> {
-    let alloc = rt.alloc();
-    let order = equal_weights(alloc)?;
-    let s = product(alloc, 100, u32::MAX)?;
-    let less = inverse(alloc, u32::MAX)?;
-    assert!(rt; order.compare(s.as_nodes(), less.as_nodes()) == Cmp::Greater);
-    assert!(rt; order.compare(less.as_nodes(), s.as_nodes()) == Cmp::Less);
-    assert!(rt; order.compare(s.as_nodes(), inverse(alloc, 64)?.as_nodes()) == Cmp::Unknown);
+    let order = equal_weights(rt.alloc())?;
+    for row in MANY {
+        assert!(rt; is_so(rt.alloc(), &order, row)?);
+    }
     Ok(())
 }
 
+const MANY_UNDER: &[Row] = &[
+    (&[0, 69], &[0, 68], Cmp::Greater),
+    (&[0, 69], &[68], Cmp::Greater),
+    (&[0, 68], &[69], Cmp::Unknown),
+];
+
 #[test]
 fn compares_many_variables_under_an_order_of_them(rt: HostRuntime) -> Result<(), Fail> {
-    let alloc = rt.alloc();
-    let order = equal_weights(alloc)?;
-    let cases = single_classes(alloc, 70)?;
-    let greater = product(alloc, 0, 69)?;
-    let less = product(alloc, 0, 68)?;
-    for (s, t, verdict) in [
-        (&greater, &less, Cmp::Greater),
-        (&greater, &inverse(alloc, 68)?, Cmp::Greater),
-        (&less, &inverse(alloc, 69)?, Cmp::Unknown),
-    ] {
-        assert!(rt; compared_under(&order, &cases, s, t) == Some(verdict));
+    let order = equal_weights(rt.alloc())?;
+    let cases = single_classes(rt.alloc(), 70)?;
+    for row in MANY_UNDER {
+        assert!(rt; is_so_under(rt.alloc(), &order, &cases, row)?);
     }
     Ok(())
 }
@@ -180,6 +203,20 @@ fn compare_at(
     Ok(true)
 }
 
+// The same of the two terms on the stack.
+fn holds_at_once(
+    alloc: Global,
+    order: &Kbo,
+    around: &Term,
+    at: Pos,
+    stack: &mut Vec<Term>,
+    want: Cmp,
+) -> Result<bool, TermFault> {
+    let t = pop(alloc, stack)?;
+    let s = pop(alloc, stack)?;
+    compare_at(alloc, order, around, at, (&s, &t), want)
+}
+
 // The same of the two terms before each verdict.
 fn holds_at(
     alloc: Global,
@@ -191,9 +228,7 @@ fn holds_at(
     let mut stack: Vec<Term> = Vec::new(alloc);
     for letter in rows {
         if let Some(want) = verdict(*letter) {
-            let t = pop(alloc, &mut stack)?;
-            let s = pop(alloc, &mut stack)?;
-            if !compare_at(alloc, order, around, at, (&s, &t), want)? {
+            if !holds_at_once(alloc, order, around, at, &mut stack, want)? {
                 return Ok(false);
             }
         } else {
@@ -212,20 +247,18 @@ fn holds_within(
 ) -> Result<bool, TermFault> {
     let levels = u32::try_from(variables.len()).unwrap_or(0);
     let left = comb(alloc, variables, false)?;
+    if !holds_at(alloc, order, &left, Pos(levels), rows)? {
+        return Ok(false);
+    }
     let right = comb(alloc, variables, true)?;
-    Ok(
-        holds_at(alloc, order, &left, Pos(levels), rows)?
-            && holds_at(alloc, order, &right, Pos(levels.saturating_mul(2)), rows)?,
-    )
+    holds_at(alloc, order, &right, Pos(levels.saturating_mul(2)), rows)
 }
 
 // So many numbers, from 0 on and after each `period` of them from 0 again.
-fn numbers(alloc: Global, count: u32, period: u32) -> Result<Vec<u32>, AllocError>
-    requires { 0 < period }
-{
+fn numbers(alloc: Global, count: u32, period: u32) -> Result<Vec<u32>, AllocError> {
     let mut numbers = Vec::new(alloc);
     for k in 0..count {
-        numbers.push(k % period)?;
+        numbers.push(k.checked_rem(period).unwrap_or(0))?;
     }
     Ok(numbers)
 }
@@ -237,13 +270,21 @@ const WITHIN: &[u8] = b"aiei>eiai<aa=aamei>eiaam<XY?aamYi?YXmYYm?aamYmYieim?aYme
 // Each level has a variable of its own, or one of 700; counting them anew at each level would take minutes.
 #[test]
 fn compares_combs_of_many_variables(rt: HostRuntime) -> Result<(), Fail> {
-    let alloc = rt.alloc();
-    let order = equal_weights(alloc)?;
-    let single = numbers(alloc, 2000, 2000)?;
-    assert!(rt; holds_within(alloc, &order, &single, WITHIN)?);
-    let repeated = numbers(alloc, 1500, 700)?;
-    assert!(rt; holds_within(alloc, &order, &repeated, WITHIN)?);
+    let order = equal_weights(rt.alloc())?;
+    for (count, period) in [(2000, 2000), (1500, 700)] {
+        assert!(rt; holds_within_so_many(rt.alloc(), &order, count, period)?);
+    }
     Ok(())
+}
+
+fn holds_within_so_many(
+    alloc: Global,
+    order: &Kbo,
+    count: u32,
+    period: u32,
+) -> Result<bool, TermFault> {
+    let variables = numbers(alloc, count, period)?;
+    holds_within(alloc, order, &variables, WITHIN)
 }
 
 // Variables on both sides of where the counters end.
@@ -254,16 +295,34 @@ const ABSENT: [u32; 8] = [62, 65, 4094, 4097, 8190, 8193, 16383, u32::MAX - 1];
 // A term with each of the variables once has them all, but none twice, and no others.
 #[test]
 fn compares_far_variables(rt: HostRuntime) -> Result<(), Fail> {
-    let alloc = rt.alloc();
-    let order = equal_weights(alloc)?;
-    assert!(rt; holds_within(alloc, &order, &FAR, WITHIN)?);
-    let all = comb(alloc, &FAR, false)?;
-    for x in FAR {
-        assert!(rt; compare_so(&order, &all, &inverse(alloc, x)?, Cmp::Greater));
-        assert!(rt; compare_so(&order, &all, &product(alloc, x, x)?, Cmp::Unknown));
+    let order = equal_weights(rt.alloc())?;
+    assert!(rt; holds_within(rt.alloc(), &order, &FAR, WITHIN)?);
+    let all = comb(rt.alloc(), &FAR, false)?;
+    for x in &FAR {
+        assert!(rt; has_once(rt.alloc(), &order, &all, *x)?);
     }
-    for x in ABSENT {
-        assert!(rt; compare_so(&order, &all, &inverse(alloc, x)?, Cmp::Unknown));
+    for x in &ABSENT {
+        assert!(rt; is_beside(rt.alloc(), &order, &all, &[*x], Cmp::Unknown)?);
     }
     Ok(())
+}
+
+// Whether the term compares so with a small one.
+fn is_beside(
+    alloc: Global,
+    order: &Kbo,
+    term: &Term,
+    variables: &[u32],
+    want: Cmp,
+) -> Result<bool, TermFault> {
+    let other = small(alloc, variables)?;
+    Ok(compare_so(order, term, &other, want))
+}
+
+// Whether the term has the variable, but not twice.
+fn has_once(alloc: Global, order: &Kbo, term: &Term, x: u32) -> Result<bool, TermFault> {
+    Ok(
+        is_beside(alloc, order, term, &[x], Cmp::Greater)?
+            && is_beside(alloc, order, term, &[x, x], Cmp::Unknown)?,
+    )
 }

@@ -13,10 +13,10 @@ use std::test::Fail;
 use uc_kbo::Kbo;
 use uc_lpo::Lpo;
 use uc_order::{
-    OrderFault, check_precedence, class_number, class_of, first_of_class, represent,
+    OrderFault, VarOrder, check_precedence, class_number, class_of, first_of_class, represent,
     representative, var_orders,
 };
-use uc_term::{Sym, Symbols};
+use uc_term::{Sym, Symbols, TermFault};
 
 // Four constants, three unary symbols, two binary ones, and one each with four arguments and with 24.
 const NAMES: &[(&[u8], u32)] = &[
@@ -138,14 +138,29 @@ fn counts_orders_of_variables(rt: HostRuntime) -> Result<(), Fail> {
 // Below all the variable 1, and 2 and 0 in one class, whose first is 2.
 #[test]
 fn replaces_variables_of_a_class(rt: HostRuntime) -> Result<(), Fail> {
-    let g = rt.alloc();
-    let cases = read_classes(g, b"Y|ZX|")?;
-    let found = represent(g, &cases, &term(g, b"XY7ah")?)?;
-    assert!(rt; is_term(g, &found, b"ZY7ah")?);
-    assert!(rt; representative(&cases, 0) == 2 && first_of_class(cases.classes(), 1) == 1);
-    assert!(rt; class_of(&cases, 1) == 0 && class_of(&cases, 0) == 1);
-    assert!(rt; class_number(cases.classes(), 7) == 2);
+    let cases = read_classes(rt.alloc(), b"Y|ZX|")?;
+    assert!(rt; are_represented(rt.alloc(), &cases, b"XY7ah", b"ZY7ah")?);
+    assert!(rt; has_classes(&cases));
     Ok(())
+}
+
+fn are_represented(
+    g: Global,
+    cases: &VarOrder,
+    letters: &[u8],
+    want: &[u8],
+) -> Result<bool, TermFault> {
+    let term = term(g, letters)?;
+    let found = represent(g, cases, &term)?;
+    is_term(g, &found, want)
+}
+
+fn has_classes(cases: &VarOrder) -> bool {
+    representative(cases, 0) == 2
+        && first_of_class(cases.classes(), 1) == 1
+        && class_of(cases, 1) == 0
+        && class_of(cases, 0) == 1
+        && class_number(cases.classes(), 7) == 2
 }
 
 const SIGNATURE: &[Sym] = &[A, F, B];

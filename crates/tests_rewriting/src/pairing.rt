@@ -5,9 +5,10 @@ ghost use Rattle.uc_pair.specs.Overlapping.{IsFormedOf};
 
 use crate::orders::lpo_of;
 use crate::terms::{A, B, F, G, M, Pair, WIDE, equation, is_term, term};
+use crate::unifying::double;
 use std::alloc::Global;
 use std::test::Fail;
-use uc_fact::Side;
+use uc_fact::{Chain, Side};
 use uc_lpo::Lpo;
 use uc_pair::{Formation, Formed, Size, overlaps, pair_of};
 use uc_term::{Equation, Sym, Term, TermFault};
@@ -31,15 +32,26 @@ fn is_row(g: Global, a: &Equation, b: &Equation, formed: &Formed, row: &Row) -> 
     if overlap.outer_side != row.0 || overlap.inner_side != row.1 || overlap.position.0 != row.2 {
         return Ok(false);
     }
-    let Formation::Pair { left, right, chain } = pair_of(g, overlap, a, b)? else {
-        return Ok(false);
-    };
+    match pair_of(g, overlap, a, b)? {
+        Formation::Pair { left, right, chain } => is_pair(g, formed, &left, &right, &chain, row),
+        Formation::TooLarge => Ok(false),
+    }
+}
+
+fn is_pair(
+    g: Global,
+    formed: &Formed,
+    left: &Term,
+    right: &Term,
+    chain: &Chain,
+    row: &Row,
+) -> Result<bool, Fail> {
     let steps = chain.steps.as_slice();
     if steps.len() != 2 || formed.size != Size::Weight(left.nodes() + right.nodes()) {
         return Ok(false);
     }
-    let sides_are = is_term(g, &left, row.3)? && is_term(g, &right, row.4)?;
-    Ok(sides_are && chain.start.same(&left) && steps[1].to.same(&right))
+    let sides_are = is_term(g, left, row.3)? && is_term(g, right, row.4)?;
+    Ok(sides_are && chain.start.same(left) && steps[1].to.same(right))
 }
 
 fn are_rows(
@@ -97,15 +109,21 @@ const OVERLAPS: &[(Pair, Pair, &[Row])] = &[
 ];
 
 fn has_overlaps(g: Global, outer: Pair, inner: Pair, rows: &[Row]) -> Result<bool, Fail> {
-    let order = order(g)?;
     let a = equation(g, outer)?;
     let b = equation(g, inner)?;
     if a.left.same(&b.left) && a.right.same(&b.right) {
-        let list = overlaps(g, 0, &a, 0, &a, &order)?;
-        return are_rows(g, &a, &a, list.as_slice(), rows);
+        return has_own_overlaps(g, &a, rows);
     }
+    let order = order(g)?;
     let list = overlaps(g, 1, &a, 2, &b, &order)?;
     are_rows(g, &a, &b, list.as_slice(), rows)
+}
+
+// Whether these are the overlaps of an equation with its own copy.
+fn has_own_overlaps(g: Global, a: &Equation, rows: &[Row]) -> Result<bool, Fail> {
+    let order = order(g)?;
+    let list = overlaps(g, 0, a, 0, a, &order)?;
+    are_rows(g, a, a, list.as_slice(), rows)
 }
 
 #[test]
@@ -121,12 +139,11 @@ fn wide(g: Global, with_pairs: bool) -> Result<Term, Fail> {
     let mut args: Vec<Term> = Vec::new(g);
     for i in 1..13u32 {
         args.push(Term::var(g, i)?)?;
-        if with_pairs {
-            let pair = [Term::var(g, i)?, Term::var(g, i)?];
-            args.push(Term::app(g, M, &pair)?)?;
+        args.push(if with_pairs {
+            double(g, i)?
         } else {
-            args.push(Term::var(g, i + 1)?)?;
-        }
+            Term::var(g, i + 1)?
+        })?;
     }
     if args.len() > 255 {
         return Err(Fail::from("too many arguments"));
@@ -174,26 +191,35 @@ fn large_overlaps(g: Global, a: &Equation, b: &Equation) -> Result<usize, Fail> 
 // term of 8,191 nodes.
 #[test]
 fn a_unifier_may_be_too_large(rt: HostRuntime) -> Result<(), Fail> {
-    let g = rt.alloc();
-    let (a, b) = (
-        with_right(g, wide(g, true)?, b"a")?,
-        with_right(g, wide(g, false)?, b"b")?,
-    );
-    assert!(rt; overlaps(g, 1, &a, 2, &b, &order(g)?)?.is_empty());
-    assert!(rt; large_overlaps(g, &b, &a)? == 1);
+    let a = with_right(rt.alloc(), wide(rt.alloc(), true)?, b"a")?;
+    let b = with_right(rt.alloc(), wide(rt.alloc(), false)?, b"b")?;
+    assert!(rt; has_none(rt.alloc(), &a, &b)?);
+    assert!(rt; large_overlaps(rt.alloc(), &b, &a)? == 1);
     Ok(())
+}
+
+// Whether an equation has no overlap with another one behind it.
+fn has_none(g: Global, a: &Equation, b: &Equation) -> Result<bool, Fail> {
+    let order = order(g)?;
+    Ok(overlaps(g, 1, a, 2, b, &order)?.is_empty())
 }
 
 // f(X) = a with f(Y) = a, and X has the largest number.
 #[test]
 fn equal_sides_are_told(rt: HostRuntime) -> Result<(), Fail> {
-    let g = rt.alloc();
-    let a = with_right(g, Term::app(g, F, &[Term::var(g, u32::MAX)?])?, b"a")?;
-    let b = equation(g, (b"0f", b"a"))?;
-    let list = overlaps(g, 1, &a, 0, &b, &order(g)?)?;
-    let [formed] = list.as_slice() else {
-        return Err(Fail::from("not one overlap"));
-    };
-    assert!(rt; formed.size == Size::Same);
+    let args = [Term::var(rt.alloc(), u32::MAX)?];
+    let a = with_right(rt.alloc(), Term::app(rt.alloc(), F, &args)?, b"a")?;
+    let b = equation(rt.alloc(), (b"0f", b"a"))?;
+    assert!(rt; only_size(rt.alloc(), &a, &b)? == Some(Size::Same));
     Ok(())
+}
+
+// The size of the overlap of an equation with another one before it, where it is the only one.
+fn only_size(g: Global, a: &Equation, b: &Equation) -> Result<Option<Size>, Fail> {
+    let order = order(g)?;
+    let list = overlaps(g, 1, a, 0, b, &order)?;
+    match list.as_slice() {
+        [formed] => Ok(Some(formed.size)),
+        _ => Ok(None),
+    }
 }

@@ -8,7 +8,7 @@ use std::test::Fail;
 use uc_fact::{By, Equation, Found, Index, Side, Stop};
 use uc_lpo::Lpo;
 use uc_rewrite::{Normal, Scan, normalise, normalise_under};
-use uc_term::{Sym, TermFault};
+use uc_term::{Seq, Sym, TermFault};
 
 // Two constants, a binary symbol and two unary ones, the least first.
 const PRECEDENCE: &[Sym] = &[A, B, M, F, G];
@@ -100,13 +100,24 @@ const NORMALISED: &[Normalised] = &[
 
 #[test]
 fn normalises_by_the_first_step(rt: HostRuntime) -> Result<(), Fail> {
-    let g = rt.alloc();
-    for (facts, start, limit, rows, stop) in NORMALISED {
-        let facts = equations(g, facts)?;
-        let normal = normalise(g, &term(g, start)?, &scan(&facts)?, &order(g)?, *limit)?;
-        assert!(rt; normal.stop == *stop && ends_so(g, &normal, start, rows)?);
+    for case in NORMALISED {
+        assert!(rt; normalises_so(rt.alloc(), case)?);
     }
     Ok(())
+}
+
+fn normalises_so(g: Global, case: &Normalised) -> Result<bool, Fail> {
+    let facts = equations(g, case.0)?;
+    let normal = normalised(g, &facts, case.1, case.2)?;
+    Ok(normal.stop == case.4 && ends_so(g, &normal, case.1, case.3)?)
+}
+
+// What a term comes to by these facts, by so many steps at most.
+fn normalised(g: Global, facts: &Vec<Equation>, start: &[u8], limit: u32) -> Result<Normal, Fail> {
+    let scan = scan(facts)?;
+    let order = order(g)?;
+    let start = term(g, start)?;
+    Ok(normalise(g, &start, &scan, &order, limit)?)
 }
 
 // f(X) = m(X,X)
@@ -114,10 +125,8 @@ const DOUBLES: &[Pair] = &[(b"Xf", b"XXm")];
 
 #[test]
 fn a_term_of_4096_nodes_is_the_last(rt: HostRuntime) -> Result<(), Fail> {
-    let g = rt.alloc();
-    let facts = equations(g, DOUBLES)?;
-    let start = term(g, b"affffffffffff")?;
-    let grown = normalise(g, &start, &scan(&facts)?, &order(g)?, 4096)?;
+    let facts = equations(rt.alloc(), DOUBLES)?;
+    let grown = normalised(rt.alloc(), &facts, b"affffffffffff", 4096)?;
     assert!(rt; grown.chain.steps.len() == 11 && grown.term.nodes() == 4096);
     assert!(rt; grown.stop == Stop::Size);
     Ok(())
@@ -154,31 +163,54 @@ const NORMALISED_UNDER: &[NormalisedUnder] = &[
 
 #[test]
 fn normalises_under_an_order_of_variables(rt: HostRuntime) -> Result<(), Fail> {
-    let g = rt.alloc();
-    let facts = equations(g, COMMUTES)?;
-    for (classes, start, limit, first, rows, stop) in NORMALISED_UNDER {
-        let cases = read_classes(g, classes)?;
-        let start = term(g, start)?;
-        if !has_only(&cases, &start) {
-            return Err(Fail::from("another variable"));
-        }
-        let normal = normalise_under(g, &cases, &start, &scan(&facts)?, &order(g)?, *limit)?;
-        assert!(rt; normal.stop == *stop && ends_so(g, &normal, first, rows)?);
+    let facts = equations(rt.alloc(), COMMUTES)?;
+    for case in NORMALISED_UNDER {
+        assert!(rt; normalises_so_under(rt.alloc(), &facts, case)?);
     }
     Ok(())
 }
 
+fn normalises_so_under(
+    g: Global,
+    facts: &Vec<Equation>,
+    case: &NormalisedUnder,
+) -> Result<bool, Fail> {
+    let normal = normalised_under(g, facts, case)?;
+    Ok(normal.stop == case.5 && ends_so(g, &normal, case.3, case.4)?)
+}
+
+fn normalised_under(
+    g: Global,
+    facts: &Vec<Equation>,
+    case: &NormalisedUnder,
+) -> Result<Normal, Fail> {
+    let scan = scan(facts)?;
+    let order = order(g)?;
+    let cases = read_classes(g, case.0)?;
+    let start = term(g, case.1)?;
+    if !has_only(&cases, &start) {
+        return Err(Fail::from("another variable"));
+    }
+    Ok(normalise_under(g, &cases, &start, &scan, &order, case.2)?)
+}
+
 #[test]
 fn a_scan_finds_both_sides(rt: HostRuntime) -> Result<(), Fail> {
-    let g = rt.alloc();
-    let facts = equations(g, TURNED)?;
+    let facts = equations(rt.alloc(), TURNED)?;
     let scan = scan(&facts)?;
-    let found = scan.generalisations(g, term(g, b"bam")?.as_nodes())?;
-    assert!(rt; found.len() == 2 && scan.pair(1).is_some() && scan.pair(2).is_none());
+    assert!(rt; scan.pair(1).is_some() && scan.pair(2).is_none());
+    let found = found_for(rt.alloc(), &scan, b"bam")?;
+    assert!(rt; found.len() == 2);
     for one in found.as_slice() {
-        assert!(rt; one.fact == 0 && has_b(g, one)?);
+        assert!(rt; one.fact == 0 && has_b(rt.alloc(), one)?);
     }
     Ok(())
+}
+
+// What the scan finds for a term.
+fn found_for(g: Global, scan: &Scan, letters: &[u8]) -> Result<Seq<Found>, TermFault> {
+    let term = term(g, letters)?;
+    Ok(scan.generalisations(g, term.as_nodes())?)
 }
 
 // Whether the variable of the side that was found is b.
@@ -211,17 +243,25 @@ const SIDES: &[(&[u8], &[(u32, Side)])] = &[
 
 #[test]
 fn a_repeated_variable_is_one_term(rt: HostRuntime) -> Result<(), Fail> {
-    let g = rt.alloc();
-    let facts = equations(g, REPEATS)?;
+    let facts = equations(rt.alloc(), REPEATS)?;
+    let scan = scan(&facts)?;
     for (start, want) in SIDES {
-        let found = scan(&facts)?.generalisations(g, term(g, start)?.as_nodes())?;
-        let mut sides = Vec::new(g);
-        for one in found.as_slice() {
-            sides.push((one.fact, one.side))?;
-        }
-        assert!(rt; sides.as_slice() == *want);
+        let found = found_for(rt.alloc(), &scan, start)?;
+        assert!(rt; are_sides(found.as_slice(), want));
     }
     Ok(())
+}
+
+fn are_sides(found: &[Found], want: &[(u32, Side)]) -> bool {
+    if found.len() != want.len() {
+        return false;
+    }
+    for (one, (fact, side)) in found.iter().zip(want) {
+        if one.fact != *fact || one.side != *side {
+            return false;
+        }
+    }
+    true
 }
 
 // plus(zero,Y) = Y, plus(s(X),Y) = s(plus(X,Y)), times(zero,Y) = zero and times(s(X),Y) = plus(Y,times(X,Y)), where the
@@ -233,21 +273,21 @@ const NUMERALS: &[Pair] = &[
     (b"XfYp", b"YXYpm"),
 ];
 
+const BY_NUMERALS: &[Sym] = &[A, F, M, P];
+
 // Maude 3.2 makes 19 rewrites of three times four.
 #[test]
 fn three_times_four(rt: HostRuntime) -> Result<(), Fail> {
-    let g = rt.alloc();
-    let facts = equations(g, NUMERALS)?;
-    let precedence = [A, F, M, P];
-    let order = lpo_of(g, &precedence, &precedence)?;
-    let last = normalise(
-        g,
-        &term(g, b"afffaffffp")?,
-        &scan(&facts)?,
-        &order,
-        1_000_000,
-    )?;
+    let last = product(rt.alloc(), b"afffaffffp")?;
     assert!(rt; last.chain.steps.len() == 19 && last.stop == Stop::Full);
-    assert!(rt; is_term(g, &last.term, b"affffffffffff")?);
+    assert!(rt; is_term(rt.alloc(), &last.term, b"affffffffffff")?);
     Ok(())
+}
+
+fn product(g: Global, letters: &[u8]) -> Result<Normal, Fail> {
+    let facts = equations(g, NUMERALS)?;
+    let scan = scan(&facts)?;
+    let order = lpo_of(g, BY_NUMERALS, BY_NUMERALS)?;
+    let start = term(g, letters)?;
+    Ok(normalise(g, &start, &scan, &order, 1_000_000)?)
 }

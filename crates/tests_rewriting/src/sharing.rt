@@ -1,16 +1,15 @@
 //! Questions that several workers answer, held at a gate.
 
-use crate::deciding::{ASSOCIATIVE, Answer, BY_WEIGHT, is_answer};
+use crate::deciding::{ASSOCIATIVE, Answer, BY_WEIGHT, is_answer, system};
 use crate::orders::kbo_of;
-use crate::terms::{Pair, equations, term};
+use crate::terms::{Pair, term};
 use std::alloc::Global;
 use std::sync::atomic::{AtomicBool, AtomicU64, Ordering};
 use std::test::Fail;
 use std::thread;
 use std::thread::Threads;
-use uc_decide::ask_all;
+use uc_decide::{Reply, ask_all};
 use uc_edge::Gate;
-use uc_fact::System;
 use uc_kbo::Kbo;
 use uc_term::{Seq, Term};
 
@@ -114,19 +113,36 @@ fn are_replied<R: Threads + Sync>(
     tickets: u64,
     workers: u32,
 ) -> Result<bool, Fail> {
-    let system = System {
-        facts: Seq::from_vec(equations(g, ASSOCIATIVE)?),
-    };
+    let gate = Holding::new(workers);
+    let replies = replies_of(rt, g, order, rows, workers, &gate)?;
+    if !gate.is_right(rows.len() as u64, tickets) {
+        return Ok(false);
+    }
+    are_right(g, replies.as_slice(), rows)
+}
+
+// The replies to the questions by so many workers.
+fn replies_of<R: Threads + Sync>(
+    rt: &R,
+    g: Global,
+    order: &Kbo,
+    rows: &[(Pair, Answer)],
+    workers: u32,
+    gate: &Holding,
+) -> Result<Seq<Reply>, Fail> {
+    let system = system(g, ASSOCIATIVE)?;
     if system.facts.len() > 99 || workers < 1 || workers > 64 {
         return Err(Fail::from("too many"));
     }
     let questions = questions_of(g, rows)?;
-    let gate = Holding::new(workers);
-    let replies = ask_all(rt, g, &system, order, &questions, 1, workers, &gate)?;
-    if replies.len() != rows.len() || !gate.is_right(rows.len() as u64, tickets) {
+    Ok(ask_all(rt, g, &system, order, &questions, 1, workers, gate)?)
+}
+
+fn are_right(g: Global, replies: &[Reply], rows: &[(Pair, Answer)]) -> Result<bool, Fail> {
+    if replies.len() != rows.len() {
         return Ok(false);
     }
-    for (reply, row) in replies.as_slice().iter().zip(rows) {
+    for (reply, row) in replies.iter().zip(rows) {
         if !is_answer(g, reply, &row.1)? {
             return Ok(false);
         }
