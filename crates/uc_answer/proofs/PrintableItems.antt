@@ -4,7 +4,7 @@ use Rattle.uc_term.specs.declared.node.Sym.{Sym}
 use Rattle.uc_term.specs.Tree.{Tree, Trees, count, nodes, nodes_all}
 use Rattle.uc_term.specs.Over.{AreOver}
 use Rattle.uc_term.specs.Table.{Table, Entry as Row, IsSymbol, name_of, arity_of}
-use Rattle.std.specs.Prelude.{bytes_eq}
+use Rattle.std.specs.Prelude.{bytes_eq, if◌then◌else◌}
 use Rattle.std.specs.List.{list_any, AllByRecursion}
 use Rattle.std.proofs.lemmas.List.{length-append, length-map}
 use Rattle.std.proofs.lemmas.Option.{slice_get_within}
@@ -109,16 +109,16 @@ picked (Some w) at v end e = let same : v ≡ w = cc in ap Some (sym same)
 
 -- NAMES OF VARIABLES
 
+name_count : (seen : Variables) (x : List ℕ) → length (with_name seen x) ≤ length seen + 1
+name_count seen x = go (list_any (bytes_eq x) seen)
+  where
+    go : (b : Bool) → length (if b then seen else seen ++ x ∷ []) ≤ length seen + 1
+    go true = omega arith
+    go false = omega (arith, length-append seen (x ∷ []))
+
 names_count : (seen : Variables) (xs : List (List ℕ)) → length (with_names seen xs) ≤ length seen + length xs
 names_count seen [] = omega arith
-names_count seen (x ∷ xs) = go (list_any (bytes_eq x) seen) refl
-  where
-    go : (b : Bool) → list_any (bytes_eq x) seen ≡ b → length (with_names (with_name seen x) xs) ≤ length seen + suc (length xs)
-    go true e = let r : with_name seen x ≡ seen = rw e refl in subst (λ (names : Variables). length (with_names names xs) ≤ length seen + suc (length xs)) (sym r) (let l = names_count seen xs in omega (arith, l))
-    go false e =
-        let r : with_name seen x ≡ seen ++ x ∷ [] = rw e refl in
-        let more = names_count (seen ++ x ∷ []) xs in
-        subst (λ (names : Variables). length (with_names names xs) ≤ length seen + suc (length xs)) (sym r) (omega (arith, more, length-append seen (x ∷ [])))
+names_count seen (x ∷ xs) = let rest = names_count (with_name seen x) xs in omega (arith, rest, name_count seen x)
 
 mutual
   count_variables : (p : Parse) → length (variables_parsed p) ≤ size p

@@ -2,6 +2,7 @@
 use Rattle.std.proofs.Common.{Bool, ◌⊎◌, inl, inr, ℕ, zero, suc, ◌≡◌, ◌<◌, ◌≤◌, ◌+◌, ◌^◌, List, [], ◌∷◌, ◌++◌, length, map, slice_get, get_or, Some, Result, Ok, Err, refl, sym, ap, ◌∙◌, subst, arith}
 use Rattle.std.proofs.lemmas.List.{length-map}
 use Rattle.std.proofs.lemmas.Option.{slice_get_within, slice_get-get_or}
+use Rattle.std.specs.List.{AllByRecursion}
 use Rattle.std.specs.Result.{IfOk}
 use Rattle.std.specs.declared.alloc.AllocError.{AllocError}
 use Rattle.uc_term.specs.declared.node.Sym.{Sym}
@@ -9,7 +10,7 @@ use Rattle.uc_term.specs.declared.equation.Equation.{Equation}
 use Rattle.uc_term.specs.Tree.{var}
 use Rattle.uc_term.specs.Table.{Table, Has}
 use Rattle.uc_term.specs.Variables.{variables, firsts, renumbered_by}
-use Rattle.uc_term.proofs.Gets.{get-map}
+use Rattle.uc_term.proofs.Gets.{get-map, map-get}
 use Rattle.uc_check.specs.declared.proof.Line.{Line}
 use Rattle.uc_check.specs.declared.proof.Proof.{Proof}
 use Rattle.uc_check.specs.Checks.{AreRightBefore}
@@ -38,9 +39,8 @@ use Rattle.uc_runs.proofs.Replayed.{live_named}
 use Rattle.uc_runs.proofs.Saturating.{saturated}
 use Rattle.uc_runs.proofs.WrittenFacts.{facts_numbered}
 use Rattle.uc_proof.specs.declared.aim.Aim.TheVariants as aim
-use Rattle.uc_proof.specs.declared.part.Part.{Part}
 use Rattle.uc_proof.specs.Chains.{AreBorn}
-use Rattle.uc_proof.specs.Extracted.{AreNumbersOf, HaveLines, AreDerivedFacts}
+use Rattle.uc_proof.specs.Extracted.{HaveLines, AreDerivedFacts}
 use Rattle.uc_proof.proofs.Right.{all_right, fact_count}
 use Rattle.uc_proof.proofs.FactLines.{have_lines, as_many_numbers}
 use Rattle.uc_proof.proofs.Sources.{IsFrom, from_clause, from_reflexive, from_goal, axiom_from}
@@ -49,8 +49,7 @@ use Rattle.uc_system.specs.declared.system.SystemText.{SystemText}
 use Rattle.uc_system.specs.Reading.{precedence_of}
 use Rattle.uc_system.specs.Printing.{IsSpecOf, IsEquationOf}
 use Rattle.uc_certificate.specs.declared.certificate.Certificate.{Certificate}
-use Rattle.uc_certificate.specs.declared.border.Border.TheVariants.{Start}
-use Rattle.uc_certificate.specs.Headings.{is_border, HasNoLine}
+use Rattle.uc_certificate.specs.Headings.{HasNoLine}
 use Rattle.uc_certificate.specs.Printable.{IsPrintableCertificate}
 use Rattle.uc_certificate.specs.Printing.{certificate_text, IsCertificateOf}
 use Rattle.uc_certificate.specs.Reading.{ReadsCertificate}
@@ -64,7 +63,7 @@ use Rattle.uc_certify.proofs.PrintableJoins.{made_of_table}
 use Rattle.uc_words.specs.declared.command.Command.{Command}
 use Rattle.uc_ordering.specs.Fits.{Fits}
 use Rattle.uc_ordering.specs.Meaning.{meaning_of}
-use Rattle.uc_answer.specs.CertificateLines.{live_numbers, IsCertificateFor, IsReadBack}
+use Rattle.uc_answer.specs.CertificateLines.{live_numbers, begins_certificate, IsCertificateFor, IsReadBack}
 use Rattle.uc_answer.specs.VerdictLines.{HasEnded}
 use Rattle.uc_answer.proofs.SearchEnds.{o, laws, reaches, verdict_is, replay, opens, encoding, parts_of, each_at}
 use Rattle.uc_answer.proofs.SpecSymbols.{known_symbol}
@@ -113,12 +112,24 @@ derived_before facts fs lines numbers born_as numbered have k fact h at =
       right_is = line.right_is ∙ ap (λ (e : Equation). renumbered_by (firsts (variables e.left ++ variables e.right)) e.right) same ∙ n.right;
     }
 
--- numbers of parts are numbers of lines
-within : (plan : List Part) (fs numbers : List ℕ) (count : ℕ) → length plan ≡ count → AreNumbersOf plan fs numbers → AreNumbers count numbers
-within plan [] [] count e h = tt
-within plan [] (n ∷ ns) count e h = absurd h
-within plan (f ∷ fs) [] count e h = absurd h
-within plan (f ∷ fs) (n ∷ ns) count e h = ((let w = slice_get_within plan n _ h.0 in omega (arith, w, e)), within plan fs ns count e h.1)
+all_at : (P : ℕ → Type 0) (xs : List ℕ) → ((k x : ℕ) → slice_get xs k ≡ Some x → P x) → AllByRecursion P xs
+all_at P [] h = tt
+all_at P (x ∷ xs) h = (h 0 x refl, all_at P xs (λ k y e. h (suc k) y e))
+
+-- the numbers are those of lines
+numbers_within : (facts : List Fact) (fs : List Live) (lines : List Line) (numbers : List ℕ) → Each (IsBornAs facts) fs → length numbers ≡ length fs → HaveLines facts lines (map (λ (f : Live). f.number) fs) numbers → AreNumbers (length lines) numbers
+numbers_within facts fs lines numbers born_as many have = all_at (λ number. number < length lines) numbers each
+  where
+    each : (k x : ℕ) → slice_get numbers k ≡ Some x → x < length lines
+    each k x at =
+        let d : Live = record { number = 0; equation = record { left = var 0; right = var 0 } } in
+        let within : k < length fs = (let w = slice_get_within numbers k x at in omega (arith, w, many)) in
+        let f = get_or fs k d in
+        let there : slice_get fs k ≡ Some f = slice_get-get_or fs k d within in
+        let g = get-map equation_of facts f.number f.equation (each_at (IsBornAs facts) fs born_as k f there) in
+        let line = have k f.number g.0 (map-get (λ (h : Live). h.number) fs k f there) g.1 in
+        let same : x ≡ line.number = let z : Some x ≡ Some line.number = sym at ∙ line.number_is in cc in
+        subst (λ (n : ℕ). n < length lines) (sym same) (slice_get_within lines line.number line.line line.line_is)
 
 -- THE ORDER'S SYMBOLS
 
@@ -224,8 +235,11 @@ module _ (table : Table) (command : Command) (problem : Problem) (encoded : Enco
     pub many_files : length files ≡ length c.lines.lines
     many_files = as_many_files problem encoded (born s.entries) (aim.Facts (live_numbers s)) c.lines.lines files is_for.derived.derivation
 
-    many_parts : length is_for.derived.derivation.plan ≡ length c.lines.lines
-    many_parts = sym (ap length is_for.derived.derivation.files_are ∙ length-map is_for.derived.derivation.plan _) ∙ many_files
+    have : HaveLines (born s.entries) c.lines.lines (live_numbers s) c.facts
+    have = have_lines problem encoded (born s.entries) (live_numbers s) c.lines.lines files is_for.derived.derivation c.facts is_for.derived.numbers_are
+
+    many_numbers : length c.facts ≡ length (live s.entries)
+    many_numbers = as_many_numbers is_for.derived.derivation.plan (live_numbers s) c.facts is_for.derived.numbers_are ∙ length-map (live s.entries) (λ (f : Live). f.number)
 
     pub of_table : IsCertificateOf table c
     of_table =
@@ -234,12 +248,12 @@ module _ (table : Table) (command : Command) (problem : Problem) (encoded : Enco
           spec = subst (λ (t : SystemText). IsSpecOf table t.spec) text (spec_of_table table encoded.signature.symbols spec h.fits);
           system = subst (λ (t : SystemText). Each (IsEquationOf table) t.system.facts) text (facts_of_table table command problem encoded spec s h facts refl);
           lines = proof_lines_of table problem encoded (born s.entries) (aim.Facts (live_numbers s)) c.lines.lines files (parts_of table command problem encoded spec Saturated s h) tt is_for.derived.derivation;
-          as_many = as_many_numbers is_for.derived.derivation.plan (live_numbers s) c.facts is_for.derived.numbers_are ∙ length-map (live s.entries) (λ (f : Live). f.number) ∙ sym (length-map (live s.entries) (λ (f : Live). f.equation)) ∙ ap (λ (t : SystemText). length t.system.facts) text;
-          facts = within is_for.derived.derivation.plan (live_numbers s) c.facts (length c.lines.lines) many_parts is_for.derived.numbers_are;
+          as_many = many_numbers ∙ sym (length-map (live s.entries) (λ (f : Live). f.equation)) ∙ ap (λ (t : SystemText). length t.system.facts) text;
+          facts = numbers_within (born s.entries) (live s.entries) c.lines.lines c.facts born_as many_numbers have;
           joins = made_of_table m (laws table command problem encoded spec Saturated s h) table facts encoded.axioms (facts_over table command problem encoded spec s h) axioms_over (symbols_in table encoded.signature.symbols (Has table) h.fits.of_table spec h.fits) c.joins is_for.made;
         }
 
     -- its text
-    pub told_text : (r : Result (List ℕ) AllocError) → IfOk r (λ text. text ≡ certificate_text table files c) → (IsPrintableCertificate table files c → (before behind : List ℕ) → HasNoLine (is_border Start) before → IfOk r (λ text. ReadsCertificate table (before ++ text ++ behind) (Ok c))) → IfOk r (IsReadBack table problem encoded spec s)
+    pub told_text : (r : Result (List ℕ) AllocError) → IfOk r (λ text. text ≡ certificate_text table files c) → (IsPrintableCertificate table files c → (before behind : List ℕ) → HasNoLine begins_certificate before → IfOk r (λ text. ReadsCertificate table (before ++ text ++ behind) (Ok c))) → IfOk r (IsReadBack table problem encoded spec s)
     told_text (Ok text) is reads = record { is_text = record { files = files; certificate = c; is_for = is_for; text_is = is }; read_back = reads }
     told_text (Err fault) is reads = tt

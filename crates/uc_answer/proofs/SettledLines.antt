@@ -22,23 +22,23 @@ use Rattle.uc_system.specs.Printable.{IsPrintableSystem}
 use Rattle.uc_system.proofs.Decimals.{all_append, decimal_in_line}
 use Rattle.uc_system.proofs.FactTexts.{fact_readable}
 use Rattle.uc_system.proofs.TextsInLine.{InLine, spelling_in_line, fact_in_line}
-use Rattle.uc_certificate.specs.declared.border.Border.TheVariants.{Start}
-use Rattle.uc_certificate.specs.Headings.{is_border, HasNoLine, nothing_stands, other_stands}
+use Rattle.uc_certificate.specs.Headings.{HasNoLine, nothing_stands, other_stands}
 use Rattle.uc_certificate.proofs.LinesPassed.{no_line_both}
+use Rattle.uc_answer.specs.CertificateLines.{begins_certificate}
 use Rattle.uc_answer.specs.StatusLines.{line_for}
 
 abbrev pub HasNone : List ℕ → Type 0
-HasNone text = HasNoLine (is_border Start) text
+HasNone text = HasNoLine begins_certificate text
 
 -- one line
-one_line : (line : List ℕ) → InLine line → is_border Start line ≡ false → HasNone (ended line)
+one_line : (line : List ℕ) → InLine line → begins_certificate line ≡ false → HasNone (ended line)
 one_line line all other = other_stands all other nothing_stands
 
 pub both : (a b : List ℕ) → HasNone a → HasNone b → HasNone (a ++ b)
-both a b h k = no_line_both (is_border Start) b h k
+both a b h k = no_line_both begins_certificate b h k
 
 -- the line of a problem's name, behind these words
-pub title_line : (words name : List ℕ) → InLine words → IsProofName name → is_border Start (words ++ codes " for " ++ name) ≡ false → HasNone (line_for words name)
+pub title_line : (words name : List ℕ) → InLine words → IsProofName name → begins_certificate (words ++ codes " for " ++ name) ≡ false → HasNone (line_for words name)
 title_line words name all named other = one_line (words ++ codes " for " ++ name) (all_append in_line (words ++ codes " for ") name (all_append in_line words (codes " for ") all refl) named.1) other
 
 low_weight : (w : ℕ) → (1000000 < w → ⊥) → w < 2 ^ 64

@@ -1,5 +1,6 @@
 -- The certificate behind a printed system.
-use Rattle.std.specs.Prelude.{ℕ, ◌≡◌, ◌+◌, ◌<◌, ◌^◌, ◌++◌, Bool, true, false, List, [], length, map, Ok}
+use Rattle.std.specs.Prelude.{ℕ, ◌≡◌, ◌+◌, ◌<◌, ◌^◌, ◌++◌, nat_eq, Bool, true, false, List, [], length, map, Ok}
+use Rattle.std.specs.List.{starts_with}
 use Rattle.uc_term.specs.Table.{Table}
 use Rattle.uc_problem.specs.declared.problem.Problem.{Problem}
 use Rattle.uc_problem.specs.declared.problem.Encoded.{Encoded}
@@ -9,13 +10,16 @@ use Rattle.uc_shelf.specs.Entries.{born, live}
 use Rattle.uc_machine.specs.State.{State}
 use Rattle.uc_proof.specs.Extracted.{AreDerivedFacts}
 use Rattle.uc_certificate.specs.declared.certificate.Certificate.{Certificate}
-use Rattle.uc_certificate.specs.declared.border.Border.TheVariants.{Start}
-use Rattle.uc_certificate.specs.Headings.{is_border, HasNoLine}
+use Rattle.uc_certificate.specs.Headings.{certificate_words, HasNoLine}
 use Rattle.uc_certificate.specs.Reading.{ReadsCertificate}
 use Rattle.uc_certificate.specs.Printing.{certificate_text}
 use Rattle.uc_certificate.specs.Printable.{IsPrintableCertificate}
 use Rattle.uc_certify.specs.Making.{AreAllMade}
 use Rattle.uc_ordering.specs.Meaning.{meaning_of}
+
+-- the line begins as that of a certificate does
+abbrev pub begins_certificate : List ℕ → Bool
+begins_certificate line = starts_with nat_eq line certificate_words
 
 -- the numbers of the facts that live
 abbrev pub live_numbers : State → List ℕ
@@ -41,7 +45,7 @@ module _ (table : Table) (problem : Problem) (encoded : Encoded) (spec : OrderSp
   -- as a certificate does, whatever stands behind it. What `run` promises of the text follows from this, since it can be printed.
   pub record IsReadBack (text : List ℕ) : Type 0 where
     pub is_text : IsCertificateText text
-    pub read_back : IsPrintableCertificate table is_text.files is_text.certificate → (before behind : List ℕ) → HasNoLine (is_border Start) before → ReadsCertificate table (before ++ text ++ behind) (Ok is_text.certificate)
+    pub read_back : IsPrintableCertificate table is_text.files is_text.certificate → (before behind : List ℕ) → HasNoLine begins_certificate before → ReadsCertificate table (before ++ text ++ behind) (Ok is_text.certificate)
 
   -- There are numbers for the lines of a derivation.
   abbrev pub HasFewLines : Type 0

@@ -4,7 +4,7 @@ ghost use Rattle.std.specs.Prelude.{◌≡◌, ◌<◌, ◌≤◌, ◌^◌, ◌+
 ghost use Rattle.uc_shelf.specs.Entries.{born};
 ghost use Rattle.uc_machine.specs.declared.event.Verdict.TheVariants.{Saturated};
 ghost use Rattle.uc_proof.specs.Extracted.{AreDerivedFacts};
-ghost use Rattle.uc_ordering.specs.Meaning.{meaning_of};
+ghost use Rattle.uc_ordering.specs.Chosen.{IsOrderOf};
 ghost use Rattle.uc_answer.specs.Lines.{joined};
 ghost use Rattle.uc_answer.specs.CertificateLines.{live_numbers, IsReadBack, HasFewLines, IsReadBackIf};
 ghost use Rattle.uc_answer.specs.VerdictLines.{HasEnded};
@@ -15,6 +15,7 @@ use uc_book::Book;
 use uc_certificate::print_certificate;
 use uc_certify::make_certificate;
 use uc_order::Order;
+use uc_ordering::Chosen;
 use uc_proof::{Extracted, extract_facts_from};
 use uc_search::{all_facts, live_numbers, live_system};
 use uc_term::{Seq, Text};
@@ -25,9 +26,9 @@ pub(crate) fn certified<O: Order>(
     closed: &Closed,
     lines: Seq<Text>,
     book: &Book<O>,
-    order: &O,
+    order: &Chosen,
 ) -> Result<Seq<Text>, AllocError>
-    requires order { O.meaning order.now ≡ meaning_of closed.now.symbols.now closed.now.spec.now }
+    requires order { IsOrderOf closed.now.symbols.now closed.now.spec.now order.now }
     requires shelf { book.now.opening.shelf ≡ closed.now.shelf.now }
     requires problem { book.now.opening.problem ≡ closed.now.encoded.now }
     requires ended { HasEnded closed.now.symbols.now closed.now.command.now closed.now.problem.now closed.now.encoded.now closed.now.spec.now Saturated book.now.state }
@@ -47,9 +48,9 @@ fn certificate_text<O: Order>(
     alloc: Global,
     closed: &Closed,
     book: &Book<O>,
-    order: &O,
+    order: &Chosen,
 ) -> Result<Text, AllocError>
-    requires order { O.meaning order.now ≡ meaning_of closed.now.symbols.now closed.now.spec.now }
+    requires order { IsOrderOf closed.now.symbols.now closed.now.spec.now order.now }
     requires shelf { book.now.opening.shelf ≡ closed.now.shelf.now }
     requires problem { book.now.opening.problem ≡ closed.now.encoded.now }
     requires ended { HasEnded closed.now.symbols.now closed.now.command.now closed.now.problem.now closed.now.encoded.now closed.now.spec.now Saturated book.now.state }

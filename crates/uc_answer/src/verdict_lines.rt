@@ -6,7 +6,7 @@ ghost use Rattle.uc_shelf.specs.Entries.{live};
 ghost use Rattle.uc_machine.specs.declared.event.Verdict.TheVariants.{Proved, Saturated};
 ghost use Rattle.uc_worker.specs.Commits.{shares_of};
 ghost use Rattle.uc_worker.specs.Hands.{hands_of};
-ghost use Rattle.uc_ordering.specs.Meaning.{meaning_of};
+ghost use Rattle.uc_ordering.specs.Chosen.{IsOrderOf};
 ghost use Rattle.uc_system.specs.Printing.{system_text};
 ghost use Rattle.uc_answer.specs.Lines.{joined};
 ghost use Rattle.uc_answer.specs.PrintableProblems.{CanBePrinted};
@@ -23,6 +23,7 @@ use std::alloc::{AllocError, Global};
 use uc_book::Book;
 use uc_machine::Verdict;
 use uc_order::{Order, OrderSpec};
+use uc_ordering::Chosen;
 use uc_problem::{Encoded, Problem};
 use uc_proof::extract_from;
 use uc_search::{all_facts, live_system};
@@ -51,11 +52,11 @@ pub fn verdict_answer<O: Order>(
     alloc: Global,
     closed: &Closed,
     book: &Book<O>,
-    order: &O,
+    order: &Chosen,
     shares: &[u64],
     verdict: Verdict,
 ) -> Result<Answer, AllocError>
-    requires order { O.meaning order.now ≡ meaning_of closed.now.symbols.now closed.now.spec.now }
+    requires order { IsOrderOf closed.now.symbols.now closed.now.spec.now order.now }
     requires shelf { book.now.opening.shelf ≡ closed.now.shelf.now }
     requires problem { book.now.opening.problem ≡ closed.now.encoded.now }
     requires ended { HasEnded closed.now.symbols.now closed.now.command.now closed.now.problem.now closed.now.encoded.now closed.now.spec.now verdict book.now.state }
@@ -109,10 +110,10 @@ fn verdict_lines<O: Order>(
     alloc: Global,
     closed: &Closed,
     book: &Book<O>,
-    order: &O,
+    order: &Chosen,
     verdict: Verdict,
 ) -> Result<Seq<Text>, AllocError>
-    requires order { O.meaning order.now ≡ meaning_of closed.now.symbols.now closed.now.spec.now }
+    requires order { IsOrderOf closed.now.symbols.now closed.now.spec.now order.now }
     requires shelf { book.now.opening.shelf ≡ closed.now.shelf.now }
     requires problem { book.now.opening.problem ≡ closed.now.encoded.now }
     requires ended { HasEnded closed.now.symbols.now closed.now.command.now closed.now.problem.now closed.now.encoded.now closed.now.spec.now verdict book.now.state }
@@ -195,9 +196,9 @@ fn saturated_lines<O: Order>(
     alloc: Global,
     closed: &Closed,
     book: &Book<O>,
-    order: &O,
+    order: &Chosen,
 ) -> Result<Seq<Text>, AllocError>
-    requires order { O.meaning order.now ≡ meaning_of closed.now.symbols.now closed.now.spec.now }
+    requires order { IsOrderOf closed.now.symbols.now closed.now.spec.now order.now }
     requires shelf { book.now.opening.shelf ≡ closed.now.shelf.now }
     requires problem { book.now.opening.problem ≡ closed.now.encoded.now }
     requires ended { HasEnded closed.now.symbols.now closed.now.command.now closed.now.problem.now closed.now.encoded.now closed.now.spec.now Saturated book.now.state }
