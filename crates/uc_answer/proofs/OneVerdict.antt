@@ -24,7 +24,7 @@ use Rattle.uc_words.specs.declared.command.Command.{Command}
 use Rattle.uc_answer.specs.StatusLines.{status_line}
 use Rattle.uc_answer.proofs.OneCertificate.{certificate_if_once}
 use Rattle.uc_answer.specs.LimitLines.{overlap_line, IsLimitLine, budget_is_spent, limit_is_passed, pair_is_large, step_is_large}
-use Rattle.uc_answer.specs.VerdictLines.{IsProofText, VerdictAnswers, is_proved, is_saturated, is_out}
+use Rattle.uc_answer.specs.VerdictLines.{saturation_text, IsProofText, VerdictAnswers, is_proved, is_saturated, is_out}
 use Rattle.uc_term.proofs.OnePath.{path_once}
 
 module _ (command : Command) (s : State) where

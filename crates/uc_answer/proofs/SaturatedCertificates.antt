@@ -129,7 +129,8 @@ numbers_within facts fs lines numbers born_as many have = all_at (λ number. num
         let g = get-map equation_of facts f.number f.equation (each_at (IsBornAs facts) fs born_as k f there) in
         let line = have k f.number g.0 (map-get (λ (h : Live). h.number) fs k f there) g.1 in
         let same : x ≡ line.number = let z : Some x ≡ Some line.number = sym at ∙ line.number_is in cc in
-        subst (λ (n : ℕ). n < length lines) (sym same) (slice_get_within lines line.number line.line line.line_is)
+        let inside = slice_get_within lines line.number line.line line.line_is in
+        omega (arith, inside, same)
 
 -- THE ORDER'S SYMBOLS
 
