@@ -75,7 +75,7 @@ module _ (files : Files) (loaded table : Table) (distinct : IsDistinct table) (c
 
 module _ (files : Files) (before now : ℕ) (well : Rose before now → ⊥) (words : List (List ℕ)) (old new : Option (List ℕ)) where
   whole : {status result : ℕ} {text : List ℕ} → MayAnswer (Some files) before now words status text → Appends old new text → result ≡ status → CompletesProve files words old new result
-  whole wants_memory written e command name loaded table problem encoded spec reads is_prove plain names distinct held adds encodes is_chosen = rw e (lacks_memory written)
+  whole wants_memory written e command name loaded table problem encoded spec reads is_prove names distinct held adds encodes is_chosen = rw e (lacks_memory written)
   whole {status} {result} {text} (is_answer a) written e command name loaded table problem encoded spec reads is_prove names distinct held adds encodes is_chosen = go (of_verb (Some files) before now words verb.Prove is_prove reads a)
     where
       go : OfProve (Some files) before now command status text → ProveEnds files command name old new result
