@@ -4,3 +4,6 @@ pub mod Signature
 pub mod Axioms
 pub mod Problems
 pub mod Once
+pub mod Classes
+pub mod NormalConstants
+pub mod Over

@@ -20,3 +20,10 @@ generated_once table n start a b d x y =
     let f : x.f ≡ y.f = one_symbol table x.f y.f function_name 1 d x.is_f y.is_f in
     let constants : x.constants ≡ y.constants = same_elements x.constants y.constants (x.are_constants.count ∙ sym y.are_constants.count) (λ i c e p q. one_symbol table c e (constant_name i) 0 d (x.are_constants.each i c p) (y.are_constants.each i e q)) in
     x.problem_is ∙ ap₂ (λ (g : Sym) (cs : List Sym). problem_of g cs start) f constants ∙ sym y.problem_is
+
+behind_head : {f g : Sym} {fs gs : List Sym} → Path (List Sym) (f ∷ fs) (g ∷ gs) → fs ≡ gs
+behind_head e = cc
+
+-- its constants are those of its signature
+pub same_constants : (table other : Table) (n start : ℕ) (a b : Problem) (x : IsGenerated table n start a) (y : IsGenerated other n start b) → a ≡ b → x.constants ≡ y.constants
+same_constants table other n start a b x y e = behind_head (sym (ap (λ (p : Problem). p.signature.symbols) x.problem_is) ∙ ap (λ (p : Problem). p.signature.symbols) e ∙ ap (λ (p : Problem). p.signature.symbols) y.problem_is)

@@ -8,7 +8,8 @@ use Rattle.uc_term.specs.Tree.{Tree, app, none, more}
 use Rattle.uc_term.specs.Table.{Table, Entry, IsSymbol, Has, IsOf, name_of, arity_of}
 use Rattle.uc_term.specs.Gathering.{AreOf}
 use Rattle.uc_term.specs.Signatures.{Gathers, all_seen, is_new, occurrences_from, first_named, first_constant, has_constant}
-use Rattle.uc_gen.specs.Generated.{function_name, constant_name, AreConstants, signature_of, HasTerms}
+use Rattle.uc_ordering.specs.Premises.{IsSignature}
+use Rattle.uc_gen.specs.Generated.{function_name, constant_name, AreConstants, signature_of}
 use Rattle.uc_gen.proofs.Names.{constant_named, not_function}
 
 abbrev constant : Sym → Tree
@@ -18,7 +19,7 @@ module _ (table : Table) where
   named : (f : Sym) (name : List ℕ) (arity : ℕ) → IsSymbol table f name arity → name_of table f ≡ name
   named f name arity s = ap (λ o. (unwrap_or o (let e : Entry = record { name = []; arity = 0 } in e)).name) s
 
-  arity_is : (f : Sym) (name : List ℕ) (arity : ℕ) → IsSymbol table f name arity → arity_of table f ≡ arity
+  pub arity_is : (f : Sym) (name : List ℕ) (arity : ℕ) → IsSymbol table f name arity → arity_of table f ≡ arity
   arity_is f name arity s = ap (λ o. (unwrap_or o (let e : Entry = record { name = []; arity = 0 } in e)).arity) s
 
   has : (f : Sym) (name : List ℕ) (arity : ℕ) → IsSymbol table f name arity → Has table f
@@ -93,7 +94,7 @@ module _ (table : Table) where
     constant_over : (c : Sym) (k : ℕ) → IsSymbol table c (constant_name k) 0 → IsOf table (constant c)
     constant_over c k s = (has c (constant_name k) 0 s, sym (arity_is c (constant_name k) 0 s), tt)
 
-    pub signature_has : (constants : List Sym) → 1 ≤ n → AreConstants table n constants → HasTerms table (signature_of f constants)
+    pub signature_has : (constants : List Sym) → 1 ≤ n → AreConstants table n constants → IsSignature table (signature_of f constants)
     signature_has [] some are = absurd (omega (arith, some, are.count))
     signature_has (c ∷ rest) some are =
         let first : IsSymbol table c (constant_name 0) 0 = are.each 0 c refl in

@@ -2,10 +2,8 @@
 use Rattle.std.specs.Prelude.{ℕ, zero, suc, ◌≡◌, ◌+◌, ◌*◌, ◌%◌, true, false, List, [], ◌∷◌, ◌++◌, length, slice_get, unwrap_or, codes, decimal, Some, None}
 use Rattle.uc_term.specs.declared.node.Sym.{Sym}
 use Rattle.uc_term.specs.declared.signature.Signature.{Signature}
-use Rattle.uc_term.specs.Tree.{Tree, app, none, more}
+use Rattle.uc_term.specs.Tree.{app, none, more}
 use Rattle.uc_term.specs.Table.{Table, IsSymbol}
-use Rattle.uc_term.specs.Gathering.{AreOf}
-use Rattle.uc_term.specs.Signatures.{IsSignatureOf}
 use Rattle.uc_clause.specs.declared.token.Place.{Place}
 use Rattle.uc_clause.specs.declared.clause.Role.TheVariants.{Axiom}
 use Rattle.uc_clause.specs.declared.clause.Sourced.{Sourced}
@@ -107,11 +105,3 @@ pub record IsGenerated (table : Table) (n start : ℕ) (problem : Problem) : Typ
   pub constants : List Sym
   pub are_constants : AreConstants table n constants
   pub problem_is : problem ≡ problem_of f constants start
-
--- WHAT A SIGNATURE IS
-
--- it is the signature of some terms over the table
-pub record HasTerms (table : Table) (signature : Signature) : Type 0 where
-  pub terms : List Tree
-  pub over : AreOf table terms
-  pub signature_is : IsSignatureOf table terms signature

@@ -1,2 +1,4 @@
 pub mod Sequence
 pub mod Generated
+pub mod Counting
+pub mod Options

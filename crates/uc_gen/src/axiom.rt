@@ -64,7 +64,7 @@ fn three_times(alloc: Global, place: Place) -> Result<Seq<Place>, AllocError>
 }
 
 /// Returns a symbol with these arguments.
-fn term_of(alloc: Global, sym: Sym, args: &[Term]) -> Result<Term, AllocError>
+pub(crate) fn term_of(alloc: Global, sym: Sym, args: &[Term]) -> Result<Term, AllocError>
     requires few { length args.now ≤ 255 }
     requires small { nodes (app sym (of_list args.now)) ≤ 4096 }
     ensures { IfOk result (λ term. term ≡ app sym (of_list args.now)) }

@@ -2,8 +2,9 @@
 
 ghost use Rattle.std.specs.Prelude.{◌≡◌, ◌<◌, ◌≤◌, ◌%◌, ◌^◌, length, IfOk};
 ghost use Rattle.uc_term.specs.Table.{Grows, IsDistinct, IsInterned};
+ghost use Rattle.uc_ordering.specs.Premises.{IsSignature};
 ghost use Rattle.uc_gen.specs.Sequence.{drawn};
-ghost use Rattle.uc_gen.specs.Generated.{IsGenerated, AreConstants, HasTerms, with_symbols, with_constants, constant_name, constant_at, first_axioms, first_numbers, signature_of};
+ghost use Rattle.uc_gen.specs.Generated.{IsGenerated, AreConstants, with_symbols, with_constants, constant_name, constant_at, first_axioms, first_numbers, signature_of};
 
 use crate::axiom::{axiom, named};
 use crate::sequence::{drawn, next};
@@ -29,7 +30,7 @@ pub fn generate(
     ensures generated { IfOk result (IsGenerated symbols.new n start) }
     ensures interns { IfOk result (λ _. symbols.new ≡ with_symbols symbols.old n) }
     ensures distinct { IfOk result (λ _. IsDistinct symbols.new) }
-    ensures signature { IfOk result (λ problem. HasTerms symbols.new problem.signature) }
+    ensures signature { IfOk result (λ problem. IsSignature symbols.new problem.signature) }
     ensures grows { Grows symbols.old symbols.new }
 {
     let function = symbols.intern(alloc, b"f", 1)?;
