@@ -13,7 +13,6 @@ use Rattle.uc_check.specs.declared.checker.Checked.{Checked}
 use Rattle.uc_check.specs.declared.checker.Checked.TheVariants.{Accepted, Rejected}
 use Rattle.uc_check.specs.Clauses.{axioms_of, goals_of}
 use Rattle.uc_check.specs.Checks.{AreRightBefore, EndsInRefutation, IsChecked, accepted, rejected, no_line, no_refutation}
-use Rattle.uc_words.specs.declared.command.Verb.{Verb}
 use Rattle.uc_words.specs.declared.command.Verb.TheVariants as verb
 use Rattle.uc_words.specs.declared.command.Command.{Command}
 use Rattle.uc_words.specs.Reads.{Reads}
@@ -50,7 +49,7 @@ use Rattle.uc_answer.specs.Lines.{joined, load_line, proof_line}
 use Rattle.uc_answer.specs.Refusals.{large_line, load_status}
 use Rattle.uc_top.specs.Runs.{HasProof, IsCertified}
 use Rattle.uc_top.specs.FileAnswers.{is_absent, isnt_fetched, is_found}
-use Rattle.uc_top.specs.Answers.{IsBuilt, TextAnswers, is_not_read, is_checked, ProofAnswers, ProblemAnswers, has_large_goal, is_marked, LoadAnswers, CheckAnswers, fetch_fails, is_refused, is_loaded}
+use Rattle.uc_top.specs.Answers.{TextAnswers, is_not_read, is_checked, ProofAnswers, ProblemAnswers, has_large_goal, is_marked, LoadAnswers, CheckAnswers, fetch_fails, is_refused, is_loaded}
 use Rattle.uc_top.specs.Loaded.{IsLoaded}
 use Rattle.uc_top.proofs.FileAnswering.{earlier_file}
 
@@ -278,23 +277,6 @@ one_name (x ∷ y ∷ ys) a low high p = absurd (omega arith)
 pub name_and_more : (names : List (List ℕ)) (a : List ℕ) → 1 ≤ length names → a ≡ get_or names 0 a → names ≡ a ∷ take (length names - 1) (drop 1 names)
 name_and_more [] a low p = absurd (omega arith)
 name_and_more (x ∷ xs) a low p = ap₂ (λ y ys. y ∷ ys) (sym p) (sym (take_all (length (x ∷ xs) - 1) xs (omega arith)))
-
-pub not_built : (v : Verb) → (v ≡ verb.Check → ⊥) → (v ≡ verb.Show → ⊥) → (v ≡ verb.Order → ⊥) → (v ≡ verb.Rewrite → ⊥) → (v ≡ verb.Pairs → ⊥) → (v ≡ verb.Prove → ⊥) → (v ≡ verb.Decide → ⊥) → (v ≡ verb.Table → ⊥) → (v ≡ verb.Model → ⊥) → (v ≡ verb.Certify → ⊥) → IsBuilt v → ⊥
-not_built verb.Check n m o r p q d t l f b = n refl
-not_built verb.Show n m o r p q d t l f b = m refl
-not_built verb.Order n m o r p q d t l f b = o refl
-not_built verb.Prove n m o r p q d t l f b = q refl
-not_built verb.Decide n m o r p q d t l f b = d refl
-not_built verb.Rewrite n m o r p q d t l f b = r refl
-not_built verb.Pairs n m o r p q d t l f b = p refl
-not_built verb.Gen n m o r p q d t l f b = b
-not_built verb.Table n m o r p q d t l f b = t refl
-not_built verb.Model n m o r p q d t l f b = l refl
-not_built verb.Certify n m o r p q d t l f b = f refl
-
-pub usage_not_done : (Q : Answer → Type 0) (r : Result Answer AllocError) (line : List ℕ) → IfOk r (λ answer. (answer.status ≡ 4) × (joined answer.lines ≡ line)) → IfOk r (λ answer. answer.status ≡ 0 → Q answer)
-usage_not_done Q (Ok answer) line h = λ e. absurd (omega (arith, h.0, e))
-usage_not_done Q (Err fault) line h = tt
 
 -- words have one command, so what is certified of it is certified of the words
 pub certified_by : (words : List (List ℕ)) (command : Command) (holds : Option Files) (r : Result Answer AllocError) → Reads words command → (command.verb ≡ verb.Check → IfOk r (λ answer. answer.status ≡ 0 → (files : Files) → holds ≡ Some files → IsCertified files command)) → IfOk r (λ answer. answer.status ≡ 0 → (files : Files) → holds ≡ Some files → (other : Command) → Reads words other → other.verb ≡ verb.Check → IsCertified files other)

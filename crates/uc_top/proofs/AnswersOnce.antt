@@ -31,6 +31,7 @@ use Rattle.uc_top.proofs.CheckEnding.{check_answers_once}
 use Rattle.uc_top.proofs.SearchLaws.{OneSearch}
 use Rattle.uc_top.proofs.ProveOnce.{prove_answers_once}
 use Rattle.uc_top.proofs.DecideOnce.{decided_once}
+use Rattle.uc_top.proofs.GenOnce.{gen_once}
 use Rattle.uc_top.proofs.VariableWeights.{w0_within}
 use Rattle.uc_top.proofs.ByVerb.{IsUsage, OfProve, OfDecide, Of, of_command, read_or_not}
 
@@ -93,7 +94,7 @@ module _ (files : Files) (before now again later : ℕ) where
         let names : named ∷ other ∷ [] ≡ name ∷ word ∷ [] = sym q ∙ p in
         rewrite_once k.order k.limit word k.root name v w x (subst (λ n. RewriteAnswers (Some files) again later k.order k.limit word k.root n t b) (first_name names) (subst (λ u. RewriteAnswers (Some files) again later k.order k.limit u k.root named t b) (second_name names) y))
     verb_once verb.Pairs k within {t = t} {b = b} alone v w (name, p, x) (named, q, y) = pairs_once k.order k.root name v w x (subst (λ n. PairsAnswers (Some files) again later k.order k.root n t b) (only_name (sym q ∙ p)) y)
-    verb_once verb.Gen k within alone v w x y = usage_once x y
+    verb_once verb.Gen k within alone v w x y = gen_once one_search k (λ few. alone few tt) x y
     verb_once verb.Table k within {t = t} {b = b} alone v w (name, file, p, x) (named, other, q, y) =
         let names : named ∷ other ∷ [] ≡ name ∷ file ∷ [] = sym q ∙ p in
         table_once k.root name file v w x (subst (λ n. TableAnswers (Some files) again later k.root n file t b) (first_name names) (subst (λ n. TableAnswers (Some files) again later k.root named n t b) (second_name names) y))

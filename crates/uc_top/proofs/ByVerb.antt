@@ -7,8 +7,9 @@ use Rattle.uc_words.specs.declared.command.Verb.TheVariants as verb
 use Rattle.uc_words.specs.Reads.{Reads}
 use Rattle.uc_words.proofs.Only.{only}
 use Rattle.uc_answer.specs.Lines.{usage_line}
-use Rattle.uc_top.specs.Answers.{IsBuilt, CheckAnswers, ShowAnswers, OrderAnswers, RewriteAnswers, PairsAnswers, DecideAnswers, TableAnswers, ModelAnswers, CertifyAnswers, Answers, has_no_reading, isnt_built, checks, shows, orders, rewrites, pairs_up, proves, decides, tables, models, certifies}
+use Rattle.uc_top.specs.Answers.{CheckAnswers, ShowAnswers, OrderAnswers, RewriteAnswers, PairsAnswers, DecideAnswers, TableAnswers, ModelAnswers, CertifyAnswers, Answers, has_no_reading, checks, shows, orders, rewrites, pairs_up, proves, decides, tables, models, certifies, generates}
 use Rattle.uc_top.specs.ProveAnswers.{ProveAnswers}
+use Rattle.uc_top.specs.GenAnswers.{GenAnswers}
 
 module _ (holds : Option Files) (before now : ℕ) where
   abbrev pub IsUsage : ℕ → List ℕ → Type 0
@@ -29,23 +30,10 @@ module _ (holds : Option Files) (before now : ℕ) where
   Of verb.Decide k status text = OfDecide k status text
   Of verb.Rewrite k status text = (name : List ℕ) × (word : List ℕ) × (k.positionals ≡ name ∷ word ∷ []) × RewriteAnswers holds before now k.order k.limit word k.root name status text
   Of verb.Pairs k status text = (name : List ℕ) × (k.positionals ≡ name ∷ []) × PairsAnswers holds before now k.order k.root name status text
-  Of verb.Gen k status text = IsUsage status text
+  Of verb.Gen k status text = GenAnswers k status text
   Of verb.Table k status text = (name : List ℕ) × (file : List ℕ) × (k.positionals ≡ name ∷ file ∷ []) × TableAnswers holds before now k.root name file status text
   Of verb.Certify k status text = (name : List ℕ) × (file : List ℕ) × (k.positionals ≡ name ∷ file ∷ []) × CertifyAnswers holds before now k.root name file status text
   Of verb.Model k status text = (name : List ℕ) × (k.positionals ≡ name ∷ []) × ModelAnswers holds before now k name status text
-
-  not_of : (v : Verb) (k : Command) → (IsBuilt v → ⊥) → Of v k 4 usage_line
-  not_of verb.Check k n = absurd (n tt)
-  not_of verb.Show k n = absurd (n tt)
-  not_of verb.Order k n = absurd (n tt)
-  not_of verb.Prove k n = absurd (n tt)
-  not_of verb.Decide k n = absurd (n tt)
-  not_of verb.Rewrite k n = absurd (n tt)
-  not_of verb.Pairs k n = absurd (n tt)
-  not_of verb.Gen k n = (refl, refl)
-  not_of verb.Table k n = absurd (n tt)
-  not_of verb.Model k n = absurd (n tt)
-  not_of verb.Certify k n = absurd (n tt)
 
   module _ (words : List (List ℕ)) where
     -- the answer of a command that the words are, which is the only one
@@ -54,7 +42,6 @@ module _ (holds : Option Files) (before now : ℕ) where
 
     pub of_command : {command : Command} {status : ℕ} {text : List ℕ} → Reads words command → Answers holds before now words status text → Of command.verb command status text
     of_command {command} x (has_no_reading n) = absurd (n command x)
-    of_command x (isnt_built {command = other} y n) = of_other other.verb 4 usage_line x y refl (not_of other.verb other n)
     of_command {status = status} {text = text} x (checks {name = name} {proof = proof} y v p a) = of_other verb.Check status text x y v (name, proof, p, a)
     of_command {status = status} {text = text} x (shows {name = name} y v p a) = of_other verb.Show status text x y v (name, p, a)
     of_command {status = status} {text = text} x (orders {name = name} y v p a) = of_other verb.Order status text x y v (name, p, a)
@@ -64,6 +51,7 @@ module _ (holds : Option Files) (before now : ℕ) where
     of_command {status = status} {text = text} x (tables {name = name} {file = file} y v p a) = of_other verb.Table status text x y v (name, file, p, a)
     of_command {status = status} {text = text} x (models {name = name} y v p a) = of_other verb.Model status text x y v (name, p, a)
     of_command {status = status} {text = text} x (certifies {name = name} {file = file} y v p a) = of_other verb.Certify status text x y v (name, file, p, a)
+    of_command {status = status} {text = text} x (generates y v a) = of_other verb.Gen status text x y v a
     of_command {status = status} {text = text} x (decides {name = name} {questions = questions} y v p a) = of_other verb.Decide status text x y v (name, questions, p, a)
 
     -- the same by the command's verb
@@ -73,7 +61,6 @@ module _ (holds : Option Files) (before now : ℕ) where
     -- whether the words are a command
     pub read_or_not : (status : ℕ) (text : List ℕ) → Answers holds before now words status text → ((command : Command) × Reads words command) ⊎ (((command : Command) → Reads words command → ⊥) × IsUsage status text)
     read_or_not status text (has_no_reading n) = inr (n, (refl, refl))
-    read_or_not status text (isnt_built {command = other} y n) = inl (other, y)
     read_or_not status text (checks {command = other} y v p a) = inl (other, y)
     read_or_not status text (shows {command = other} y v p a) = inl (other, y)
     read_or_not status text (orders {command = other} y v p a) = inl (other, y)
@@ -84,3 +71,4 @@ module _ (holds : Option Files) (before now : ℕ) where
     read_or_not status text (tables {command = other} y v p a) = inl (other, y)
     read_or_not status text (models {command = other} y v p a) = inl (other, y)
     read_or_not status text (certifies {command = other} y v p a) = inl (other, y)
+    read_or_not status text (generates {command = other} y v a) = inl (other, y)

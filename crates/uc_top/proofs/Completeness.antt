@@ -14,6 +14,7 @@ use Rattle.uc_top.proofs.DecideCompleting.{decide_completes}
 use Rattle.uc_top.proofs.TableCompleting.{table_completes}
 use Rattle.uc_top.proofs.ModelCompleting.{model_completes}
 use Rattle.uc_top.proofs.CertifyCompleting.{certify_completes}
+use Rattle.uc_top.proofs.GenCompleting.{gen_completes}
 
 pub all_complete : (holds : Option Files) (before now : ℕ) (words : List (List ℕ)) (old new : Option (List ℕ)) (write_before write_now result : ℕ) → IsRun holds before now words old new write_before write_now result → (files : Files) → holds ≡ Some files → (Rose before now → ⊥) → (Rose write_before write_now → ⊥) → IsComplete files words old new result
 all_complete holds before now words old new write_before write_now result run files told fetched written = record {
@@ -27,4 +28,5 @@ all_complete holds before now words old new write_before write_now result run fi
   table = table_completes holds before now words old new write_before write_now result run files told fetched written;
   model = model_completes holds before now words old new write_before write_now result run files told fetched written;
   certify = certify_completes holds before now words old new write_before write_now result run files told fetched written;
+  gen = gen_completes holds before now words old new write_before write_now result run written;
 }

@@ -32,6 +32,7 @@ use Rattle.uc_top.specs.FileAnswers.{FileAnswers}
 use Rattle.uc_top.specs.TableAnswers.{TableTextAnswers}
 use Rattle.uc_top.specs.ModelAnswers.{IsModelled}
 use Rattle.uc_top.specs.CertifyAnswers.{CertificateAnswers}
+use Rattle.uc_top.specs.GenAnswers.{GenAnswers}
 use Rattle.uc_top.specs.OrderAnswers.{IsOrdered}
 use Rattle.uc_top.specs.RewriteAnswers.{IsRewritten}
 use Rattle.uc_top.specs.PairsAnswers.{IsPaired}
@@ -42,24 +43,11 @@ abbrev pub checked_status : Checked → ℕ
 checked_status Accepted = 0
 checked_status (Rejected line cause) = 1
 
--- the commands that are built
-abbrev pub IsBuilt : Verb → Type 0
-IsBuilt verb.Prove = Unit {0}
-IsBuilt verb.Check = Unit {0}
-IsBuilt verb.Show = Unit {0}
-IsBuilt verb.Order = Unit {0}
-IsBuilt verb.Rewrite = Unit {0}
-IsBuilt verb.Pairs = Unit {0}
-IsBuilt verb.Decide = Unit {0}
-IsBuilt verb.Table = Unit {0}
-IsBuilt verb.Model = Unit {0}
-IsBuilt verb.Certify = Unit {0}
-IsBuilt other = ⊥
-
--- the commands that are built and search, by as many workers as the words ask for
+-- the commands that search, by as many workers as the words ask for
 abbrev pub IsSearching : Verb → Type 0
 IsSearching verb.Prove = Unit {0}
 IsSearching verb.Decide = Unit {0}
+IsSearching verb.Gen = Unit {0}
 IsSearching other = ⊥
 
 -- where the words name a command that searches, they ask for one worker
@@ -137,11 +125,10 @@ module _ (holds : Option Files) (before now : ℕ) where
   abbrev pub CertifyAnswers : Option (List ℕ) → List ℕ → List ℕ → ℕ → List ℕ → Type 0
   CertifyAnswers root name file = LoadAnswers (CertificateAnswers holds before now file) root name
 
-  -- the answer to the words of a command line; each command that is built has a case
+  -- the answer to the words of a command line; each command has a case
   module _ (words : List (List ℕ)) where
     pub data Answers : ℕ → List ℕ → Type 0 where
       has_no_reading : ((command : Command) → Reads words command → ⊥) → Answers 4 usage_line
-      isnt_built : {command : Command} → Reads words command → (IsBuilt command.verb → ⊥) → Answers 4 usage_line
       checks : {command : Command} {name proof : List ℕ} {status : ℕ} {answer : List ℕ} → Reads words command → command.verb ≡ verb.Check → command.positionals ≡ name ∷ proof ∷ [] → CheckAnswers command.root name proof status answer → Answers status answer
       shows : {command : Command} {name : List ℕ} {status : ℕ} {answer : List ℕ} → Reads words command → command.verb ≡ verb.Show → command.positionals ≡ name ∷ [] → ShowAnswers command.root name status answer → Answers status answer
       orders : {command : Command} {name : List ℕ} {status : ℕ} {answer : List ℕ} → Reads words command → command.verb ≡ verb.Order → command.positionals ≡ name ∷ [] → OrderAnswers command.order command.root name status answer → Answers status answer
@@ -152,3 +139,4 @@ module _ (holds : Option Files) (before now : ℕ) where
       tables : {command : Command} {name file : List ℕ} {status : ℕ} {answer : List ℕ} → Reads words command → command.verb ≡ verb.Table → command.positionals ≡ name ∷ file ∷ [] → TableAnswers command.root name file status answer → Answers status answer
       models : {command : Command} {name : List ℕ} {status : ℕ} {answer : List ℕ} → Reads words command → command.verb ≡ verb.Model → command.positionals ≡ name ∷ [] → ModelAnswers command name status answer → Answers status answer
       certifies : {command : Command} {name file : List ℕ} {status : ℕ} {answer : List ℕ} → Reads words command → command.verb ≡ verb.Certify → command.positionals ≡ name ∷ file ∷ [] → CertifyAnswers command.root name file status answer → Answers status answer
+      generates : {command : Command} {status : ℕ} {answer : List ℕ} → Reads words command → command.verb ≡ verb.Gen → GenAnswers command status answer → Answers status answer

@@ -10,6 +10,7 @@ use Rattle.uc_top.specs.DecideRuns.{CompletesDecide}
 use Rattle.uc_top.specs.TableRuns.{CompletesTable}
 use Rattle.uc_top.specs.ModelRuns.{CompletesModel}
 use Rattle.uc_top.specs.CertifyRuns.{CompletesCertify}
+use Rattle.uc_top.specs.GenRuns.{CompletesGen}
 
 -- Where no fetch and no write fails, no command gives up: for words and files that a command accepts, its answer is told with its
 -- status, or memory is wanted.
@@ -24,3 +25,4 @@ pub record IsComplete (files : Files) (words : List (List ℕ)) (old new : Optio
   pub table : CompletesTable files words old new result
   pub model : CompletesModel files words old new result
   pub certify : CompletesCertify files words old new result
+  pub gen : CompletesGen words old new result

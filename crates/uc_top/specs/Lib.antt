@@ -8,6 +8,8 @@ pub mod FileAnswers
 pub mod TableAnswers
 pub mod ModelAnswers
 pub mod CertifyAnswers
+pub mod GenLines
+pub mod GenAnswers
 pub mod Told
 pub mod Faulting
 pub mod Answers
@@ -19,8 +21,10 @@ pub mod PairsRuns
 pub mod ProveRuns
 pub mod DecideRuns
 pub mod DecideTold
+pub mod GenTold
 pub mod TableRuns
 pub mod ModelRuns
 pub mod CertifyRuns
+pub mod GenRuns
 pub mod Completeness
 pub mod Headline

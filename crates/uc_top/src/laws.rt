@@ -17,6 +17,7 @@ ghost use Rattle.uc_top.specs.Runs.{IsRun, IsSettledStatus};
 ghost use Rattle.uc_top.specs.ProveRuns.{IsHeldAnswer};
 ghost use Rattle.uc_top.specs.DecideAnswers.{opening_of_axioms};
 ghost use Rattle.uc_top.specs.DecideRuns.{IsHeldDecision, KeepsDecision, Tells};
+ghost use Rattle.uc_top.specs.GenRuns.{CountsClasses};
 
 /// Words and the files of a library have at most one status and one text for an answer, whatever the command is, but where a fetch
 /// failed, or where several workers search and end with status 0, 1 or 2. So `Answers` says exactly where each refusal comes.
@@ -60,4 +61,10 @@ pub fn searches_are_short()
     ensures prove_rounds { (files : Files) (command : Command) (name : List ℕ) (s : ℕ) (a : List ℕ) (x : IsHeldAnswer files command name s a) → (one : command.workers ≡ 1) → rounds_in (x.searched.alone one).searches ≤ command.budget + 1 }
     ensures decide { (files : Files) (command : Command) (name : List ℕ) (asked : List (List ℕ)) (s : ℕ) (a : List ℕ) (x : IsHeldDecision files command name asked s a) → command.workers ≡ 1 → IsBounded (opening_of_axioms command x.problem) x.state }
     ensures decide_rounds { (files : Files) (command : Command) (name : List ℕ) (asked : List (List ℕ)) (s : ℕ) (a : List ℕ) (x : IsHeldDecision files command name asked s a) → (one : command.workers ≡ 1) → rounds_in (x.searched.alone one).searches ≤ command.budget + 1 }
+{}
+
+/// Of a generated problem one number of classes is told, whatever the budgets, the limits on pairs and the numbers of workers of the
+/// searches are.
+pub fn one_number()
+    ensures { (n start : ℕ) (a b : List ℕ) → CountsClasses n start a → CountsClasses n start b → a ≡ b }
 {}

@@ -5,6 +5,8 @@ mod axioms;
 mod certifying;
 mod checking;
 mod deciding;
+mod gen_lines;
+mod generating;
 mod laws;
 mod loading;
 mod modelling;
@@ -17,6 +19,8 @@ mod rewriting;
 mod showing;
 mod tabling;
 
-pub use laws::{chosen_order_fits, one_answer, one_history, one_line, one_run, searches_are_short};
+pub use laws::{
+    chosen_order_fits, one_answer, one_history, one_line, one_number, one_run, searches_are_short,
+};
 pub use output::tell_memory_out;
 pub use program::run;

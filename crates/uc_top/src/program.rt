@@ -5,7 +5,7 @@ ghost use Rattle.uc_edge.specs.Files.{Files};
 ghost use Rattle.std.specs.Io.KnownBytes.{Appends};
 ghost use Rattle.uc_edge.specs.Faults.{Rose, IsCounted};
 ghost use Rattle.uc_words.specs.declared.command.Command.{Command};
-ghost use Rattle.uc_words.specs.declared.command.Verb.TheVariants.{Check, Prove, Decide};
+ghost use Rattle.uc_words.specs.declared.command.Verb.TheVariants.{Check, Prove, Decide, Gen};
 ghost use Rattle.uc_words.specs.Reads.{Reads};
 ghost use Rattle.uc_words.specs.Table.{fits};
 ghost use Rattle.uc_answer.specs.Lines.{joined, usage_line};
@@ -16,6 +16,8 @@ ghost use Rattle.uc_top.specs.DecideRuns.{KeepsDecideCommand};
 ghost use Rattle.uc_top.specs.TableRuns.{KeepsTableWord};
 ghost use Rattle.uc_top.specs.ModelRuns.{KeepsModelWord};
 ghost use Rattle.uc_top.specs.CertifyRuns.{KeepsCertifyWord};
+ghost use Rattle.uc_top.specs.GenAnswers.{GenAnswers};
+ghost use Rattle.uc_top.specs.GenRuns.{KeepsGenWord};
 ghost use Rattle.uc_top.specs.Faulting.{TellsFault, AnswersFault, IsStatusFaulted, IsWholeFaulted, IsFaultedRun, fault_opening, fault_text};
 ghost use Rattle.uc_top.specs.Told.{CountsWrites};
 ghost use Rattle.uc_top.specs.Given.{GivesAnswer};
@@ -24,6 +26,7 @@ ghost use Rattle.uc_top.specs.Headline.{Headline};
 use crate::certifying::certify_answer;
 use crate::checking::check_answer;
 use crate::deciding::decide_answer;
+use crate::generating::gen_answer;
 use crate::modelling::model_answer;
 use crate::ordering::order_answer;
 use crate::output::{WholeAnswer, tell, tell_memory_out, text_of};
@@ -64,15 +67,16 @@ use uc_words::{Command, Verb, WordsFault, read_words};
 /// 1 where none up to the size is one; 2 where the text names the limit that ended the search: the budget, the cells of a table or the
 /// assignments of a clause; else 3. For `certify` it is 0 where the certificate file has a certificate that passes all tests, so that by
 /// the order of its symbol lines its facts decide what follows from the axioms, those of the encoding where a goal has a variable; 1
-/// where it reads and fails a test, the first of which is told; else 3. 4 stands for words that have no reading or name a command that isn't
-/// built, 5 for a failure of the library and 6 for one of the sink, each only where its count of faults rose in this call, and 7 for
-/// want of memory.
+/// where it reads and fails a test, the first of which is told; else 3. For `gen` it is 0 where the text has the number of constants and of
+/// axioms of the generated problem, and into how many classes the constants fall by what the axioms make equal; 2 where it names the
+/// limit that ended the search. 4 stands for words that have no reading, 5 for a failure of the library and 6 for one of the sink, each
+/// only where its count of faults rose in this call, and 7 for want of memory.
 ///
 /// At most one fetch fails, and it ends the call with status 5, in which case the text names the file whose fetch failed, or with 6 or
 /// 7, where its line isn't written. Each line of the answer goes to the sink with its line feed in one write, and the rest of it
 /// again where the sink took less. At most one write fails, and it ends the call with status 6.
 ///
-/// `prove` and `decide` search by as many workers as the words ask for. One worker searches in this thread. Of more, each has a thread,
+/// `prove`, `decide` and `gen` search by as many workers as the words ask for. One worker searches in this thread. Of more, each has a thread,
 /// which ends before the call does, and passes the gate between the draw of a task and its computation.
 pub fn run<R: Threads + Wait + Sync, L: Library, S: Sink, G: Gate + Sync>(
     rt: &R,
@@ -89,6 +93,7 @@ pub fn run<R: Threads + Wait + Sync, L: Library, S: Sink, G: Gate + Sync>(
     ensures tabled { (files : Files) → L.holds library.old ≡ Some files → KeepsTableWord files (map string_bytes words.now) result }
     ensures modelled { (files : Files) → L.holds library.old ≡ Some files → KeepsModelWord files (map string_bytes words.now) (S.written sink.old) (S.written sink.new) result }
     ensures certificate { (files : Files) → L.holds library.old ≡ Some files → KeepsCertifyWord files (map string_bytes words.now) result }
+    ensures counted { KeepsGenWord (map string_bytes words.now) (S.written sink.old) (S.written sink.new) result }
     ensures same { L.holds library.new ≡ L.holds library.old }
     ensures later { L.faults library.old ≤ L.faults library.new }
     ensures faulted { IsFaultedRun (L.faults library.old) (L.faults library.new) (L.failed_at library.old) (L.failed_at library.new) result }
@@ -205,7 +210,7 @@ fn command_answer<R: Threads + Wait + Sync, L: Library, G: Gate + Sync>(
         },
         Verb::Prove => prove_command(rt, alloc, command, library, gate),
         Verb::Decide => decide_command(rt, alloc, command, library, gate),
-        _ => usage_answer(alloc),
+        Verb::Gen => gen_command(rt, alloc, command, gate),
     }
 }
 
@@ -251,6 +256,24 @@ fn decide_command<R: Threads + Wait + Sync, L: Library, G: Gate + Sync>(
 {
     match command.positionals.as_slice() {
         [name, questions @ ..] => decide_answer(rt, alloc, command, name, questions, library, gate),
+        _ => unreachable!(),
+    }
+}
+
+// The answer to `gen`.
+fn gen_command<R: Threads + Wait + Sync, G: Gate + Sync>(
+    rt: &R,
+    alloc: Global,
+    command: &Command,
+    gate: &G,
+) -> Result<Answer, AllocError>
+    requires generates { command.now.verb ≡ Gen }
+    requires fits { fits command.now.verb (length command.now.positionals) ≡ true }
+    requires words { (words : List (List ℕ)) × Reads words command.now }
+    ensures { IfOk result (λ answer. GenAnswers command.now answer.status (joined answer.lines)) }
+{
+    match command.positionals.as_slice() {
+        [count, start] => gen_answer(rt, alloc, command, count, start, gate),
         _ => unreachable!(),
     }
 }

@@ -1,9 +1,9 @@
-use Rattle.std.proofs.Common.{◌≡◌, [], ◌∷◌, refl, sym, ◌∙◌, subst, arith}
+use Rattle.std.proofs.Common.{◌≡◌, [], ◌∷◌, refl, sym, ◌∙◌, subst}
 use Rattle.std.proofs.lemmas.Result.{IfOk-weaker}
 use Rattle.uc_answer.specs.QuestionWords.{AreShort}
-use Rattle.uc_top.specs.Answers.{checks, shows, orders, rewrites, pairs_up, tables, models, certifies, isnt_built}
-use Rattle.uc_top.specs.Runs.{MayAnswer, is_answer}
-use Rattle.uc_top.proofs.Answering.{one_line, one_name, two_names, not_built, usage_not_done}
+use Rattle.uc_top.specs.Answers.{checks, shows, orders, rewrites, pairs_up, tables, models, certifies, generates}
+use Rattle.uc_top.specs.Runs.{is_answer}
+use Rattle.uc_top.proofs.Answering.{one_name, two_names}
 use Rattle.uc_top.proofs.ShortWords.{positionals_short}
 use Rattle.uc_top.specs.Faulting.{fault_opening}
 use Rattle.uc_top.proofs.Faulted.{none_failed}
@@ -50,17 +50,6 @@ returns-in-len1-as_slice-2-clause-answers g c words r =
     let names : c.args.command.now.positionals ≡ c.name-item-then-this-lt2-3.result ∷ [] = sym c.as_slice-in-Pairs.ensures ∙ one_name c.as_slice-in-Pairs.result.now c.name-item-then-this-lt2-3.result c.in-len1-as_slice-2.len_at_least c.in-len1-as_slice-2.len_below c.name-item-then-this-lt2-3.is in
     IfOk-weaker c.pairs_answer.result _ _ (λ answer a. is_answer (pairs_up r c.in-Pairs.is names a)) (rw c.as_ref-in-len1-as_slice-2.ensures.value at c.pairs_answer.ensures.answers)
 
-pub returns-in_default : goal.returns-in_default
-returns-in_default g c = record {
-  answers = λ words r. one_line c.usage_answer.result (MayAnswer _ _ _ words) _ _ c.usage_answer.ensures (is_answer (isnt_built r (not_built _ c.in_default.not-Check c.in_default.not-Show c.in_default.not-Order c.in_default.not-Rewrite c.in_default.not-Pairs c.in_default.not-Prove c.in_default.not-Decide c.in_default.not-Table c.in_default.not-Model c.in_default.not-Certify)));
-  certified = λ v. usage_not_done _ c.usage_answer.result _ c.usage_answer.ensures;
-  promise = λ v. absurd (c.in_default.not-Prove v);
-  decided = λ v. absurd (c.in_default.not-Decide v);
-  same = refl;
-  later = omega arith;
-  faulted = none_failed (g.L.Library.faults c.args.library.now) (g.L.Library.faults c.args.library.now) (g.L.Library.failed_at c.args.library.now) (g.L.Library.failed_at c.args.library.now) (fault_opening c.args.command.now) c.usage_answer.result (refl, refl);
-}
-
 pub returns-in-len2-clause-faulted : goal.returns-in-len2-clause-faulted
 returns-in-len2-clause-faulted g c = rw c.in-Check.is c.check_answer.ensures.faulted
 
@@ -105,3 +94,9 @@ returns-in-len2-as_slice-3-clause-answers g c words r =
 
 pub returns-in-len2-as_slice-3-clause-faulted : goal.returns-in-len2-as_slice-3-clause-faulted
 returns-in-len2-as_slice-3-clause-faulted g c = rw c.in-Certify.is c.certify_answer.ensures.faulted
+
+pub returns-in-Gen-clause-answers : goal.returns-in-Gen-clause-answers
+returns-in-Gen-clause-answers g c words r = IfOk-weaker c.gen_command.result _ _ (λ answer a. is_answer (generates r c.in-Gen.is a)) c.gen_command.ensures
+
+pub returns-in-Gen-clause-faulted : goal.returns-in-Gen-clause-faulted
+returns-in-Gen-clause-faulted g c = none_failed (g.L.Library.faults c.args.library.now) (g.L.Library.faults c.args.library.now) (g.L.Library.failed_at c.args.library.now) (g.L.Library.failed_at c.args.library.now) (fault_opening c.args.command.now) c.gen_command.result (refl, refl)

@@ -1,4 +1,4 @@
-use Rattle.std.proofs.Common.{arith}
+use Rattle.std.proofs.Common.{None, arith}
 use Rattle.uc_top.specs.Runs.{wants_memory}
 use Rattle.uc_top.proofs.Completeness.{all_complete}
 use Rattle.uc_top.proofs.Completing.{own_status}
@@ -8,6 +8,7 @@ use Rattle.uc_top.proofs.CertifyCompleting.{keeps_certify_word}
 use Rattle.uc_top.proofs.ProveCompleting.{keeps_word}
 use Rattle.uc_top.proofs.DecidePromises.{keeps_decide_word}
 use Rattle.uc_top.proofs.Faulted.{wants, tells, named, never_five}
+use Rattle.uc_top.proofs.GenCompleting.{keeps_gen_word}
 use Rattle.uc_top.proofs.program.run.Goals as goal
 
 pub returns-in-Err-clause-answers : goal.returns-in-Err-clause-answers
@@ -75,3 +76,9 @@ returns-in-Err-clause-certificate g c = keeps_certify_word _ 0 0 _ _ _ _ _ _ (re
 
 pub returns-in-Ok-clause-certificate : goal.returns-in-Ok-clause-certificate
 returns-in-Ok-clause-certificate g c = keeps_certify_word _ _ _ _ _ _ _ _ _ (record { status = _; text = _; answer = c.in-Ok.ensures.answers; told = c.tell.ensures.told })
+
+pub returns-in-Err-clause-counted : goal.returns-in-Err-clause-counted
+returns-in-Err-clause-counted g c = keeps_gen_word None 0 0 _ _ _ _ _ _ (record { status = 7; text = _; answer = wants_memory; told = c.tell_memory_out.ensures.told })
+
+pub returns-in-Ok-clause-counted : goal.returns-in-Ok-clause-counted
+returns-in-Ok-clause-counted g c = keeps_gen_word (g.L.Library.holds c.args.library.now) (g.L.Library.faults c.args.library.now) (g.L.Library.faults c.whole_answer.new.library) _ _ _ _ _ _ (record { status = _; text = _; answer = c.in-Ok.ensures.answers; told = c.tell.ensures.told })
