@@ -8,6 +8,7 @@ complete -c uc -n __fish_use_subcommand -f -a show -d 'prints the problem\'s cla
 complete -c uc -n __fish_use_subcommand -f -a order -d 'tells how the order directs each axiom'
 complete -c uc -n __fish_use_subcommand -f -a rewrite -d 'normalises a term by the axioms, step by step'
 complete -c uc -n __fish_use_subcommand -f -a pairs -d 'prints the critical pairs of the axioms'
+complete -c uc -n __fish_use_subcommand -f -a gen -d 'completes a generated problem'
 complete -c uc -n __fish_use_subcommand -f -a table -d 'tells whether a finite table is a model: it satisfies the axioms and keeps each goal apart'
 complete -c uc -n __fish_use_subcommand -f -a model -d 'searches for a finite table that is a model'
 complete -c uc -n __fish_use_subcommand -f -a certify -d 'checks a certificate of saturation'
@@ -16,9 +17,9 @@ complete -c uc -n '__fish_seen_subcommand_from prove decide order rewrite pairs'
 complete -c uc -n '__fish_seen_subcommand_from prove decide order rewrite pairs' -l precedence -d 'symbols, least first; those not named stand below, by number of arguments and first occurrence' -x
 complete -c uc -n '__fish_seen_subcommand_from prove decide order rewrite pairs' -l weights -d 'weights of symbols under kbo; a symbol not named weighs --w0' -x
 complete -c uc -n '__fish_seen_subcommand_from prove decide order rewrite pairs' -l w0 -d 'weight of a variable under kbo' -x
-complete -c uc -n '__fish_seen_subcommand_from prove decide model' -l budget -d 'units of work: pairs joined, goals taken further, equations kept by an audit; of model, prefixes visited' -x
-complete -c uc -n '__fish_seen_subcommand_from prove decide' -l pairs -d 'pairs that may wait' -x
-complete -c uc -n '__fish_seen_subcommand_from prove decide' -l workers -d 'workers that search at once; with one, two runs print the same' -x
+complete -c uc -n '__fish_seen_subcommand_from prove decide gen model' -l budget -d 'units of work: pairs joined, goals taken further, equations kept by an audit; of model, prefixes visited' -x
+complete -c uc -n '__fish_seen_subcommand_from prove decide gen' -l pairs -d 'pairs that may wait' -x
+complete -c uc -n '__fish_seen_subcommand_from prove decide gen' -l workers -d 'workers that search at once; with one, two runs print the same' -x
 complete -c uc -n '__fish_seen_subcommand_from decide' -l steps -d 'rewrite steps that one question may take' -x
 complete -c uc -n '__fish_seen_subcommand_from rewrite' -l limit -d 'rewrite steps' -x
 complete -c uc -n '__fish_seen_subcommand_from model' -l size -d 'greatest size of a table' -x
