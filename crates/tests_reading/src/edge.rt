@@ -19,48 +19,78 @@ fn told(answer: &Fetched) -> &[u8] {
     }
 }
 
+const FILES: &[(&str, &str)] = &[
+    ("a.p", "first"),
+    ("", "no name"),
+    ("a.p", "second"),
+    ("e", ""),
+];
+
+// the library of these files, whose calls of these numbers fail
+fn library(
+    alloc: Global,
+    files: &[(&str, &str)],
+    failing: &[u32],
+) -> Result<MemoryLibrary, AllocError> {
+    let mut list = Vec::new(alloc);
+    for (name, bytes) in files {
+        list.push((text(alloc, name)?, text(alloc, bytes)?))?;
+    }
+    MemoryLibrary::new(alloc, list, Vec::from_slice(alloc, failing)?)
+}
+
 // one row a fetch: the name, how many bytes at most, what comes; the third call and the last one are listed
+const FETCHES: &[(&str, usize, &str)] = &[
+    ("a.p", 9, "first"),
+    ("a.p", 2, "fi"),
+    ("a.p", 9, "failed"),
+    ("a.p", 5, "first"),
+    ("a", 9, "absent"),
+    ("e", 9, ""),
+    ("", 100, "no name"),
+    ("a.p", 0, ""),
+    ("a", 9, "failed"),
+];
+
+fn fetches(
+    alloc: Global,
+    library: &mut MemoryLibrary,
+    name: &str,
+    most: usize,
+    wanted: &str,
+) -> Result<bool, AllocError> {
+    let answer = library.fetch(alloc, name, most)?;
+    Ok(told(&answer) == wanted.as_bytes())
+}
+
 #[test]
 fn library_in_memory(rt: HostRuntime) -> Result<(), Fail> {
-    let alloc = rt.alloc();
-    let files = vec![in alloc;
-        (text(alloc, "a.p")?, text(alloc, "first")?),
-        (text(alloc, "")?, text(alloc, "no name")?),
-        (text(alloc, "a.p")?, text(alloc, "second")?),
-        (text(alloc, "e")?, text(alloc, "")?),
-    ]?;
-    let mut library = MemoryLibrary::new(alloc, files, vec![in alloc; 9, 3]?)?;
-    for (name, most, wanted) in [
-        ("a.p", 9, "first"),
-        ("a.p", 2, "fi"),
-        ("a.p", 9, "failed"),
-        ("a.p", 5, "first"),
-        ("a", 9, "absent"),
-        ("e", 9, ""),
-        ("", 100, "no name"),
-        ("a.p", 0, ""),
-        ("a", 9, "failed"),
-    ] {
-        let answer = library.fetch(alloc, name, most)?;
-        assert_eq!(rt; told(&answer), wanted.as_bytes(), "{name} {most}");
+    let mut library = library(rt.alloc(), FILES, &[9, 3])?;
+    for (name, most, wanted) in FETCHES {
+        assert!(rt;
+            fetches(rt.alloc(), &mut library, name, *most, wanted)?,
+            "{name} {most}"
+        );
     }
     Ok(())
 }
 
 // one row a write: the piece, what comes and what stands written then; the second call is listed, the room is five bytes
+const WRITES: &[(&str, Written, &str)] = &[
+    ("ab", Written::Taken(2), "ab"),
+    ("c", Written::Failed, "ab"),
+    ("", Written::Taken(0), "ab"),
+    ("cdef", Written::Failed, "ab"),
+    ("cde", Written::Taken(3), "abcde"),
+    ("f", Written::Failed, "abcde"),
+];
+
 #[test]
 fn sink_in_memory(rt: HostRuntime) -> Result<(), Fail> {
-    let alloc = rt.alloc();
-    let mut sink = MemorySink::with_room(alloc, 5, vec![in alloc; 2]?)?;
-    for (piece, wanted, written) in [
-        ("ab", Written::Taken(2), "ab"),
-        ("c", Written::Failed, "ab"),
-        ("", Written::Taken(0), "ab"),
-        ("cdef", Written::Failed, "ab"),
-        ("cde", Written::Taken(3), "abcde"),
-        ("f", Written::Failed, "abcde"),
-    ] {
-        assert!(rt; sink.write(piece.as_bytes()) == wanted && sink.bytes() == written.as_bytes());
+    let failing = vec![in rt.alloc(); 2]?;
+    let mut sink = MemorySink::with_room(rt.alloc(), 5, failing)?;
+    for (piece, wanted, written) in WRITES {
+        assert!(rt; sink.write(piece.as_bytes()) == *wanted && sink.bytes() == written.as_bytes());
     }
     Ok(())
 }

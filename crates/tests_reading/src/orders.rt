@@ -129,41 +129,51 @@ const OPEN: &str = "cnf(ax, axiom, i(a) = b). cnf(g, negated_conjecture, i(X) !=
 const NO_CONSTANT: &str = "cnf(ax, axiom, i(X) = X).";
 
 // One row a choice: the problem, the options, and the order or why there is none. Every variable weighs 2.
+const CHOICES: &[(&str, Options, &str)] = &[
+    (GROUND, (false, &[], &[]), "a=2 b=2 i=2 m=2 "),
+    (GROUND, (true, &[], &[]), "a b i m "),
+    (GROUND, (true, &["m", "a"], &[]), "b i m a "),
+    (
+        GROUND,
+        (false, &["m", "i"], &[("i", 0), ("a", 7)]),
+        "a=7 b=2 m=2 i=0 ",
+    ),
+    (NO_CONSTANT, (false, &[], &[]), "least=2 i=2 "),
+    (
+        OPEN,
+        (false, &[], &[("a", 5)]),
+        "a=5 b=2 i=2 true=5 false=5 eq=2 ",
+    ),
+    (
+        OPEN,
+        (false, &[], &[("i", 0), ("b", 3)]),
+        "a=2 b=3 true=3 false=3 eq=2 i=0 ",
+    ),
+    (OPEN, (true, &["a"], &[]), "b i a true false eq "),
+    (OPEN, (true, &[], &[("i", 0)]), "a b i true false eq "),
+    (GROUND, (false, &["c", "a", "a"], &[("a", 1)]), "unknown c"),
+    (NO_CONSTANT, (true, &["least"], &[]), "unknown least"),
+    (OPEN, (true, &["eq"], &[]), "unknown eq"),
+    (GROUND, (false, &["a", "b", "b", "a"], &[]), "twice a"),
+    (GROUND, (false, &[], &[("m", 0), ("a", 1)]), "bad m"),
+    (GROUND, (false, &[], &[("b", 2), ("a", 1)]), "bad a"),
+    (GROUND, (false, &["i", "m"], &[("i", 0)]), "bad i"),
+];
+
 #[test]
 fn choices(rt: HostRuntime) -> Result<(), Fail> {
-    let rows: [(&str, Options, &str); 16] = [
-        (GROUND, (false, &[], &[]), "a=2 b=2 i=2 m=2 "),
-        (GROUND, (true, &[], &[]), "a b i m "),
-        (GROUND, (true, &["m", "a"], &[]), "b i m a "),
-        (
-            GROUND,
-            (false, &["m", "i"], &[("i", 0), ("a", 7)]),
-            "a=7 b=2 m=2 i=0 ",
-        ),
-        (NO_CONSTANT, (false, &[], &[]), "least=2 i=2 "),
-        (
-            OPEN,
-            (false, &[], &[("a", 5)]),
-            "a=5 b=2 i=2 true=5 false=5 eq=2 ",
-        ),
-        (
-            OPEN,
-            (false, &[], &[("i", 0), ("b", 3)]),
-            "a=2 b=3 true=3 false=3 eq=2 i=0 ",
-        ),
-        (OPEN, (true, &["a"], &[]), "b i a true false eq "),
-        (OPEN, (true, &[], &[("i", 0)]), "a b i true false eq "),
-        (GROUND, (false, &["c", "a", "a"], &[("a", 1)]), "unknown c"),
-        (NO_CONSTANT, (true, &["least"], &[]), "unknown least"),
-        (OPEN, (true, &["eq"], &[]), "unknown eq"),
-        (GROUND, (false, &["a", "b", "b", "a"], &[]), "twice a"),
-        (GROUND, (false, &[], &[("m", 0), ("a", 1)]), "bad m"),
-        (GROUND, (false, &[], &[("b", 2), ("a", 1)]), "bad a"),
-        (GROUND, (false, &["i", "m"], &[("i", 0)]), "bad i"),
-    ];
-    for (problem, options, wanted) in rows.iter() {
-        let told = told(rt.alloc(), *problem, *options)?;
-        assert_eq!(rt; told.as_bytes(), wanted.as_bytes(), "{wanted}");
+    for (problem, options, wanted) in CHOICES {
+        assert!(rt; is_told(rt.alloc(), problem, *options, wanted)?, "{wanted}");
     }
     Ok(())
+}
+
+fn is_told(
+    alloc: Global,
+    problem: &str,
+    options: Options,
+    wanted: &str,
+) -> Result<bool, AllocError> {
+    let told = told(alloc, problem, options)?;
+    Ok(told.as_bytes() == wanted.as_bytes())
 }

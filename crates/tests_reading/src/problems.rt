@@ -101,22 +101,24 @@ fn told(alloc: Global, name: &str, failing: u32) -> Result<Told, AllocError> {
 }
 
 // one row a problem: its name, which fetch fails, and what it comes to
+const PROBLEMS: &[(&str, u32, Told)] = &[
+    ("p/good.p", 0, ('p', 2, 1, 4, 0)),
+    ("p/good.p", 1, ('!', 0, 0, 0, 0)),
+    ("p/good.p", 3, ('!', 0, 0, 0, 0)),
+    ("p/open.p", 0, ('p', 0, 1, 2, 1)),
+    ("p/clash.p", 0, ('a', 1, 23, 1, 2)),
+    ("p/absent.p", 0, ('-', 2, 1, 0, 0)),
+    ("p/names.p", 0, ('n', 1, 22, 0, 0)),
+    ("p/deep.p", 0, ('d', 1, 1, 0, 0)),
+    ("p/bad.p", 0, ('s', 1, 21, 0, 0)),
+    ("good.p", 0, ('-', 0, 0, 0, 0)),
+];
+
 #[test]
 fn problems(rt: HostRuntime) -> Result<(), Fail> {
-    for (name, failing, wanted) in [
-        ("p/good.p", 0, ('p', 2, 1, 4, 0)),
-        ("p/good.p", 1, ('!', 0, 0, 0, 0)),
-        ("p/good.p", 3, ('!', 0, 0, 0, 0)),
-        ("p/open.p", 0, ('p', 0, 1, 2, 1)),
-        ("p/clash.p", 0, ('a', 1, 23, 1, 2)),
-        ("p/absent.p", 0, ('-', 2, 1, 0, 0)),
-        ("p/names.p", 0, ('n', 1, 22, 0, 0)),
-        ("p/deep.p", 0, ('d', 1, 1, 0, 0)),
-        ("p/bad.p", 0, ('s', 1, 21, 0, 0)),
-        ("good.p", 0, ('-', 0, 0, 0, 0)),
-    ] {
+    for (name, failing, wanted) in PROBLEMS {
         assert!(rt;
-            told(rt.alloc(), name, failing)? == wanted,
+            told(rt.alloc(), name, *failing)? == *wanted,
             "{name} {failing}"
         );
     }
@@ -132,21 +134,29 @@ fn failed_at(loaded: &Result<Problem, LoadFault>) -> &[u8] {
 
 // one row a fetch that fails: the file that is named, whatever the next fetch would find; the next call fails too, and it isn't one
 // of loading
+const FAILING: &[(u32, u32, &str)] = &[
+    (1, 2, "p/good.p"),
+    (2, 3, "p/inc.ax"),
+    (3, 4, "p/more.ax"),
+    (4, 5, "r/more.ax"),
+];
+
 #[test]
 fn files_that_fail(rt: HostRuntime) -> Result<(), Fail> {
-    let alloc = rt.alloc();
-    for (call, wanted) in [
-        (1, "p/good.p"),
-        (2, "p/inc.ax"),
-        (3, "p/more.ax"),
-        (4, "r/more.ax"),
-    ] {
-        let mut library = library(alloc, &[call, call + 1])?;
-        assert!(rt; fails_at(alloc, &mut library, wanted), "{wanted}");
-        let next = library.fetch(alloc, "r/more.ax", 1)?;
-        assert!(rt; matches!(next, Fetched::Failed), "the call behind {wanted}");
+    for (call, next, wanted) in FAILING {
+        let mut library = library(rt.alloc(), &[*call, *next])?;
+        assert!(rt; fails_at(rt.alloc(), &mut library, wanted), "{wanted}");
+        assert!(rt;
+            fails_next(rt.alloc(), &mut library)?,
+            "the call behind {wanted}"
+        );
     }
     Ok(())
+}
+
+fn fails_next(alloc: Global, library: &mut MemoryLibrary) -> Result<bool, AllocError> {
+    let next = library.fetch(alloc, "r/more.ax", 1)?;
+    Ok(matches!(next, Fetched::Failed))
 }
 
 fn fails_at(alloc: Global, library: &mut MemoryLibrary, name: &str) -> bool {
@@ -221,25 +231,42 @@ fn are_named(marks: Fresh, symbols: &Symbols, eq: &str, no: &str) -> bool {
 }
 
 // one row a goal: its sides, two of the names, and what comes
+type Marked = (
+    usize,
+    &'static str,
+    &'static str,
+    &'static str,
+    &'static str,
+    char,
+);
+
+const MARKED: &[Marked] = &[
+    (1, "a", "b", "", "", '-'),
+    (1, "X", "b", "eq", "false", 'y'),
+    (1, "a", "X", "eq", "false", 'y'),
+    (1, "X", "eq(false,eq_1)", "eq_2", "false_1", 'y'),
+    (4093, "X", "Y", "eq", "false", 'y'),
+    (4094, "X", "Y", "", "", 'l'),
+    (4094, "a", "b", "", "", '-'),
+];
+
 #[test]
 fn symbols_of_the_encoding(rt: HostRuntime) -> Result<(), Fail> {
-    let alloc = rt.alloc();
-    for (nested, inner, other, eq, no, wanted) in [
-        (1, "a", "b", "", "", '-'),
-        (1, "X", "b", "eq", "false", 'y'),
-        (1, "a", "X", "eq", "false", 'y'),
-        (1, "X", "eq(false,eq_1)", "eq_2", "false_1", 'y'),
-        (4093, "X", "Y", "eq", "false", 'y'),
-        (4094, "X", "Y", "", "", 'l'),
-        (4094, "a", "b", "", "", '-'),
-    ] {
-        let bytes = goal(alloc, nested, inner, other)?;
+    for row in MARKED {
         assert!(rt;
-            marked(alloc, bytes, eq, no)? == wanted,
-            "{nested} {inner} {other}"
+            is_marked(rt.alloc(), row)?,
+            "{} {} {}",
+            row.0,
+            row.1,
+            row.2
         );
     }
     Ok(())
+}
+
+fn is_marked(alloc: Global, row: &Marked) -> Result<bool, AllocError> {
+    let bytes = goal(alloc, row.0, row.1, row.2)?;
+    Ok(marked(alloc, bytes, row.3, row.4)? == row.5)
 }
 
 fn name(symbols: &Symbols, sym: Sym) -> &[u8] {
@@ -325,54 +352,68 @@ fn told_parts(
 }
 
 // one row a problem: its text, and the axioms, goals and symbols of its encoding
+const ENCODED: &[(&str, &str, &str, &str)] = &[
+    (
+        "cnf(ax, axiom, f(b) = a). cnf(g, negated_conjecture, f(X) != a).",
+        "f b = a . eq X0 X0 = true . eq f X0 a = false . ",
+        "true = false . ",
+        "f b a true false eq ",
+    ),
+    (
+        "cnf(g, negated_conjecture, a != b). cnf(ax, axiom, f(X) = a).",
+        "f X0 = a . ",
+        "a = b . ",
+        "a b f ",
+    ),
+    (
+        "cnf(g, negated_conjecture, X != a). cnf(ax, axiom, f(X) = a). cnf(g, negated_conjecture, a != b). cnf(g, negated_conjecture, f(Y) != Y).",
+        "f X0 = a . eq X0 X0 = true . eq X0 a = false . eq f X0 X0 = false . ",
+        "a = b . true = false . ",
+        "a f b true false eq ",
+    ),
+];
+
 #[test]
 fn encoded_problems(rt: HostRuntime) -> Result<(), Fail> {
-    let alloc = rt.alloc();
-    for (bytes, axioms, goals, names) in [
-        (
-            "cnf(ax, axiom, f(b) = a). cnf(g, negated_conjecture, f(X) != a).",
-            "f b = a . eq X0 X0 = true . eq f X0 a = false . ",
-            "true = false . ",
-            "f b a true false eq ",
-        ),
-        (
-            "cnf(g, negated_conjecture, a != b). cnf(ax, axiom, f(X) = a).",
-            "f X0 = a . ",
-            "a = b . ",
-            "a b f ",
-        ),
-        (
-            "cnf(g, negated_conjecture, X != a). cnf(ax, axiom, f(X) = a). cnf(g, negated_conjecture, a != b). cnf(g, negated_conjecture, f(Y) != Y).",
-            "f X0 = a . eq X0 X0 = true . eq X0 a = false . eq f X0 X0 = false . ",
-            "a = b . true = false . ",
-            "a f b true false eq ",
-        ),
-    ] {
-        let told = told_encoding(alloc, bytes)?;
-        assert!(rt; told.0.as_bytes() == axioms.as_bytes(), "axioms of {bytes}");
-        assert!(rt; told.1.as_bytes() == goals.as_bytes(), "goals of {bytes}");
-        assert!(rt; told.2.as_bytes() == names.as_bytes(), "symbols of {bytes}");
+    for (bytes, axioms, goals, names) in ENCODED {
+        assert!(rt;
+            encodes_to(rt.alloc(), bytes, axioms, goals, names)?,
+            "{bytes}"
+        );
     }
     Ok(())
+}
+
+fn encodes_to(
+    alloc: Global,
+    bytes: &str,
+    axioms: &str,
+    goals: &str,
+    names: &str,
+) -> Result<bool, AllocError> {
+    let told = told_encoding(alloc, bytes)?;
+    Ok(
+        told.0.as_bytes() == axioms.as_bytes()
+            && told.1.as_bytes() == goals.as_bytes()
+            && told.2.as_bytes() == names.as_bytes(),
+    )
 }
 
 // where the axioms and the goals of an encoded problem come from
 #[test]
 fn sources_of_the_encoding(rt: HostRuntime) -> Result<(), Fail> {
-    let alloc = rt.alloc();
-    let mut symbols = Symbols::new(alloc);
-    let bytes =
-        "cnf(g, negated_conjecture, X != a). cnf(ax, axiom, f(X) = a). cnf(g, negated_conjecture, a != b).";
-    let told = encoded(alloc, bytes, &mut symbols)?;
-    assert!(rt;
-        are_sources(
-            told.as_ref(),
-            &[Source::Clause(1), Source::Reflexive, Source::Goal(0)],
-            &[Some(2), None],
-        )
-    );
+    let mut symbols = Symbols::new(rt.alloc());
+    let told = encoded(rt.alloc(), TWO_GOALS, &mut symbols)?;
+    assert!(rt; are_sources(told.as_ref(), SOURCES, GOAL_CLAUSES));
     Ok(())
 }
+
+const TWO_GOALS: &str =
+    "cnf(g, negated_conjecture, X != a). cnf(ax, axiom, f(X) = a). cnf(g, negated_conjecture, a != b).";
+
+const SOURCES: &[Source] = &[Source::Clause(1), Source::Reflexive, Source::Goal(0)];
+
+const GOAL_CLAUSES: &[Option<u32>] = &[Some(2), None];
 
 fn are_sources(encoded: Option<&Encoded>, axioms: &[Source], goals: &[Option<u32>]) -> bool {
     encoded.is_some_and(|encoded| {

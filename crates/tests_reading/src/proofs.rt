@@ -83,14 +83,20 @@ fn parents_of(source: &LineSource) -> (usize, Option<u32>) {
 #[test]
 fn lines_of_a_proof(rt: HostRuntime) -> Result<(), Fail> {
     let lines = lines_of(rt.alloc())?;
-    let [_, _, chain, refutation] = lines.as_slice() else {
-        return Err(Fail::from("not four lines"));
-    };
-    let steps = [step_at(&chain.source, 0), step_at(&chain.source, 1)];
-    assert!(rt; steps == [Some((0, true, 2)), Some((1, false, 0))]);
-    let parents = [parents_of(&chain.source), parents_of(&refutation.source)];
-    assert!(rt; parents == [(2, Some(1)), (2, Some(2))]);
+    assert!(rt; name_lines(lines.as_slice()));
     Ok(())
+}
+
+fn name_lines(lines: &[Line]) -> bool {
+    match lines {
+        [_, _, chain, refutation] => {
+            step_at(&chain.source, 0) == Some((0, true, 2))
+                && step_at(&chain.source, 1) == Some((1, false, 0))
+                && parents_of(&chain.source) == (2, Some(1))
+                && parents_of(&refutation.source) == (2, Some(2))
+        }
+        _ => false,
+    }
 }
 
 // The last node of a term.
@@ -102,36 +108,46 @@ fn last_node(term: &Term) -> Option<Node> {
 #[test]
 fn sides_of_lines(rt: HostRuntime) -> Result<(), Fail> {
     let lines = lines_of(rt.alloc())?;
-    let [axiom, goal, chain, refutation] = lines.as_slice() else {
-        return Err(Fail::from("not four lines"));
-    };
-    assert!(rt; axiom.positive && !goal.positive && refutation.positive);
-    for term in [&chain.left, &refutation.left, &refutation.right] {
-        assert_eq!(rt; last_node(term), Some(Node::Var(0)));
-    }
+    assert!(rt; have_sides(lines.as_slice()));
     Ok(())
+}
+
+fn have_sides(lines: &[Line]) -> bool {
+    match lines {
+        [axiom, goal, chain, refutation] => {
+            axiom.positive
+                && !goal.positive
+                && refutation.positive
+                && last_node(&chain.left) == Some(Node::Var(0))
+                && last_node(&refutation.left) == Some(Node::Var(0))
+                && last_node(&refutation.right) == Some(Node::Var(0))
+        }
+        _ => false,
+    }
 }
 
 // The lines between the first start line and the end line behind it, and why there are none.
 #[test]
 fn frames(rt: HostRuntime) -> Result<(), Fail> {
     let frame = frame_of(FRAMED)?;
-    assert_eq!(rt; &FRAMED[frame.from..frame.to], b"cnf(p0)\n".as_slice());
-    for (text, wanted) in [
-        (
-            b"cnf(p0)\n".as_slice(),
-            ProofFault::Syntax(Place { line: 2, column: 1 }),
-        ),
-        (START, ProofFault::Truncated),
-        (
-            b"% SZS output start CNFRefutation for r1.p\n% SZS output end CNFRefutation for r2.p\n",
-            ProofFault::Syntax(Place { line: 2, column: 1 }),
-        ),
-    ] {
-        assert_eq!(rt; frame_of(text), Err(wanted));
+    assert!(rt; &FRAMED[frame.from..frame.to] == b"cnf(p0)\n".as_slice());
+    for (text, wanted) in UNFRAMED {
+        assert!(rt; frame_of(text) == Err(*wanted));
     }
     Ok(())
 }
+
+const UNFRAMED: &[(&[u8], ProofFault)] = &[
+    (
+        b"cnf(p0)\n",
+        ProofFault::Syntax(Place { line: 2, column: 1 }),
+    ),
+    (START, ProofFault::Truncated),
+    (
+        b"% SZS output start CNFRefutation for r1.p\n% SZS output end CNFRefutation for r2.p\n",
+        ProofFault::Syntax(Place { line: 2, column: 1 }),
+    ),
+];
 
 // Lines, and why they aren't read, with the place in the whole text.
 const REFUSED: &[(&[u8], Option<ProofFault>)] = &[
@@ -186,7 +202,7 @@ const REFUSED: &[(&[u8], Option<ProofFault>)] = &[
 #[test]
 fn lines_refused(rt: HostRuntime) -> Result<(), Fail> {
     for (lines, wanted) in REFUSED {
-        assert_eq!(rt; fault_in(rt.alloc(), lines)?, *wanted);
+        assert!(rt; fault_in(rt.alloc(), lines)? == *wanted);
     }
     Ok(())
 }
@@ -194,35 +210,43 @@ fn lines_refused(rt: HostRuntime) -> Result<(), Fail> {
 // The first functor whose 256th argument a comma announces.
 #[test]
 fn too_many_arguments(rt: HostRuntime) -> Result<(), Fail> {
-    let alloc = rt.alloc();
+    let lines = line_of_arguments(rt.alloc())?;
+    assert!(rt; fault_in(rt.alloc(), lines.as_bytes())? == TOO_MANY);
+    Ok(())
+}
+
+const TOO_MANY: Option<ProofFault> = Some(ProofFault::Limit(
+    What::Arity,
+    Place {
+        line: 3,
+        column: 19,
+    },
+));
+
+fn line_of_arguments(alloc: Global) -> Result<Text, AllocError> {
     let mut lines = Text::from_bytes(alloc, b"cnf(p, axiom, a = f(a")?;
     for _ in 0..255 {
         lines.extend(b",a")?;
     }
     lines.extend(b"), file(f, x)).\n")?;
-    assert_eq!(rt;
-        fault_in(alloc, lines.as_bytes())?,
-        Some(ProofFault::Limit(
-            What::Arity,
-            Place {
-                line: 3,
-                column: 19
-            }
-        ))
-    );
-    Ok(())
+    Ok(lines)
 }
 
 // A text without an end line.
 #[test]
 fn cut_off(rt: HostRuntime) -> Result<(), Fail> {
-    let alloc = rt.alloc();
-    let mut text = Text::from_bytes(alloc, START)?;
+    let mut text = Text::from_bytes(rt.alloc(), START)?;
     text.extend(LINES)?;
-    let mut symbols = Symbols::new(alloc);
-    let result = read_proof(alloc, text.as_bytes(), &mut symbols);
-    assert_eq!(rt; result.err(), Some(ProofFault::Truncated));
+    assert!(rt; is_truncated(rt.alloc(), text.as_bytes()));
     Ok(())
+}
+
+fn is_truncated(alloc: Global, text: &[u8]) -> bool {
+    let mut symbols = Symbols::new(alloc);
+    matches!(
+        read_proof(alloc, text, &mut symbols),
+        Err(ProofFault::Truncated)
+    )
 }
 
 // Why lines without a frame aren't read, if they aren't.
@@ -266,60 +290,73 @@ const ALONE: &[(&[u8], Option<ProofFault>)] = &[
 #[test]
 fn lines_alone(rt: HostRuntime) -> Result<(), Fail> {
     for (lines, wanted) in ALONE {
-        assert_eq!(rt; fault_alone(rt.alloc(), lines)?, *wanted);
+        assert!(rt; fault_alone(rt.alloc(), lines)? == *wanted);
     }
     Ok(())
 }
 
 // Bodies with their sources, behind two lines that these may name.
+const SOURCES: &[&str] = &[
+    "a = b , file ( 'r' , +1 )",
+    "X != b , file ( r , 'c' )",
+    "a = b , inference ( encode , [ goal ] , [ ] )",
+    "a = b , inference ( encode , [ reflexive ] , [ p , q ] )",
+    "$false , inference ( refute , [ ] , [ p ] )",
+    "X = b , inference ( chain , [ X ] , [ p ] )",
+    "X = b , inference ( chain , [ X , step ( q , lr , [ 1 , 2 ] , b ) , step ( q , rl , [ ] , b ) ] , [ p , q ] )",
+];
+
+const BEFORE: &[u8] = b"cnf(p,axiom,a=b,file(f,x)). cnf(q,axiom,a=b,file(f,x)). cnf(r,plain,";
+
+// Why lines of these pieces aren't read, if they aren't.
+fn fault_of(
+    alloc: Global,
+    before: &[u8],
+    said: &str,
+    behind: &[u8],
+) -> Result<Option<ProofFault>, AllocError> {
+    let mut lines = Text::from_bytes(alloc, before)?;
+    lines.extend(said.as_bytes())?;
+    lines.extend(behind)?;
+    fault_alone(alloc, lines.as_bytes())
+}
+
 #[test]
 fn sources(rt: HostRuntime) -> Result<(), Fail> {
-    let alloc = rt.alloc();
-    for said in [
-        "a = b , file ( 'r' , +1 )",
-        "X != b , file ( r , 'c' )",
-        "a = b , inference ( encode , [ goal ] , [ ] )",
-        "a = b , inference ( encode , [ reflexive ] , [ p , q ] )",
-        "$false , inference ( refute , [ ] , [ p ] )",
-        "X = b , inference ( chain , [ X ] , [ p ] )",
-        "X = b , inference ( chain , [ X , step ( q , lr , [ 1 , 2 ] , b ) , step ( q , rl , [ ] , b ) ] , [ p , q ] )",
-    ] {
-        let mut lines = Text::from_bytes(
-            alloc,
-            b"cnf(p,axiom,a=b,file(f,x)). cnf(q,axiom,a=b,file(f,x)). cnf(r,plain,",
-        )?;
-        lines.extend(said.as_bytes())?;
-        lines.extend(b").")?;
-        assert_eq!(rt; fault_alone(alloc, lines.as_bytes())?, None, "{said}");
+    for said in SOURCES {
+        assert!(rt;
+            fault_of(rt.alloc(), BEFORE, said, b").")?.is_none(),
+            "{said}"
+        );
     }
     Ok(())
 }
 
 // The column of the first line at which a body and its source stop: the body is judged where the kind of the source is known.
+const REFUSED_SOURCES: &[(&str, u32)] = &[
+    ("$false , file", 13),
+    ("a != b , inference ( chain", 13),
+    ("a = b , inference ( refute )", 13),
+    ("$false , inference ( encode", 13),
+    ("$false , inference ( 'chain'", 34),
+    ("a = b , inference chain", 31),
+    ("a = b , file ( 'r' , c", 35),
+    ("a = b , inference ( chain , [ a , step ( q , lr , [ 0", 65),
+    ("a = b , inference ( chain , [ a , step ( q , up", 58),
+    ("a = b , inference ( chain , [ ]", 43),
+    ("a = b , inference ( chain , [ a , ]", 47),
+    ("a b", 15),
+];
+
 #[test]
 fn sources_refused(rt: HostRuntime) -> Result<(), Fail> {
-    let alloc = rt.alloc();
-    for (said, column) in [
-        ("$false , file", 13),
-        ("a != b , inference ( chain", 13),
-        ("a = b , inference ( refute )", 13),
-        ("$false , inference ( encode", 13),
-        ("$false , inference ( 'chain'", 34),
-        ("a = b , inference chain", 31),
-        ("a = b , file ( 'r' , c", 35),
-        ("a = b , inference ( chain , [ a , step ( q , lr , [ 0", 65),
-        ("a = b , inference ( chain , [ a , step ( q , up", 58),
-        ("a = b , inference ( chain , [ ]", 43),
-        ("a = b , inference ( chain , [ a , ]", 47),
-        ("a b", 15),
-    ] {
-        let mut line = Text::from_bytes(alloc, b"cnf(r,plain,")?;
-        line.extend(said.as_bytes())?;
-        assert_eq!(rt;
-            fault_alone(alloc, line.as_bytes())?,
-            Some(ProofFault::Syntax(Place { line: 1, column })),
-            "{said}"
-        );
+    for (said, column) in REFUSED_SOURCES {
+        assert!(rt; stops_at(rt.alloc(), said, *column)?, "{said}");
     }
     Ok(())
+}
+
+fn stops_at(alloc: Global, said: &str, column: u32) -> Result<bool, AllocError> {
+    let fault = fault_of(alloc, b"cnf(r,plain,", said, b"")?;
+    Ok(fault == Some(ProofFault::Syntax(Place { line: 1, column })))
 }

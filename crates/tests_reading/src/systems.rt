@@ -155,9 +155,14 @@ type Rows = (
 #[test]
 fn read_and_printed(rt: HostRuntime) -> Result<(), Fail> {
     for text in [ROW, NO_FACTS, LIGHT, PATHS, ENCODED] {
-        assert_eq!(rt; again(rt.alloc(), text)?.as_bytes(), text);
+        assert!(rt; is_again(rt.alloc(), text)?);
     }
     Ok(())
+}
+
+fn is_again(alloc: Global, bytes: &[u8]) -> Result<bool, SystemFault> {
+    let text = again(alloc, bytes)?;
+    Ok(text.as_bytes() == bytes)
 }
 
 // The weight of a variable, 0 where the order has none.
@@ -368,7 +373,8 @@ const ENDS: &[Rows] = &[
 fn changed(rt: HostRuntime) -> Result<(), Fail> {
     for tables in [FIRST_LINES, ORDERS, SYMBOL_LINES, WEIGHTS, FACTS, ENDS] {
         for (text, old, wanted, pieces) in tables {
-            assert_eq!(rt; first_other(rt.alloc(), text, old, *wanted, pieces)?, None);
+            let other = first_other(rt.alloc(), text, old, *wanted, pieces)?;
+            assert!(rt; other.is_none(), "{other:?}");
         }
     }
     Ok(())
@@ -391,14 +397,16 @@ fn first_other(
 }
 
 // Texts that end too early.
+const CUT: &[(&[u8], Option<SystemFault>)] = &[
+    (b"", FIRST),
+    (b"% system 9", FIRST),
+    (b"% system 1\n", SECOND),
+];
+
 #[test]
 fn cut_off(rt: HostRuntime) -> Result<(), Fail> {
-    for (text, wanted) in [
-        (b"".as_slice(), FIRST),
-        (b"% system 9", FIRST),
-        (b"% system 1\n", SECOND),
-    ] {
-        assert_eq!(rt; fault_of(rt.alloc(), text)?, wanted);
+    for (text, wanted) in CUT {
+        assert!(rt; fault_of(rt.alloc(), text)? == *wanted);
     }
     Ok(())
 }
@@ -433,22 +441,40 @@ fn fault_between(
 // Terms of 4,096 and of 4,097 nodes.
 #[test]
 fn large_terms(rt: HostRuntime) -> Result<(), Fail> {
-    let most = tower(rt.alloc(), 4095)?;
-    let large = tower(rt.alloc(), 4096)?;
-    for (left, right, wanted) in [
-        (most.as_bytes(), most.as_bytes(), None),
-        (large.as_bytes(), b"least", LEFT),
-        (b"least", large.as_bytes(), RIGHT),
-        (large.as_bytes(), large.as_bytes(), LEFT),
-    ] {
-        assert_eq!(rt; fault_between(rt.alloc(), left, right)?, wanted);
+    for (left, right, wanted) in HEIGHTS {
+        assert!(rt; fault_of_towers(rt.alloc(), *left, *right)? == *wanted);
     }
     Ok(())
 }
 
+// How high the towers are of two sides, and what comes.
+const HEIGHTS: &[(usize, usize, Option<SystemFault>)] = &[
+    (4095, 4095, None),
+    (4096, 0, LEFT),
+    (0, 4096, RIGHT),
+    (4096, 4096, LEFT),
+];
+
+fn fault_of_towers(
+    alloc: Global,
+    left: usize,
+    right: usize,
+) -> Result<Option<SystemFault>, AllocError> {
+    let left = tower(alloc, left)?;
+    let right = tower(alloc, right)?;
+    fault_between(alloc, left.as_bytes(), right.as_bytes())
+}
+
 // What stands before and behind a term that is too large, the equation's right side, and the fault: the line's, where some token
 // is spelled otherwise than it would be printed or has the name of no symbol, before the 4,097th node, behind it or in the other term.
-const LARGE: &[(&[u8], &[u8], &[u8], Option<SystemFault>)] = &[
+type Around = (
+    &'static [u8],
+    &'static [u8],
+    &'static [u8],
+    Option<SystemFault>,
+);
+
+const LARGE: &[Around] = &[
     (b"f( ", b")", b"least", FIFTH),
     (b"f(/**/", b")", b"least", FIFTH),
     (b"'f'(", b")", b"least", FIFTH),
@@ -474,14 +500,19 @@ const LARGE: &[(&[u8], &[u8], &[u8], Option<SystemFault>)] = &[
 #[test]
 fn large_and_spelled_otherwise(rt: HostRuntime) -> Result<(), Fail> {
     let large = tower(rt.alloc(), 4096)?;
-    for (before, behind, right, wanted) in LARGE {
-        let mut left = Text::from_bytes(rt.alloc(), *before)?;
-        left.extend(large.as_bytes())?;
-        left.extend(*behind)?;
-        assert_eq!(rt;
-            fault_between(rt.alloc(), left.as_bytes(), *right)?,
-            *wanted
-        );
+    for row in LARGE {
+        assert!(rt; fault_around(rt.alloc(), large.as_bytes(), row)? == row.3);
     }
     Ok(())
+}
+
+fn fault_around(
+    alloc: Global,
+    large: &[u8],
+    row: &Around,
+) -> Result<Option<SystemFault>, AllocError> {
+    let mut left = Text::from_bytes(alloc, row.0)?;
+    left.extend(large)?;
+    left.extend(row.1)?;
+    fault_between(alloc, left.as_bytes(), row.2)
 }

@@ -41,28 +41,29 @@ fn letter(token: Option<Token>) -> (char, u32, u32, u32) {
     )
 }
 
+const ROWS: &[(&str, (char, u32, u32, u32))] = &[
+    (" \t", ('-', 0, 0, 0)),
+    ("Xa_B1", ('u', 1, 1, 5)),
+    ("1a_B1 ", ('l', 1, 2, 4)),
+    ("a'b \\'\\\\'", ('q', 1, 2, 8)),
+    ("\"\"", ('d', 1, 1, 2)),
+    ("+12+", ('m', 1, 4, 1)),
+    ("+12", ('i', 1, 1, 3)),
+    ("$$$t", ('$', 1, 2, 3)),
+    ("!!=", ('n', 1, 2, 2)),
+    ("a\r%'\n\r/*'\n*//", ('m', 3, 3, 1)),
+    ("a ''", ('!', 1, 3, 0)),
+    ("a\n'b", ('!', 2, 1, 0)),
+    ("'a\nb'", ('!', 1, 1, 0)),
+    ("'a\\b'", ('!', 1, 1, 0)),
+    ("a /*/", ('!', 1, 3, 0)),
+    ("\"a", ('!', 1, 1, 0)),
+    ("a\x7f", ('!', 1, 2, 0)),
+];
+
 #[test]
 fn texts_as_tokens(rt: HostRuntime) -> Result<(), Fail> {
-    let rows = [
-        (" \t", ('-', 0, 0, 0)),
-        ("Xa_B1", ('u', 1, 1, 5)),
-        ("1a_B1 ", ('l', 1, 2, 4)),
-        ("a'b \\'\\\\'", ('q', 1, 2, 8)),
-        ("\"\"", ('d', 1, 1, 2)),
-        ("+12+", ('m', 1, 4, 1)),
-        ("+12", ('i', 1, 1, 3)),
-        ("$$$t", ('$', 1, 2, 3)),
-        ("!!=", ('n', 1, 2, 2)),
-        ("a\r%'\n\r/*'\n*//", ('m', 3, 3, 1)),
-        ("a ''", ('!', 1, 3, 0)),
-        ("a\n'b", ('!', 2, 1, 0)),
-        ("'a\nb'", ('!', 1, 1, 0)),
-        ("'a\\b'", ('!', 1, 1, 0)),
-        ("a /*/", ('!', 1, 3, 0)),
-        ("\"a", ('!', 1, 1, 0)),
-        ("a\x7f", ('!', 1, 2, 0)),
-    ];
-    for (text, wanted) in rows.iter() {
+    for (text, wanted) in ROWS {
         assert!(rt; last_of(rt.alloc(), text)? == *wanted, "{text}");
     }
     Ok(())
@@ -81,12 +82,24 @@ fn inner_word(alloc: Global, text: &[u8]) -> Result<Text, TokenFault> {
     }
 }
 
+// Names, and the words that are printed of them.
+const PRINTED: &[(&[u8], &str)] = &[
+    (b"a 'b\\", "'a \\'b\\\\'"),
+    (b"aX_1", "aX_1"),
+    (b"1", "'1'"),
+];
+
+fn is_printed(alloc: Global, name: &[u8], wanted: &str) -> Result<bool, AllocError> {
+    let word = print_word(alloc, name)?;
+    Ok(word.as_bytes() == wanted.as_bytes())
+}
+
 #[test]
 fn words(rt: HostRuntime) -> Result<(), Fail> {
     assert!(rt; inner_word(rt.alloc(), b"'a \\'b\\\\'")?.as_bytes() == "a 'b\\".as_bytes());
-    assert!(rt; print_word(rt.alloc(), b"a 'b\\")?.as_bytes() == "'a \\'b\\\\'".as_bytes());
-    assert!(rt; print_word(rt.alloc(), b"aX_1")?.as_bytes() == "aX_1".as_bytes());
-    assert!(rt; print_word(rt.alloc(), b"1")?.as_bytes() == "'1'".as_bytes());
+    for (name, wanted) in PRINTED {
+        assert!(rt; is_printed(rt.alloc(), name, wanted)?);
+    }
     Ok(())
 }
 
