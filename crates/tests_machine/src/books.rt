@@ -31,28 +31,36 @@ const CONSTANTS: Sides = (b"b", b"a");
 // a = a
 const SAME: Sides = (b"a", b"a");
 
-fn by(worker: u32, what: Happening) -> Event {
-    Event { worker, what }
-}
+// The worker of an event, and what happened.
+type Row = (u32, Happening);
 
-// The event of a goal's result that left its ends apart.
-fn goal_rests(goal: u32) -> Happening {
-    Happening::CommitGoal {
-        goal,
-        steps: 0,
-        end: GoalEnd::Full,
+// Whether these are the events.
+fn are_events(history: &[Event], rows: &[Row]) -> bool {
+    if history.len() != rows.len() {
+        return false;
     }
+    for (event, (worker, what)) in history.iter().zip(rows) {
+        if event.worker != *worker || event.what != *what {
+            return false;
+        }
+    }
+    true
 }
 
-// The events of a goal that is drawn twice.
-fn drawing_again() -> [Event; 4] {
-    [
-        by(1, Happening::DrawGoal { goal: 0, front: 0 }),
-        by(1, Happening::ReclaimGoal { goal: 0 }),
-        by(1, Happening::DrawGoal { goal: 0, front: 0 }),
-        by(1, goal_rests(0)),
-    ]
-}
+// The events of a goal that is drawn twice, and whose result leaves its ends apart.
+const DRAWING_AGAIN: &[Row] = &[
+    (1, Happening::DrawGoal { goal: 0, front: 0 }),
+    (1, Happening::ReclaimGoal { goal: 0 }),
+    (1, Happening::DrawGoal { goal: 0, front: 0 }),
+    (
+        1,
+        Happening::CommitGoal {
+            goal: 0,
+            steps: 0,
+            end: GoalEnd::Full,
+        },
+    ),
+];
 
 // Whether what was found for a task is refused when the task was put back and drawn again.
 fn is_old_refused<R: Wait, O: Order>(
@@ -81,11 +89,15 @@ fn is_old_refused<R: Wait, O: Order>(
 // under the new one, and changes nothing.
 #[test]
 fn an_old_ticket_is_refused(rt: HostRuntime) -> Result<(), Fail> {
-    let alloc = rt.alloc();
-    let at = set_up(alloc, &[], &[CONSTANTS])?;
-    let (mut book, mut pass) = begin(alloc, &at, 9, 9, 1)?;
+    let at = set_up(rt.alloc(), &[], &[CONSTANTS])?;
+    assert!(rt; draws_again(&rt, rt.alloc(), &at)?);
+    Ok(())
+}
+
+fn draws_again<R: Wait>(rt: &R, alloc: Global, at: &Setting) -> Result<bool, Fail> {
+    let (mut book, mut pass) = begin(alloc, at, 9, 9, 1)?;
     let is_refused = is_old_refused(
-        &rt,
+        rt,
         alloc,
         &at.problem,
         &at.order,
@@ -93,22 +105,17 @@ fn an_old_ticket_is_refused(rt: HostRuntime) -> Result<(), Fail> {
         &mut book,
         &mut pass,
     )?;
-    assert!(rt; is_refused);
-    assert!(rt; pass.commits() == 1);
-    assert!(rt; book.history() == drawing_again().as_slice());
-    Ok(())
+    Ok(is_refused && pass.commits() == 1 && are_events(book.history(), DRAWING_AGAIN))
 }
 
 // The events of two tasks that are recalled, of which one is drawn again.
-fn recalling() -> [Event; 5] {
-    [
-        by(3, Happening::DrawGoal { goal: 0, front: 0 }),
-        by(64, Happening::DrawJoin { pair: 1, front: 0 }),
-        by(3, Happening::ReclaimGoal { goal: 0 }),
-        by(64, Happening::ReclaimJoin { pair: 1 }),
-        by(64, Happening::DrawGoal { goal: 0, front: 0 }),
-    ]
-}
+const RECALLING: &[Row] = &[
+    (3, Happening::DrawGoal { goal: 0, front: 0 }),
+    (64, Happening::DrawJoin { pair: 1, front: 0 }),
+    (3, Happening::ReclaimGoal { goal: 0 }),
+    (64, Happening::ReclaimJoin { pair: 1 }),
+    (64, Happening::DrawGoal { goal: 0, front: 0 }),
+];
 
 // Whether the goal comes next, under the third ticket.
 fn gets_goal(alloc: Global, book: &mut Book<Kbo>, pass: &mut Pass) -> Result<bool, AllocError>
@@ -157,29 +164,31 @@ fn is_recalled(alloc: Global, book: &mut Book<Kbo>, one: &mut Pass) -> Result<bo
 // With the budget reserved nothing is drawn; what is out is recalled by ticket, and is drawn again under another one.
 #[test]
 fn what_is_out_is_recalled(rt: HostRuntime) -> Result<(), Fail> {
-    let alloc = rt.alloc();
-    let at = set_up(alloc, &[LONG, SHORT], &[CONSTANTS])?;
-    let (mut book, mut pass) = begin(alloc, &at, 1, 2, 3)?;
-    assert!(rt; is_recalled(alloc, &mut book, &mut pass)?);
-    assert!(rt; book.history() == recalling().as_slice());
+    let at = set_up(rt.alloc(), &[LONG, SHORT], &[CONSTANTS])?;
+    assert!(rt; recalls(rt.alloc(), &at)?);
     Ok(())
 }
 
-// The events of two goals, of which the second is proved first.
-fn coming_late() -> [Event; 5] {
-    let met = Happening::CommitGoal {
-        goal: 1,
-        steps: 0,
-        end: GoalEnd::Met,
-    };
-    [
-        by(0, Happening::DrawGoal { goal: 0, front: 0 }),
-        by(64, Happening::DrawGoal { goal: 1, front: 0 }),
-        by(64, met),
-        by(64, Happening::Close(Ending::Proved)),
-        by(0, Happening::CommitLate { ticket: 0 }),
-    ]
+fn recalls(alloc: Global, at: &Setting) -> Result<bool, AllocError> {
+    let (mut book, mut pass) = begin(alloc, at, 1, 2, 3)?;
+    Ok(is_recalled(alloc, &mut book, &mut pass)? && are_events(book.history(), RECALLING))
 }
+
+// The events of two goals, of which the second is proved first.
+const COMING_LATE: &[Row] = &[
+    (0, Happening::DrawGoal { goal: 0, front: 0 }),
+    (64, Happening::DrawGoal { goal: 1, front: 0 }),
+    (
+        64,
+        Happening::CommitGoal {
+            goal: 1,
+            steps: 0,
+            end: GoalEnd::Met,
+        },
+    ),
+    (64, Happening::Close(Ending::Proved)),
+    (0, Happening::CommitLate { ticket: 0 }),
+];
 
 // Whether the book is closed by the proof of the second goal.
 fn is_closed_by_other<O: Order>(
@@ -246,21 +255,24 @@ fn comes_late<R: Wait>(
 // A result that comes when the other goal is proved is counted, and changes nothing else.
 #[test]
 fn a_result_comes_late(rt: HostRuntime) -> Result<(), Fail> {
-    let alloc = rt.alloc();
-    let at = set_up(alloc, &[], &[CONSTANTS, SAME])?;
-    let (mut book, mut pass) = begin(alloc, &at, 9, 9, 0)?;
-    assert!(rt; comes_late(&rt, alloc, &at, &mut book, &mut pass)?);
-    assert!(rt; book.history() == coming_late().as_slice());
+    let at = set_up(rt.alloc(), &[], &[CONSTANTS, SAME])?;
+    assert!(rt; is_counted_late(&rt, rt.alloc(), &at)?);
     Ok(())
 }
+
+fn is_counted_late<R: Wait>(rt: &R, alloc: Global, at: &Setting) -> Result<bool, Fail> {
+    let (mut book, mut pass) = begin(alloc, at, 9, 9, 0)?;
+    Ok(comes_late(rt, alloc, at, &mut book, &mut pass)? && are_events(book.history(), COMING_LATE))
+}
+
+const CLOSED_BY_PAIRS: &[Row] = &[(0, Happening::Close(Ending::Pairs))];
 
 // Whether two axioms close a book at once where one pair may wait.
 fn is_closed_by_pairs(alloc: Global, at: &Setting) -> Result<bool, AllocError> {
     let book = Book::start(alloc, &at.problem, &at.order, &at.shelf, 9, 1)?;
-    let closed = by(0, Happening::Close(Ending::Pairs));
     Ok(
         book.verdict() == Some(&Verdict::PairsOut { waiting: 0, new: 2 })
-            && book.history() == [closed].as_slice(),
+            && are_events(book.history(), CLOSED_BY_PAIRS),
     )
 }
 
@@ -280,14 +292,20 @@ fn is_closed_by_budget(
 // More axioms than may wait close a book at once; with as many as the limit it goes on, until its budget closes it.
 #[test]
 fn limits_close_a_book(rt: HostRuntime) -> Result<(), Fail> {
-    let alloc = rt.alloc();
-    let at = set_up(alloc, &[LONG, SHORT], &[])?;
-    assert!(rt; is_closed_by_pairs(alloc, &at)?);
-    let (mut book, mut pass) = begin(alloc, &at, 0, 2, 5)?;
-    assert!(rt; is_closed_by_budget(alloc, &mut book, &mut pass)?);
-    let closed = by(5, Happening::Close(Ending::Budget));
-    assert!(rt; book.history() == [closed].as_slice());
+    let at = set_up(rt.alloc(), &[LONG, SHORT], &[])?;
+    assert!(rt; is_closed_by_pairs(rt.alloc(), &at)?);
+    assert!(rt; goes_on_to_budget(rt.alloc(), &at)?);
     Ok(())
+}
+
+const CLOSED_BY_BUDGET: &[Row] = &[(5, Happening::Close(Ending::Budget))];
+
+fn goes_on_to_budget(alloc: Global, at: &Setting) -> Result<bool, AllocError> {
+    let (mut book, mut pass) = begin(alloc, at, 0, 2, 5)?;
+    Ok(
+        is_closed_by_budget(alloc, &mut book, &mut pass)?
+            && are_events(book.history(), CLOSED_BY_BUDGET),
+    )
 }
 
 // Whether a task comes, at the second draw where the first one is refused.
@@ -315,11 +333,14 @@ fn gets_task_again(alloc: Global, book: &mut Book<Kbo>, pass: &mut Pass) -> Resu
 // To be made with each allocation failing in turn: a draw that finds no memory changes nothing, and is made again.
 #[test]
 fn a_refused_draw_changes_nothing(rt: HostRuntime) -> Result<(), Fail> {
-    let alloc = rt.alloc();
-    let at = set_up(alloc, &[SHORT], &[])?;
-    let (mut book, mut pass) = begin(alloc, &at, 9, 9, 3)?;
-    assert!(rt; gets_task_of_two(alloc, &mut book, &mut pass)?);
-    let drawn = by(3, Happening::DrawJoin { pair: 0, front: 0 });
-    assert!(rt; book.history() == [drawn].as_slice());
+    let at = set_up(rt.alloc(), &[SHORT], &[])?;
+    assert!(rt; draws_once(rt.alloc(), &at)?);
     Ok(())
+}
+
+const DRAWN: &[Row] = &[(3, Happening::DrawJoin { pair: 0, front: 0 })];
+
+fn draws_once(alloc: Global, at: &Setting) -> Result<bool, AllocError> {
+    let (mut book, mut pass) = begin(alloc, at, 9, 9, 3)?;
+    Ok(gets_task_of_two(alloc, &mut book, &mut pass)? && are_events(book.history(), DRAWN))
 }

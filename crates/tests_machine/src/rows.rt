@@ -89,24 +89,40 @@ fn stands(pairs: &Pairs, axiom: u32, weight: u32, state: State, waiting: usize) 
 fn pairs_are_drawn(rt: HostRuntime) -> Result<(), Fail> {
     let mut pairs = three_pairs(rt.alloc())?;
     assert!(rt; pairs.count() == 3 && stands(&pairs, 1, 3, State::Waiting, 2));
-    let first = hand_out(&mut pairs)?;
-    assert!(rt; first == 1 && stands(&pairs, 1, 3, State::Out(7), 1));
-    give_back(&mut pairs, first)?;
-    assert!(rt; stands(&pairs, 1, 3, State::Waiting, 2));
-    let again = hand_out(&mut pairs)?;
-    finish(&mut pairs, again)?;
-    assert!(rt; stands(&pairs, 1, 3, State::Done, 1));
+    assert!(rt; is_given_back(&mut pairs)?);
+    assert!(rt; is_finished(&mut pairs)?);
     Ok(())
+}
+
+// Whether the lightest pair is drawn, and waits again.
+fn is_given_back(pairs: &mut Pairs) -> Result<bool, Fail> {
+    let first = hand_out(pairs)?;
+    let is_drawn = stands(pairs, 1, 3, State::Out(7), 1);
+    give_back(pairs, first)?;
+    Ok(first == 1 && is_drawn && stands(pairs, 1, 3, State::Waiting, 2))
+}
+
+// Whether it is drawn, and is Done.
+fn is_finished(pairs: &mut Pairs) -> Result<bool, Fail> {
+    let again = hand_out(pairs)?;
+    finish(pairs, again)?;
+    Ok(stands(pairs, 1, 3, State::Done, 1))
 }
 
 // Both pairs that wait are dropped, the lighter one first.
 #[test]
 fn pairs_are_dropped(rt: HostRuntime) -> Result<(), Fail> {
     let mut pairs = three_pairs(rt.alloc())?;
-    assert!(rt; drop_head(&mut pairs)? == 1 && stands(&pairs, 1, 3, State::Orphan, 1));
-    assert!(rt; drop_head(&mut pairs)? == 0 && stands(&pairs, 0, 5, State::Orphan, 0));
+    assert!(rt; drops(&mut pairs, 1, 3, 1)?);
+    assert!(rt; drops(&mut pairs, 0, 5, 0)?);
     assert!(rt; pairs.head().is_none() && pairs.row(3).is_none());
     Ok(())
+}
+
+// Whether the pair of this axiom and weight is dropped, and so many wait then.
+fn drops(pairs: &mut Pairs, axiom: u32, weight: u32, waiting: usize) -> Result<bool, Fail> {
+    let dropped = drop_head(pairs)?;
+    Ok(dropped == u64::from(axiom) && stands(pairs, axiom, weight, State::Orphan, waiting))
 }
 
 // THE GOALS
@@ -175,20 +191,43 @@ fn leads(goals: &Goals, goal: u32, left: &Term, right: &Term, steps: usize) -> b
 // A goal that is Continued is no more Due; one that is Stuck is Due where there is a new entry.
 #[test]
 fn goals_turn_and_wake(rt: HostRuntime) -> Result<(), Fail> {
-    let alloc = rt.alloc();
-    let mut goals = two_goals(alloc)?;
-    assert!(rt; goals.count() == 2 && goals.first_due() == Some(0));
+    let mut goals = two_goals(rt.alloc())?;
+    assert!(rt; goals.count() == 2 && turn(&mut goals));
+    assert!(rt; wake(&mut goals));
+    assert!(rt; goals.stages(rt.alloc())?.len() == 2);
+    go_on(rt.alloc(), &mut goals, 0, 4)?;
+    assert!(rt; leads_to(rt.alloc(), &goals, 0, (4, 1), 1)?);
+    assert!(rt; leads_to(rt.alloc(), &goals, 1, (2, 3), 0)?);
+    Ok(())
+}
+
+// Whether a goal that is Continued is no more Due.
+fn turn(goals: &mut Goals) -> bool {
+    let before = goals.first_due();
     goals.turn(0, Stage::Continued);
-    assert!(rt; goals.first_due() == Some(1) && goals.first_continued() == Some(0));
+    before == Some(0) && goals.first_due() == Some(1) && goals.first_continued() == Some(0)
+}
+
+// Whether one that is Stuck is woken, and no other.
+fn wake(goals: &mut Goals) -> bool {
     goals.turn(0, Stage::Stuck);
     goals.turn(1, Stage::Busy);
     goals.wake();
-    assert!(rt; goals.stage(0) == Some(Stage::Due) && goals.stage(1) == Some(Stage::Busy));
-    assert!(rt; goals.stages(alloc)?.len() == 2 && goals.stage(2) == None);
-    go_on(alloc, &mut goals, 0, 4)?;
-    assert!(rt; leads(&goals, 0, &constant(alloc, 4)?, &constant(alloc, 1)?, 1));
-    assert!(rt; leads(&goals, 1, &constant(alloc, 2)?, &constant(alloc, 3)?, 0));
-    Ok(())
+    goals.stage(0) == Some(Stage::Due)
+        && goals.stage(1) == Some(Stage::Busy)
+        && goals.stage(2) == None
+}
+
+// Whether the chains of a goal lead to these constants.
+fn leads_to(
+    alloc: Global,
+    goals: &Goals,
+    goal: u32,
+    ends: (u32, u32),
+    steps: usize,
+) -> Result<bool, TermFault> {
+    let ends = equation(alloc, ends.0, ends.1)?;
+    Ok(leads(goals, goal, &ends.left, &ends.right, steps))
 }
 
 // The job about a goal that is Due or, where none is, about one that is Continued.
@@ -218,20 +257,28 @@ fn row(alloc: Global, ticket: u64, job: Job) -> TaskRow {
 // Jobs about goals, their events and units, and where the task of a ticket stands.
 #[test]
 fn jobs_are_about_goals(rt: HostRuntime) -> Result<(), Fail> {
-    let alloc = rt.alloc();
-    let mut goals = two_goals(alloc)?;
+    let mut goals = two_goals(rt.alloc())?;
     goals.turn(0, Stage::Continued);
-    let due = next_job(alloc, &mut goals)?;
-    assert!(rt;
-        draw_event(&due, 5) == Happening::DrawGoal { goal: 1, front: 5 } && units(&due) == 0
-    );
+    let due = next_job(rt.alloc(), &mut goals)?;
+    assert!(rt; is_due(&due));
     goals.turn(1, Stage::Settled);
-    let more = next_job(alloc, &mut goals)?;
-    assert!(rt; reclaim_event(&more) == Happening::ReclaimMore { goal: 0 } && units(&more) == 1);
-    assert!(rt; !same_job(&due, &more));
-    let tasks = [row(alloc, 3, due), row(alloc, 5, more)];
-    assert!(rt; place_of(&tasks, 5) == Some(1) && place_of(&tasks, 4) == None);
+    let more = next_job(rt.alloc(), &mut goals)?;
+    assert!(rt; is_more(&more) && !same_job(&due, &more));
+    assert!(rt; are_placed(rt.alloc(), due, more));
     Ok(())
+}
+
+fn is_due(job: &Job) -> bool {
+    draw_event(job, 5) == Happening::DrawGoal { goal: 1, front: 5 } && units(job) == 0
+}
+
+fn is_more(job: &Job) -> bool {
+    reclaim_event(job) == Happening::ReclaimMore { goal: 0 } && units(job) == 1
+}
+
+fn are_placed(alloc: Global, due: Job, more: Job) -> bool {
+    let tasks = [row(alloc, 3, due), row(alloc, 5, more)];
+    place_of(&tasks, 5) == Some(1) && place_of(&tasks, 4) == None
 }
 
 // THE FACTS
@@ -320,19 +367,36 @@ fn facts_meet_and_die(rt: HostRuntime) -> Result<(), Fail> {
     let alloc = rt.alloc();
     let shelf = Shelf::new(alloc)?;
     let mut facts = two_facts(&rt, alloc, &shelf)?;
-    assert!(rt; facts.count() == 2 && facts.weight(0) == 3 && facts.weight(1) == 2);
-    assert!(rt; facts.first_unmet() == Some(0) && facts.meeting(2) == None);
-    facts.settle(0, Meeting::Visiting);
-    assert!(rt; facts.first_unmet() == Some(1));
-    facts.restore(0);
-    assert!(rt; facts.first_unmet() == Some(0));
-    facts.settle(1, Meeting::Visiting);
+    assert!(rt; are_two(&facts));
+    assert!(rt; meet(&mut facts));
     dies(&rt, alloc, &shelf, &mut facts, 1, 0)?;
-    assert!(rt; facts.is_dead(1) && !facts.is_dead(0) && facts.front().len() == 3);
-    assert!(rt; facts.meeting(1) == Some(Meeting::Visiting));
-    facts.restore(1);
-    assert!(rt; facts.meeting(1) == Some(Meeting::Met));
+    assert!(rt; is_second_dead(&mut facts));
     Ok(())
+}
+
+fn are_two(facts: &Facts) -> bool {
+    facts.count() == 2 && facts.weight(0) == 3 && facts.weight(1) == 2 && facts.meeting(2) == None
+}
+
+// Whether the first fact is Unmet first, but not while it meets, and again when that isn't held; the second one meets at last.
+fn meet(facts: &mut Facts) -> bool
+    ensures { facts.new.front ≡ facts.old.front }
+{
+    let before = facts.first_unmet();
+    facts.settle(0, Meeting::Visiting);
+    let meanwhile = facts.first_unmet();
+    facts.restore(0);
+    let after = facts.first_unmet();
+    facts.settle(1, Meeting::Visiting);
+    before == Some(0) && meanwhile == Some(1) && after == Some(0)
+}
+
+// Whether the second fact is dead while it meets, and Met when that isn't held.
+fn is_second_dead(facts: &mut Facts) -> bool {
+    let died = facts.is_dead(1) && !facts.is_dead(0) && facts.front().len() == 3;
+    let meanwhile = facts.meeting(1);
+    facts.restore(1);
+    died && meanwhile == Some(Meeting::Visiting) && facts.meeting(1) == Some(Meeting::Met)
 }
 
 // THE WORKERS
@@ -355,15 +419,26 @@ fn are(numbers: &[Numbers], worker: usize, drawn: u64, commits: u64, reclaims: u
 // Each number of a worker rises by one, and no other worker's does.
 #[test]
 fn numbers_rise(rt: HostRuntime) -> Result<(), Fail> {
-    let alloc = rt.alloc();
+    assert!(rt; draws_rise(rt.alloc())?);
+    assert!(rt; commits_rise(rt.alloc())?);
+    assert!(rt; reclaims_rise(rt.alloc())?);
+    Ok(())
+}
+
+fn draws_rise(alloc: Global) -> Result<bool, AllocError> {
     let mut drawn = numbers(alloc)?;
     count_draw(&mut drawn, 64);
-    assert!(rt; are(&drawn, 64, 1, 0, 0) && are(&drawn, 63, 0, 0, 0));
+    Ok(are(&drawn, 64, 1, 0, 0) && are(&drawn, 63, 0, 0, 0))
+}
+
+fn commits_rise(alloc: Global) -> Result<bool, AllocError> {
     let mut commits = numbers(alloc)?;
     count_commit(&mut commits, 0);
-    assert!(rt; are(&commits, 0, 0, 1, 0) && are(&commits, 1, 0, 0, 0));
+    Ok(are(&commits, 0, 0, 1, 0) && are(&commits, 1, 0, 0, 0))
+}
+
+fn reclaims_rise(alloc: Global) -> Result<bool, AllocError> {
     let mut reclaims = numbers(alloc)?;
     count_reclaim(&mut reclaims, 1);
-    assert!(rt; are(&reclaims, 1, 0, 0, 1));
-    Ok(())
+    Ok(are(&reclaims, 1, 0, 0, 1))
 }

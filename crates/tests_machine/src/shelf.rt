@@ -114,35 +114,53 @@ fn a_view_has_what_lives(rt: HostRuntime) -> Result<(), Fail> {
     let front = filled(&rt, alloc, &shelf)?;
     let view = shelf.view(&front);
     assert!(rt; are_live(&view));
-    let of_g = [(0, Side::Right), (2, Side::Left)];
-    assert!(rt; finds(alloc, &view, G, &of_g)?);
-    let of_f = [(0, Side::Left), (0, Side::Right), (2, Side::Right)];
-    assert!(rt; finds(alloc, &view, F, &of_f)?);
-    assert!(rt; first_left(alloc, &view, G)? == Some(2));
+    assert!(rt; finds_living(alloc, &view)?);
     Ok(())
+}
+
+const OF_G: &[(u32, Side)] = &[(0, Side::Right), (2, Side::Left)];
+
+const OF_F: &[(u32, Side)] = &[(0, Side::Left), (0, Side::Right), (2, Side::Right)];
+
+fn finds_living<I: Index>(alloc: Global, index: &I) -> Result<bool, Fail> {
+    Ok(
+        finds(alloc, index, G, OF_G)?
+            && finds(alloc, index, F, OF_F)?
+            && first_left(alloc, index, G)? == Some(2),
+    )
 }
 
 // A copy and a front that was made apart have the same entries until one gets one more; the others stay.
 #[test]
 fn fronts_stand_apart(rt: HostRuntime) -> Result<(), Fail> {
-    let alloc = rt.alloc();
-    let shelf = Shelf::new(alloc)?;
-    let mut front = filled(&rt, alloc, &shelf)?;
-    let other = front.copy(alloc)?;
-    let apart = filled(&rt, alloc, &shelf)?;
+    let shelf = Shelf::new(rt.alloc())?;
+    let mut front = filled(&rt, rt.alloc(), &shelf)?;
+    let other = front.copy(rt.alloc())?;
+    let apart = filled(&rt, rt.alloc(), &shelf)?;
     assert!(rt; shelf.same(&front, &other) && shelf.same(&front, &apart));
     put(
         &rt,
-        alloc,
+        rt.alloc(),
         &shelf,
         &mut front,
         Entry::Dies { fact: 0, killer: 2 },
     )?;
-    assert!(rt; front.len() == 5 && other.len() == 4);
-    assert!(rt; !shelf.same(&front, &other) && !shelf.same(&front, &apart));
-    assert!(rt; shelf.view(&front).pair(0).is_none());
-    assert!(rt; are_live(&shelf.view(&other)));
+    assert!(rt; are_apart(&shelf, &front, &other, &apart));
     Ok(())
+}
+
+// Whether a front has one entry more than two others, which have the four.
+fn are_apart(shelf: &Shelf, front: &Front, other: &Front, apart: &Front) -> bool
+    requires front { IsOf shelf.now front.now }
+    requires other { IsOf shelf.now other.now }
+    requires apart { IsOf shelf.now apart.now }
+{
+    front.len() == 5
+        && other.len() == 4
+        && !shelf.same(front, other)
+        && !shelf.same(front, apart)
+        && shelf.view(front).pair(0).is_none()
+        && are_live(&shelf.view(other))
 }
 
 // Whether the front has this entry at a number.
@@ -159,10 +177,16 @@ fn entries_are_read(rt: HostRuntime) -> Result<(), Fail> {
     let shelf = Shelf::new(alloc)?;
     let front = filled(&rt, alloc, &shelf)?;
     let last = entry(alloc, 3)?.copy(alloc)?;
-    assert!(rt; reads(&shelf, &front, 3, &last));
-    assert!(rt; !reads(&shelf, &front, 2, &last) && !reads(&shelf, &front, 4, &last));
+    assert!(rt; reads_last(&shelf, &front, &last));
     assert!(rt; reads(&shelf, &front, 2, &Entry::Dies { fact: 1, killer: 2 }));
     Ok(())
+}
+
+// Whether the front has the entry at 3 alone.
+fn reads_last(shelf: &Shelf, front: &Front, last: &Entry) -> bool
+    requires { IsOf shelf.now front.now }
+{
+    reads(shelf, front, 3, last) && !reads(shelf, front, 2, last) && !reads(shelf, front, 4, last)
 }
 
 fn crosses<T: Send + Sync>(_value: &T) {}

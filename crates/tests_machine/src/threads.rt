@@ -36,48 +36,35 @@ const INSTANCES: &[Sides] = &[
 // The overlaps of two facts are formed by two threads, and nothing is compared before.
 #[test]
 fn two_threads_form_overlaps(rt: HostRuntime) -> Result<(), Fail> {
-    let alloc = rt.alloc();
-    let shelf = Shelf::new(alloc)?;
-    let front = front_of(&rt, alloc, &shelf, INVOLUTIONS)?;
-    let order = Watched::new(order(alloc)?);
-    let axioms = Vec::new(alloc);
-    let outcome = pass(
-        &rt,
-        alloc,
-        &shelf,
-        &front,
-        axioms.as_slice(),
-        &[],
-        &order,
-        2,
-    )?;
+    let order = Watched::new(order(rt.alloc())?);
+    assert!(rt; converge(&rt, rt.alloc(), INVOLUTIONS, &[], &order)?);
     assert!(rt; order.have_met());
-    assert!(rt; matches!(outcome, Outcome::Convergent(_)));
     Ok(())
+}
+
+// Whether the final pass by two threads finds that the facts converge. Nothing else compares.
+fn converge<R: Threads + Wait + Sync>(
+    rt: &R,
+    alloc: Global,
+    facts: &[Sides],
+    axioms: &[Sides],
+    order: &Watched,
+) -> Result<bool, Fail> {
+    let shelf = Shelf::new(alloc)?;
+    let front = front_of(rt, alloc, &shelf, facts)?;
+    let axioms = equations(alloc, axioms)?;
+    let outcome = pass(rt, alloc, &shelf, &front, axioms.as_slice(), &[], order, 2)?;
+    Ok(matches!(outcome, Outcome::Convergent(_)))
 }
 
 // One fact alone has its overlaps formed by one thread; its instances are tested by two, and these tests alone compare terms of
 // five nodes.
 #[test]
 fn two_threads_test_pairs(rt: HostRuntime) -> Result<(), Fail> {
-    let alloc = rt.alloc();
-    let shelf = Shelf::new(alloc)?;
-    let front = front_of(&rt, alloc, &shelf, COMMUTATIVE)?;
-    let order = Watched::idle(order(alloc)?, 5, TURNS);
-    let axioms = equations(alloc, INSTANCES)?;
+    let order = Watched::idle(order(rt.alloc())?, 5, TURNS);
     order.watch();
-    let outcome = pass(
-        &rt,
-        alloc,
-        &shelf,
-        &front,
-        axioms.as_slice(),
-        &[],
-        &order,
-        2,
-    )?;
+    assert!(rt; converge(&rt, rt.alloc(), COMMUTATIVE, INSTANCES, &order)?);
     assert!(rt; order.have_met());
-    assert!(rt; matches!(outcome, Outcome::Convergent(_)));
     Ok(())
 }
 

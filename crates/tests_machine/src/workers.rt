@@ -3,9 +3,9 @@
 ghost use Rattle.std.specs.Prelude.{◌<◌, ◌≤◌};
 
 use crate::alphabet::{Sides, order};
-use crate::books::settings::set_up;
+use crate::books::settings::{Setting, set_up};
 use crate::watched::Watched;
-use std::alloc::Global;
+use std::alloc::{AllocError, Global};
 use std::sync::Wait;
 use std::sync::atomic::{AtomicBool, AtomicU64, Ordering};
 use std::test::Fail;
@@ -13,6 +13,7 @@ use std::thread;
 use std::thread::Threads;
 use uc_edge::{Gate, NoGate};
 use uc_machine::{Ending, Event, GoalEnd, Happening, Verdict};
+use uc_order::Order;
 use uc_worker::search;
 
 /// How often whoever waits for another looks for it before it gives up.
@@ -73,10 +74,6 @@ impl Gate for Meeting {
     }
 }
 
-fn by(worker: u32, what: Happening) -> Event {
-    Event { worker, what }
-}
-
 // Whether these are draws of the first two pairs, by two workers.
 fn are_two_draws(one: &Event, other: &Event) -> bool {
     one.what == Happening::DrawJoin { pair: 0, front: 0 }
@@ -100,11 +97,21 @@ fn is_reclaim(event: &Event) -> bool {
 // which is the number of draws before it. Both commit, and worker 0 finds nothing left to do.
 #[test]
 fn two_workers_meet(rt: HostRuntime) -> Result<(), Fail> {
-    let alloc = rt.alloc();
-    let at = set_up(alloc, AXIOMS, &[])?;
+    let at = set_up(rt.alloc(), AXIOMS, &[])?;
     let gate = Meeting::new();
+    assert!(rt; meet_at(&rt, rt.alloc(), &at, &gate)?);
+    assert!(rt; gate.met.load(Ordering::SeqCst));
+    Ok(())
+}
+
+fn meet_at<R: Threads + Wait + Sync>(
+    rt: &R,
+    alloc: Global,
+    at: &Setting,
+    gate: &Meeting,
+) -> Result<bool, AllocError> {
     let searched = search(
-        &rt,
+        rt,
         alloc,
         &at.problem,
         &at.order,
@@ -112,31 +119,60 @@ fn two_workers_meet(rt: HostRuntime) -> Result<(), Fail> {
         99,
         99,
         2,
-        &gate,
+        gate,
     )?;
-    assert!(rt; gate.met.load(Ordering::SeqCst));
-    assert!(rt; searched.verdict == Verdict::Saturated);
-    let history = searched.book.history();
-    let shares = searched.shares.as_slice();
-    assert!(rt; history.len() > 2 && are_two_draws(&history[0], &history[1]));
-    assert_eq!(rt; gate.ticket_of(history[0].worker).load(Ordering::SeqCst), 0);
-    assert_eq!(rt; gate.ticket_of(history[1].worker).load(Ordering::SeqCst), 1);
-    assert!(rt; !history.iter().any(|event| is_reclaim(event)));
-    assert!(rt; shares.len() == 3 && shares[0] == 0 && shares[1] > 0 && shares[2] > 0);
-    Ok(())
+    let is_saturated = searched.verdict == Verdict::Saturated;
+    Ok(is_saturated && met_first(searched.book.history(), gate) && both_commit(&searched.shares))
+}
+
+// Whether two workers drew first, each under the ticket at the gate, and no task was put back.
+fn met_first(history: &[Event], gate: &Meeting) -> bool {
+    history.len() > 2
+        && are_two_draws(&history[0], &history[1])
+        && gate.ticket_of(history[0].worker).load(Ordering::SeqCst) == 0
+        && gate.ticket_of(history[1].worker).load(Ordering::SeqCst) == 1
+        && !history.iter().any(|event| is_reclaim(event))
+}
+
+fn both_commit(shares: &[u64]) -> bool {
+    shares.len() == 3 && shares[0] == 0 && shares[1] > 0 && shares[2] > 0
 }
 
 // Two workers compute at once: while one compares two terms, another does, so that none has the lock.
 #[test]
 fn two_workers_compute(rt: HostRuntime) -> Result<(), Fail> {
-    let alloc = rt.alloc();
-    let at = set_up(alloc, AXIOMS, &[])?;
+    let at = set_up(rt.alloc(), AXIOMS, &[])?;
+    let order = Watched::new(order(rt.alloc())?);
     let gate = Meeting::new();
-    let order = Watched::new(order(alloc)?);
-    let searched = search(&rt, alloc, &at.problem, &order, &at.shelf, 99, 99, 2, &gate)?;
+    assert!(rt; ends_so(&rt, rt.alloc(), &at, &order, 2, &gate, Verdict::Saturated)?);
     assert!(rt; order.have_met());
-    assert!(rt; searched.verdict == Verdict::Saturated);
     Ok(())
+}
+
+// Whether so many workers come to this verdict.
+fn ends_so<O: Order + Sync, G: Gate + Sync, R: Threads + Wait + Sync>(
+    rt: &R,
+    alloc: Global,
+    at: &Setting,
+    order: &O,
+    workers: u32,
+    gate: &G,
+    verdict: Verdict,
+) -> Result<bool, AllocError>
+    requires { (0 < workers) × (workers ≤ 64) }
+{
+    let searched = search(
+        rt,
+        alloc,
+        &at.problem,
+        order,
+        &at.shelf,
+        99,
+        99,
+        workers,
+        gate,
+    )?;
+    Ok(searched.verdict == verdict)
 }
 
 // A gate that lets the worker of the first ticket on when all others have passed but one, and lets the order watch from there.
@@ -186,78 +222,88 @@ const SPREAD: &[Sides] = &[
 // nodes: the worker of the second ticket has made them all before the gate opens, and in the pass one is in each half of the pairs.
 #[test]
 fn two_workers_end_a_round(rt: HostRuntime) -> Result<(), Fail> {
-    let alloc = rt.alloc();
-    let at = set_up(alloc, SPREAD, &[])?;
-    let order = Watched::idle(order(alloc)?, 5, TURNS);
+    let at = set_up(rt.alloc(), SPREAD, &[])?;
+    let order = Watched::idle(order(rt.alloc())?, 5, TURNS);
     let gate = Last {
         order: &order,
         came: AtomicU64::new(0),
     };
-    let searched = search(&rt, alloc, &at.problem, &order, &at.shelf, 99, 99, 2, &gate)?;
+    assert!(rt; ends_so(&rt, rt.alloc(), &at, &order, 2, &gate, Verdict::Saturated)?);
     assert!(rt; gate.came.load(Ordering::SeqCst) == BEFORE_LAST + 1);
     assert!(rt; order.have_met());
-    assert!(rt; searched.verdict == Verdict::Saturated);
     Ok(())
 }
 
 // The events of a search by worker 0 alone.
-fn alone() -> [Event; 13] {
-    let full = |steps: u32| Happening::CommitGoal {
+const ALONE: &[Happening] = &[
+    Happening::DrawGoal { goal: 0, front: 0 },
+    Happening::CommitGoal {
         goal: 0,
-        steps,
+        steps: 0,
         end: GoalEnd::Full,
-    };
-    let met = Happening::CommitGoal {
+    },
+    Happening::DrawJoin { pair: 0, front: 0 },
+    Happening::CommitKept { pair: 0, fact: 0 },
+    Happening::DrawGoal { goal: 0, front: 1 },
+    Happening::CommitGoal {
         goal: 0,
         steps: 1,
-        end: GoalEnd::Met,
-    };
-    let no_pairs = Happening::CommitMeet {
+        end: GoalEnd::Full,
+    },
+    Happening::DrawMeet { fact: 0, front: 1 },
+    Happening::CommitMeet {
         fact: 0,
         pairs: 0,
         kills: 0,
-    };
-    [
-        by(0, Happening::DrawGoal { goal: 0, front: 0 }),
-        by(0, full(0)),
-        by(0, Happening::DrawJoin { pair: 0, front: 0 }),
-        by(0, Happening::CommitKept { pair: 0, fact: 0 }),
-        by(0, Happening::DrawGoal { goal: 0, front: 1 }),
-        by(0, full(1)),
-        by(0, Happening::DrawMeet { fact: 0, front: 1 }),
-        by(0, no_pairs),
-        by(0, Happening::DrawJoin { pair: 1, front: 1 }),
-        by(0, Happening::CommitKept { pair: 1, fact: 1 }),
-        by(0, Happening::DrawGoal { goal: 0, front: 2 }),
-        by(0, met),
-        by(0, Happening::Close(Ending::Proved)),
-    ]
+    },
+    Happening::DrawJoin { pair: 1, front: 1 },
+    Happening::CommitKept { pair: 1, fact: 1 },
+    Happening::DrawGoal { goal: 0, front: 2 },
+    Happening::CommitGoal {
+        goal: 0,
+        steps: 1,
+        end: GoalEnd::Met,
+    },
+    Happening::Close(Ending::Proved),
+];
+
+// Whether these happened, by worker 0.
+fn happened_alone(history: &[Event], list: &[Happening]) -> bool {
+    if history.len() != list.len() {
+        return false;
+    }
+    for (event, what) in history.iter().zip(list) {
+        if event.worker != 0 || event.what != *what {
+            return false;
+        }
+    }
+    true
 }
 
 // One worker commits each task before it draws the next one, and passes no gate.
 #[test]
 fn one_worker_is_alone(rt: HostRuntime) -> Result<(), Fail> {
-    let alloc = rt.alloc();
-    let at = set_up(alloc, AXIOMS, &[GOAL])?;
+    let at = set_up(rt.alloc(), AXIOMS, &[GOAL])?;
     let gate = Meeting::new();
-    let searched = search(
-        &rt,
-        alloc,
-        &at.problem,
-        &at.order,
-        &at.shelf,
-        2,
-        9,
-        1,
-        &gate,
-    )?;
+    assert!(rt; searches_alone(&rt, rt.alloc(), &at, &gate)?);
     assert!(rt; gate.came.load(Ordering::SeqCst) == 0);
-    assert!(rt; searched.book.history() == alone().as_slice());
-    assert!(rt; searched.shares.as_slice() == [6].as_slice());
     Ok(())
 }
 
-// Whether so many workers come to this verdict.
+fn searches_alone<R: Threads + Wait + Sync>(
+    rt: &R,
+    alloc: Global,
+    at: &Setting,
+    gate: &Meeting,
+) -> Result<bool, AllocError> {
+    let searched = search(rt, alloc, &at.problem, &at.order, &at.shelf, 2, 9, 1, gate)?;
+    Ok(
+        happened_alone(searched.book.history(), ALONE)
+            && searched.shares.as_slice() == [6].as_slice(),
+    )
+}
+
+// Whether so many workers come to this verdict on the problem of these axioms and goals.
 fn come_to<R: Threads + Wait + Sync>(
     rt: &R,
     alloc: Global,
@@ -269,18 +315,7 @@ fn come_to<R: Threads + Wait + Sync>(
     requires { (0 < workers) × (workers ≤ 64) }
 {
     let at = set_up(alloc, axioms, goals)?;
-    let searched = search(
-        rt,
-        alloc,
-        &at.problem,
-        &at.order,
-        &at.shelf,
-        99,
-        99,
-        workers,
-        &NoGate,
-    )?;
-    Ok(searched.verdict == verdict)
+    Ok(ends_so(rt, alloc, &at, &at.order, workers, &NoGate, verdict)?)
 }
 
 // Whether so many workers prove the goal, and come to an end without it.
