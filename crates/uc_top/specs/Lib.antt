@@ -7,7 +7,9 @@ pub mod DecideAnswers
 pub mod FileAnswers
 pub mod TableAnswers
 pub mod ModelAnswers
+pub mod CertificateAnswers
 pub mod CertifyAnswers
+pub mod SystemAnswers
 pub mod GenLines
 pub mod GenAnswers
 pub mod Told
@@ -25,6 +27,7 @@ pub mod GenTold
 pub mod TableRuns
 pub mod ModelRuns
 pub mod CertifyRuns
+pub mod SystemRuns
 pub mod GenRuns
 pub mod Completeness
 pub mod Headline
