@@ -14,6 +14,7 @@ pub mod GenLines
 pub mod GenAnswers
 pub mod Told
 pub mod Faulting
+pub mod CertificateTested
 pub mod Answers
 pub mod Runs
 pub mod Given

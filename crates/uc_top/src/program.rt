@@ -26,6 +26,7 @@ ghost use Rattle.uc_top.specs.Headline.{Headline};
 use crate::certifying::certify_answer;
 use crate::checking::check_answer;
 use crate::deciding::decide_answer;
+use crate::deciding_by_certificate::system_answer;
 use crate::generating::gen_answer;
 use crate::modelling::model_answer;
 use crate::ordering::order_answer;
@@ -255,7 +256,12 @@ fn decide_command<R: Threads + Wait + Sync, L: Library, G: Gate + Sync>(
     ensures faulted { AnswersFault (L.faults library.old) (L.faults library.new) (L.failed_at library.old) (L.failed_at library.new) (fault_opening command.now) result }
 {
     match command.positionals.as_slice() {
-        [name, questions @ ..] => decide_answer(rt, alloc, command, name, questions, library, gate),
+        [name, questions @ ..] => match &command.system {
+            None => decide_answer(rt, alloc, command, name, questions, library, gate),
+            Some(file) => {
+                system_answer(rt, alloc, command, file, name, questions, library, gate)
+            }
+        },
         _ => unreachable!(),
     }
 }

@@ -1,10 +1,10 @@
 use Rattle.std.proofs.Common.{◌≡◌, ◌-◌, ◌∷◌, length, take, drop, sym, ◌∙◌, subst}
 use Rattle.std.proofs.lemmas.Result.{IfOk-weaker}
 use Rattle.uc_answer.specs.QuestionWords.{AreShort}
-use Rattle.uc_top.specs.Answers.{decides}
+use Rattle.uc_top.specs.Answers.{decides, decides_by_certificate}
 use Rattle.uc_top.specs.Runs.{is_answer}
 use Rattle.uc_top.proofs.Answering.{name_and_more}
-use Rattle.uc_top.proofs.DecidePromises.{kept_answers}
+use Rattle.uc_top.proofs.DecidePromises.{kept_answers, given_answers}
 use Rattle.uc_top.proofs.SeenWords.{budget_within, pairs_within, workers_within}
 use Rattle.uc_top.proofs.ShortWords.{positionals_short}
 use Rattle.uc_top.proofs.VariableWeights.{w0_within}
