@@ -129,7 +129,16 @@ fn problem_answer<R: Threads + Sync, L: Library, G: Gate + Sync>(
     match test_certificate(alloc, problem, file, symbols, library)? {
         Tested::Refused(answer) => Ok(answer),
         Tested::Passed(certificate) => {
-            asked_answer(rt, alloc, command, words, problem, &certificate, symbols, gate)
+            asked_answer(
+                rt,
+                alloc,
+                command,
+                words,
+                problem,
+                &certificate,
+                symbols,
+                gate,
+            )
         }
     }
 }
