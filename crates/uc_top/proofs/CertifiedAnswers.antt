@@ -243,6 +243,10 @@ module _ (table : Table) (clauses : List Sourced) (encoded : Encoded) where
   found_tested holds before now file bytes read (Ok (Passed certificate)) h a = passed_file holds before now file bytes read certificate h a
   found_tested holds before now file bytes read (Err fault) h a = tt
 
+  -- a refusal of this status and line
+  pub refusal_of : (holds : Option Files) (before now : ℕ) (file : List ℕ) (read : Table) (status : ℕ) (line : List ℕ) (answer : Answer) → (answer.status ≡ status) × (joined answer.lines ≡ line) → FileAnswers holds before now (CertificateTextAnswers IsRefusal table clauses encoded file) file status line → IsTestedFile table clauses encoded holds before now file read (Refused answer)
+  refusal_of holds before now file read status line answer h a = one_line (Ok answer) (FileAnswers holds before now (CertificateTextAnswers IsRefusal table clauses encoded file) file) status line h a
+
 -- THE PROBLEM
 
 module _ (loaded table : Table) (holds : Option Files) (before now : ℕ) (problem : Problem) (file : List ℕ) where

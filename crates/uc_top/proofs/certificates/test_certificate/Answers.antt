@@ -10,5 +10,5 @@ bounds-clauses-number g c = rw (c.as_slice-clauses.ensures) (large_within c.enco
 pub returns-in-Ok-clause-tested : goal.returns-in-Ok-clause-tested
 returns-in-Ok-clause-tested g c = encoded_tested c.args.symbols.now c.encode.new.symbols _ _ _ c.args.problem.now c.args.file.now c.in-Ok.encoded _ c.test_file.result c.len.ensures.distinct (rw c.in-Ok.is at c.encode.ensures.adds) (rw c.in-Ok.is at c.encode.ensures.encoded) (rw c.as_slice-clauses.ensures at c.test_file.ensures.tested)
 
-pub returns-in_ok-answer-clause-tested : goal.returns-in_ok-answer-clause-tested
-returns-in_ok-answer-clause-tested g c = large_tested c.args.symbols.now c.encode.new.symbols _ _ _ c.args.problem.now c.args.file.now c.in-Err-GoalTooLarge.number c.index-clauses-number.result _ c.in_ok-answer.answer (rw (c.in-Err-GoalTooLarge.is, c.in-Err-GoalTooLarge.field-0-is) at c.encode.ensures.encoded) (rw c.as_slice-clauses.ensures at c.index-clauses-number.is) c.in_ok-answer.ensures
+pub returns-in_ok-answer-in-Err-GoalTooLarge-clause-tested : goal.returns-in_ok-answer-in-Err-GoalTooLarge-clause-tested
+returns-in_ok-answer-in-Err-GoalTooLarge-clause-tested g c = large_tested c.args.symbols.now c.encode.new.symbols _ _ _ c.args.problem.now c.args.file.now c.in-Err-GoalTooLarge.number c.index-clauses-number.result _ c.in_ok-answer-in-Err-GoalTooLarge.answer (rw (c.in-Err-GoalTooLarge.is, c.in-Err-GoalTooLarge.field-0-is) at c.encode.ensures.encoded) (rw c.as_slice-clauses.ensures at c.index-clauses-number.is) c.in_ok-answer-in-Err-GoalTooLarge.ensures

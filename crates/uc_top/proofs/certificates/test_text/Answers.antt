@@ -22,10 +22,10 @@ outcome_of-requires-clause-few_facts c =
     omega (arith, many, low)
 
 pub tested_as-requires : goal.tested_as-requires
-tested_as-requires c = record { large = large_outer (meaning_of c.read_certificate-read.new.symbols c.in-Ok.certificate.text.spec) c.args.clauses.now c.args.encoded.now c.in-Ok.certificate c.in_ok-outcome.outcome c.in_ok-outcome.ensures }
+tested_as-requires c = record { large = large_outer (meaning_of c.read_certificate-read.new.symbols c.in-Ok.certificate.text.spec) c.args.clauses.now c.args.encoded.now c.in-Ok.certificate c.in_ok-outcome-in-Ok.outcome c.in_ok-outcome-in-Ok.ensures }
 
-pub returns-in-Ok : goal.returns-in-Ok
-returns-in-Ok c = read_tested c.args.symbols.now c.args.clauses.now c.args.encoded.now c.args.file.now c.args.text.now c.read_certificate-read.new.symbols c.in-Ok.certificate c.in_ok-outcome.outcome c.tested_as.result c.len.ensures.distinct c.read_certificate-read.ensures.grows (rw c.in-Ok.is at c.read_certificate-read.ensures.interns) (rw c.in-Ok.is at c.read_certificate-read.ensures.reading) c.in_ok-outcome.ensures c.tested_as.ensures
+pub returns-in_ok-outcome-in-Ok : goal.returns-in_ok-outcome-in-Ok
+returns-in_ok-outcome-in-Ok c = read_tested c.args.symbols.now c.args.clauses.now c.args.encoded.now c.args.file.now c.args.text.now c.read_certificate-read.new.symbols c.in-Ok.certificate c.in_ok-outcome-in-Ok.outcome c.tested_as.result c.len.ensures.distinct c.read_certificate-read.ensures.grows (rw c.in-Ok.is at c.read_certificate-read.ensures.interns) (rw c.in-Ok.is at c.read_certificate-read.ensures.reading) c.in_ok-outcome-in-Ok.ensures c.tested_as.ensures
 
-pub returns-in-Err : goal.returns-in-Err
-returns-in-Err c = unread_tested c.args.symbols.now c.args.clauses.now c.args.encoded.now c.args.file.now c.args.text.now c.read_certificate-read.new.symbols c.in-Err.fault c.in_ok-answer.answer c.len.ensures.distinct (rw c.in-Err.is at c.read_certificate-read.ensures.reading) c.in_ok-answer.ensures.answer c.in_ok-answer.ensures.not_memory
+pub returns-in_ok-answer-in-Err : goal.returns-in_ok-answer-in-Err
+returns-in_ok-answer-in-Err c = unread_tested c.args.symbols.now c.args.clauses.now c.args.encoded.now c.args.file.now c.args.text.now c.read_certificate-read.new.symbols c.in-Err.fault c.in_ok-answer-in-Err.answer c.len.ensures.distinct (rw c.in-Err.is at c.read_certificate-read.ensures.reading) c.in_ok-answer-in-Err.ensures.answer c.in_ok-answer-in-Err.ensures.not_memory
