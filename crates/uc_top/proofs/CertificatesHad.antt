@@ -28,7 +28,7 @@ module _ (files : Files) (root : Option (List ℕ)) (name file : List ℕ) (load
   encoded_agrees = agrees_later loaded table (marks_grow loaded table encoded.fresh adds) problem is_held.holds.agrees
 
   module _ (text : List ℕ) (has_text : held files file ≡ Some text) (read : Table) (read_distinct : IsDistinct read) (grows : Grows table read) (interns : InternsCertificate text table read) (certificate : Certificate) (reads : ReadsCertificate read text (Ok certificate)) where
-    pub has_tested : (outcome : Certified) → IsCertified (meaning_of read certificate.text.spec) problem.clauses encoded certificate outcome → HasTested files root name file outcome
+    abbrev pub has_tested : (outcome : Certified) → IsCertified (meaning_of read certificate.text.spec) problem.clauses encoded certificate outcome → HasTested files root name file outcome
     has_tested outcome c = record {
       loaded = loaded;
       loaded_distinct = loaded_distinct;
@@ -50,13 +50,13 @@ module _ (files : Files) (root : Option (List ℕ)) (name file : List ℕ) (load
       is_tested = c;
     }
 
-    system : IsSystem read certificate.text
+    abbrev pub system : IsSystem read certificate.text
     system = read_system read text certificate reads
 
-    pub has_certificate : IsCertified (meaning_of read certificate.text.spec) problem.clauses encoded certificate Yes → HasCertificate files root name file
-    has_certificate yes = record {
-      passed = has_tested Yes yes;
-      decides = decides table read grows problem encoded_agrees encoded encodes certificate system yes;
-      own_form = own_form table read grows problem encoded_agrees encoded encodes certificate system yes;
-      own = own table read grows problem encoded_agrees encoded encodes certificate system yes;
+    abbrev pub has_certificate : IsCertified (meaning_of read certificate.text.spec) problem.clauses encoded certificate Yes → HasCertificate files root name file
+    has_certificate passes = record {
+      passed = has_tested Yes passes;
+      decides = decides table read grows problem encoded_agrees encoded encodes certificate system passes;
+      own_form = own_form table read grows problem encoded_agrees encoded encodes certificate system passes;
+      own = own table read grows problem encoded_agrees encoded encodes certificate system passes;
     }

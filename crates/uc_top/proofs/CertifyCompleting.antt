@@ -101,8 +101,8 @@ module _ (files : Files) (before now : ℕ) (root : Option (List ℕ)) (name fil
       text_shows : (text : List ℕ) → held files file ≡ Some text → {status : ℕ} {told : List ℕ} → status ≡ 0 → CertificateTextAnswers IsCertifiedAnswer table problem.clauses encoded file text status told → HasCertificate files root name file
       text_shows text h e (isnt_certificate read d r n) = absurd (omega (arith, e))
       text_shows text h e (is_certificate {read = read} {certificate = certificate} {outcome = outcome} d g i r c a) =
-          let yes = subst (λ (x : Certified). IsCertified (meaning_of read certificate.text.spec) problem.clauses encoded certificate x) (told_passed read certificate outcome e a) c in
-          has_certificate files root name file loaded loaded_distinct problem is_held table distinct encoded adds encodes text h read d g i certificate r.1 yes
+          let passes = subst (λ (x : Certified). IsCertified (meaning_of read certificate.text.spec) problem.clauses encoded certificate x) (told_passed read certificate outcome e a) c in
+          has_certificate files root name file loaded loaded_distinct problem is_held table distinct encoded adds encodes text h read d g i certificate r.1 passes
 
       file_shows : {status : ℕ} {told : List ℕ} → status ≡ 0 → FileAnswers (Some files) before now (CertificateTextAnswers IsCertifiedAnswer table problem.clauses encoded file) file status told → HasCertificate files root name file
       file_shows e (is_absent a) = absurd (omega (arith, e))

@@ -55,27 +55,27 @@ module _ (steps : ℕ) (words : List (List ℕ)) (problem : Problem) (old new : 
   refused_ends outcome (has_replies q r) written e line n l = absurd (n refl)
 
   fault_ends : (outcome : Certified) {own : ℕ} {text : List ℕ} → IsAskedCertificate steps words problem read certificate outcome own text → Appends old new text → result ≡ own → outcome ≡ Yes → (number : ℕ) (why : WordFault) → IsFirstFault read problem.signature.symbols words number why → (why ≡ NoMemory → ⊥) → EndsWith 3 (word_line number why) old new result
-  fault_ends outcome (fails_test m k) written e yes number why f n = absurd (m yes)
-  fault_ends outcome (asks_no_question {number = place} {why = other} g m) written e yes number why f n = let one = first_fault_once read d problem.signature.symbols has words place number other why m n g f in ends_so (refl, ap₂ word_line one.0 one.1) written e
-  fault_ends outcome (has_replies {questions = questions} q r) written e yes number why f n = absurd (questions_or_fault read d problem.signature.symbols has words number why questions n q f)
+  fault_ends outcome (fails_test m k) written e is_yes number why f n = absurd (m is_yes)
+  fault_ends outcome (asks_no_question {number = place} {why = other} g m) written e is_yes number why f n = let one = first_fault_once read d problem.signature.symbols has words place number other why m n g f in ends_so (refl, ap₂ word_line one.0 one.1) written e
+  fault_ends outcome (has_replies {questions = questions} q r) written e is_yes number why f n = absurd (questions_or_fault read d problem.signature.symbols has words number why questions n q f)
 
   replies_end : (outcome : Certified) {own : ℕ} {text : List ℕ} → IsAskedCertificate steps words problem read certificate outcome own text → Appends old new text → result ≡ own → outcome ≡ Yes → (questions : List (Tree × Tree)) → AreQuestions read problem.signature.symbols words questions → AskedEnds steps words problem old new read certificate questions result
-  replies_end outcome (fails_test m k) written e yes questions p = absurd (m yes)
-  replies_end outcome (asks_no_question {number = number} {why = why} f m) written e yes questions p = absurd (questions_or_fault read d problem.signature.symbols has words number why questions m p f)
-  replies_end outcome (has_replies {questions = asked} {replies = replies} q r) written e yes questions p = rw e (tells_replies (subst (λ (qs : List (Tree × Tree)). AreReplies (meaning_of read certificate.text.spec) (numbered certificate.text.system.facts) steps qs replies) (questions_once read d problem.signature.symbols has p q) r) written)
+  replies_end outcome (fails_test m k) written e is_yes questions p = absurd (m is_yes)
+  replies_end outcome (asks_no_question {number = number} {why = why} f m) written e is_yes questions p = absurd (questions_or_fault read d problem.signature.symbols has words number why questions m p f)
+  replies_end outcome (has_replies {questions = asked} {replies = replies} q r) written e is_yes questions p = rw e (tells_replies (subst (λ (qs : List (Tree × Tree)). AreReplies (meaning_of read certificate.text.spec) (numbered certificate.text.system.facts) steps qs replies) (questions_once read d problem.signature.symbols has p q) r) written)
 
   asked_ends : (outcome : Certified) {own : ℕ} {text : List ℕ} → IsAskedCertificate steps words problem read certificate outcome own text → Appends old new text → result ≡ own → AskedCertificateEnds steps words problem old new result read certificate outcome
   asked_ends outcome a written e = record {
     refused = λ line n l. refused_ends outcome a written e line n l;
-    no_question = λ yes number why f n. fault_ends outcome a written e yes number why f n;
-    asked = λ yes questions p. replies_end outcome a written e yes questions p;
+    no_question = λ is_yes number why f n. fault_ends outcome a written e is_yes number why f n;
+    asked = λ is_yes questions p. replies_end outcome a written e is_yes questions p;
   }
 
 want_asked : (steps : ℕ) (words : List (List ℕ)) (problem : Problem) (old new : Option (List ℕ)) → Appends old new memory_line → (read : Table) (certificate : Certificate) (outcome : Certified) → AskedCertificateEnds steps words problem old new 7 read certificate outcome
 want_asked steps words problem old new written read certificate outcome = record {
   refused = λ line n l. tells_want written;
-  no_question = λ yes number why f n. tells_want written;
-  asked = λ yes questions p. asks_in_want written;
+  no_question = λ is_yes number why f n. tells_want written;
+  asked = λ is_yes questions p. asks_in_want written;
 }
 
 module _ (files : Files) (before now : ℕ) (well : Rose before now → ⊥) (all : List (List ℕ)) (old new : Option (List ℕ)) where

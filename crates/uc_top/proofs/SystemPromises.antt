@@ -55,23 +55,23 @@ module _ (files : Files) (before now : ℕ) (command : Command) (name file : Lis
 
         -- a certificate that passes all tests, and replies by it
         replies_keep : IsCertified m problem.clauses encoded certificate Yes → (questions : List (Tree × Tree)) (replies : List Reply) → AreQuestions read problem.signature.symbols words questions → AreReplies m (numbered certificate.text.system.facts) command.steps questions replies → Keeps (replies_status replies) (reply_lines read replies)
-        replies_keep yes questions replies q r =
+        replies_keep passes questions replies q r =
             let agrees = encoded_agrees files command.root name file loaded loaded_distinct problem is_held table distinct encoded adds encodes in
-            let d = decides table read grows problem agrees encoded encodes certificate system yes in
-            let own = own_ground table read grows problem agrees encoded encodes certificate system yes in
+            let d = decides table read grows problem agrees encoded encodes certificate system passes in
+            let own = own_ground table read grows problem agrees encoded encodes certificate system passes in
             let over = facts_over read certificate.text.spec system.fits certificate.text.system.facts system.facts in
             let laws = spec_laws read (precedence_of certificate.text.spec) certificate.text.spec system.fits in
             let are_own = own_questions read problem q in
             let right = right_replies m laws certificate.text.system.facts encoded.axioms command.steps d over (ground_questions read problem m own questions are_own) r in
             inl (record {
-              has = has_certificate files command.root name file loaded loaded_distinct problem is_held table distinct encoded adds encodes text has_text read read_distinct grows interns certificate reads yes;
+              has = has_certificate files command.root name file loaded loaded_distinct problem is_held table distinct encoded adds encodes text has_text read read_distinct grows interns certificate reads passes;
               questions = questions;
               are_questions = q;
               are_own = are_own;
               replies = replies;
               are_replies = r;
               are_right = right;
-              are_true = true_replies read problem m encoded.axioms (axioms_of problem.clauses) (own_same table read grows problem agrees encoded encodes certificate system yes) are_own right;
+              are_true = true_replies read problem m encoded.axioms (axioms_of problem.clauses) (own_same table read grows problem agrees encoded encodes certificate system passes) are_own right;
               status_is = refl;
               answer_is = refl;
             })
