@@ -17,3 +17,4 @@ pub mod AlikeOnGround
 pub mod KeptRanks
 pub mod Restricted
 pub mod OwnPart
+pub mod LaterTables

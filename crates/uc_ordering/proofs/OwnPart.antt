@@ -21,7 +21,7 @@ use Rattle.uc_kbo.specs.Weights.{lighter_of, least_constant, symbol_or}
 use Rattle.uc_words.specs.declared.command.OrderWords.{OrderWords}
 use Rattle.uc_ordering.specs.Choice.{own_precedence, own_weights, heaviest_constant, ends_in_zero, below_marks, marks_at, with_behind, spec_of, chosen, IsChosen}
 use Rattle.uc_ordering.specs.Weights.{weight_of}
-use Rattle.uc_ordering.specs.Fits.{Fits, IsTotalSpec}
+use Rattle.uc_ordering.specs.Fits.{Fits}
 use Rattle.uc_ordering.specs.Meaning.{meaning_of, or_first}
 use Rattle.uc_ordering.specs.Premises.{IsSignature, AreMarks}
 use Rattle.uc_ordering.specs.Restricting.{is_one_of, weights_beside, restricted}
@@ -29,7 +29,7 @@ use Rattle.uc_ordering.proofs.Lists.{In-left, In-right, in_each}
 use Rattle.uc_ordering.proofs.Totals.{AreApart}
 use Rattle.uc_ordering.proofs.Marks.{apart, yes_arity, no_arity, eq_arity}
 use Rattle.uc_ordering.proofs.GoodWeights.{FineIn, heaviest_least}
-use Rattle.uc_ordering.proofs.Fitting.{fits, good as fine_weight}
+use Rattle.uc_ordering.proofs.Fitting.{fits, good as fine_weight, whole as whole_precedence}
 
 -- MEMBERS
 
@@ -265,12 +265,8 @@ module _ (table : Table) (signature : Signature) (words : OrderWords) (some : 1 
   own_fits : Fits table signature.symbols (spec_of words.lpo words.w0 weights own_list)
   own_fits = subst (Fits table signature.symbols) is_own.is (fits table signature words some most is None own is_own tt)
 
-  total_by : (lpo : Bool) → IsTotalSpec table signature.symbols (spec_of lpo words.w0 weights own_list) → IsTotalOn signature.symbols own_list
-  total_by true h = h
-  total_by false h = h.0
-
   total : IsTotalOn signature.symbols own_list
-  total = total_by words.lpo own_fits.total
+  total = whole_precedence table signature words some most is None own is_own
 
   known : (f : Sym) → In own_list f → In signature.symbols f
   known f i = in_each (In signature.symbols) own_list f total.0 i
