@@ -26,18 +26,17 @@ use Rattle.uc_ordering.proofs.Fitting.{whole}
 
 -- LISTS
 
-module _ {A B : Type 0} where
-  filter_same : (p q : A → Bool) (xs : List A) → ((x : A) → In xs x → p x ≡ q x) → filter p xs ≡ filter q xs
-  filter_same p q [] h = refl
-  filter_same p q (x ∷ xs) h = ap₂ (λ b l. cond b (x ∷ l) l) (h x in_front) (filter_same p q xs (λ y i. h y (in_rest i)))
+filter_same : {A : Type 0} (p q : A → Bool) (xs : List A) → ((x : A) → In xs x → p x ≡ q x) → filter p xs ≡ filter q xs
+filter_same p q [] h = refl
+filter_same p q (x ∷ xs) h = ap₂ (λ b l. cond b (x ∷ l) l) (h x in_front) (filter_same p q xs (λ y i. h y (in_rest i)))
 
-  map_same : (f g : A → B) (xs : List A) → ((x : A) → In xs x → f x ≡ g x) → map f xs ≡ map g xs
-  map_same f g [] h = refl
-  map_same f g (x ∷ xs) h = ap₂ (λ y l. y ∷ l) (h x in_front) (map_same f g xs (λ y i. h y (in_rest i)))
+map_same : {A B : Type 0} (f g : A → B) (xs : List A) → ((x : A) → In xs x → f x ≡ g x) → map f xs ≡ map g xs
+map_same f g [] h = refl
+map_same f g (x ∷ xs) h = ap₂ (λ y l. y ∷ l) (h x in_front) (map_same f g xs (λ y i. h y (in_rest i)))
 
-  fold_same : (f g : B → A → B) (b : B) (xs : List A) → ((c : B) (x : A) → In xs x → f c x ≡ g c x) → fold f b xs ≡ fold g b xs
-  fold_same f g b [] h = refl
-  fold_same f g b (x ∷ xs) h = fold_same f g (f b x) xs (λ c y i. h c y (in_rest i)) ∙ ap (λ c. fold g c xs) (h b x in_front)
+fold_same : {A B : Type 0} (f g : B → A → B) (b : B) (xs : List A) → ((c : B) (x : A) → In xs x → f c x ≡ g c x) → fold f b xs ≡ fold g b xs
+fold_same f g b [] h = refl
+fold_same f g b (x ∷ xs) h = fold_same f g (f b x) xs (λ c y i. h c y (in_rest i)) ∙ ap (λ c. fold g c xs) (h b x in_front)
 
 -- the symbols that a description names
 abbrev pub symbols_of : OrderSpec → List Sym
@@ -57,7 +56,7 @@ module _ (old new : Table) (grows : Grows old new) where
   arity_same f h = arity-grows old new grows f h
 
   of_arity_same : (n : ℕ) (fs : List Sym) → AreOld fs → of_arity new n fs ≡ of_arity old n fs
-  of_arity_same n fs h = filter_same {B = ℕ} (λ f. arity_of new f == n) (λ f. arity_of old f == n) fs (λ f i. ap (λ k. k == n) (arity_same f (h f i)))
+  of_arity_same n fs h = filter_same (λ f. arity_of new f == n) (λ f. arity_of old f == n) fs (λ f i. ap (λ k. k == n) (arity_same f (h f i)))
 
   of_less_same : (n : ℕ) (fs : List Sym) → AreOld fs → of_less new n fs ≡ of_less old n fs
   of_less_same zero fs h = refl
@@ -69,7 +68,7 @@ module _ (old new : Table) (grows : Grows old new) where
       ap (λ n. of_less new (n + 1) fs) greatest ∙ of_less_same (greatest_arity old fs + 1) fs h
 
   unnamed_same : (names : List (List ℕ)) (fs : List Sym) → AreOld fs → unnamed new names fs ≡ unnamed old names fs
-  unnamed_same names fs h = filter_same {B = ℕ} (λ f. not (is_named new names f)) (λ f. not (is_named old names f)) fs (λ f i. ap (λ x. not (list_any (bytes_eq x) names)) (name_same f (h f i)))
+  unnamed_same names fs h = filter_same (λ f. not (is_named new names f)) (λ f. not (is_named old names f)) fs (λ f i. ap (λ x. not (list_any (bytes_eq x) names)) (name_same f (h f i)))
 
   unnamed_old : (names : List (List ℕ)) (fs : List Sym) → AreOld fs → AreOld (unnamed old names fs)
   unnamed_old names fs h f i = h f (filter-In (λ g. not (is_named old names g)) fs f i).0
