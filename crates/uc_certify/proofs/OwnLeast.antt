@@ -18,7 +18,7 @@ use Rattle.uc_decide.specs.Deciding.{Decides, IsLeastOf}
 use Rattle.uc_decide.specs.Asking.{IsRight}
 use Rattle.uc_decide.proofs.GroundSteps.{least_ground}
 use Rattle.uc_decide.proofs.Clean.{fitted, clean_ground, clean-ground}
-use Rattle.uc_decide.proofs.Verdicts.{least_of, one_least}
+use Rattle.uc_decide.proofs.Verdicts.{least_of, one_verdict}
 use Rattle.uc_problem.specs.declared.problem.Problem.{Problem}
 use Rattle.uc_problem.specs.declared.problem.Encoded.{Encoded}
 use Rattle.uc_problem.specs.Encodes.{Encodes}
@@ -130,4 +130,8 @@ module _ (m own : Meaning) (laws : Laws m) (own_laws : Laws own) (extends : Exte
     own_right s t Grown gs gt h = tt
 
     pub own_normal : (es own_es : List Equation) (u n k : Tree) → Decides m es encoded.axioms → Decides own own_es axioms → IsGroundOf own u → HasNormalForm m es u n → HasNormalForm own own_es u k → n ≡ k
-    own_normal es own_es u n k d own_d g f h = one_least own own_laws axioms u n k (own_least u n g (least_of m es encoded.axioms d u n (into u g) f)) (least_of own own_es axioms own_d u k g h)
+    own_normal es own_es u n k d own_d g f h =
+        let whole = own_least u n g (least_of m es encoded.axioms d u n (into u g) f) in
+        let own_one = least_of own own_es axioms own_d u k g h in
+        let one : ◌≡◌ {A = Reply} (Equal n) (Equal k) = one_verdict own own_laws axioms u u (Equal n) (Equal k) (stay, whole, whole) (stay, own_one, own_one) tt tt in
+        cc
