@@ -8,7 +8,7 @@ use Rattle.uc_term.specs.declared.equation.Side.{Side}
 use Rattle.uc_term.specs.declared.equation.Side.TheVariants.{Left, Right}
 use Rattle.uc_term.specs.Equations.{Sides}
 use Rattle.uc_term.specs.Table.{Table}
-use Rattle.uc_term.specs.Tree.{Tree, var, app, Trees, none, more, apply, apply_all, count}
+use Rattle.uc_term.specs.Tree.{Tree, var, app, Trees, none, more, apply, count}
 use Rattle.uc_term.specs.Within.{at_root, under, WithinOne, at_first, at_later, stay, go_by}
 use Rattle.uc_term.specs.Conversion.{Turn, Step, Conv}
 use Rattle.uc_term.specs.Encoding.{ordinary, part, AreDistinct, reflexive, refuted, encoded}

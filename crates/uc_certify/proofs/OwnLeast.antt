@@ -1,6 +1,6 @@
 -- The least term to which the encoded axioms make a term over the problem's own symbols equal is over these symbols, and it is the least
 -- by the problem's own axioms.
-use Rattle.std.proofs.Common.{◌≡◌, ℕ, ◌==◌, Bool, true, false, List, Ok, refl, sym, ap, ◌∙◌, subst, ◌⊎◌, inl, inr}
+use Rattle.std.proofs.Common.{◌≡◌, ◌==◌, Bool, true, false, List, Ok, refl, sym, ◌∙◌, subst, ◌⊎◌, inl, inr}
 use Rattle.uc_term.specs.declared.node.Sym.{Sym}
 use Rattle.uc_term.specs.declared.equation.Equation.{Equation}
 use Rattle.uc_term.specs.Table.{Table}

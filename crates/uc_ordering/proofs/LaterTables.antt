@@ -1,5 +1,5 @@
 -- The order that options name is the same in every later table.
-use Rattle.std.proofs.Common.{◌≡◌, ℕ, zero, suc, ◌+◌, ◌≤◌, ◌==◌, ◌&&◌, ◌||◌, not, nat_lt, max, fold, cond, Bool, true, false, List, [], ◌∷◌, ◌++◌, map, filter, find, is_none, unwrap_or, bytes_eq, Option, Some, None, if◌then◌else◌, refl, sym, ap, ap₂, ◌∙◌, subst}
+use Rattle.std.proofs.Common.{◌≡◌, ℕ, zero, suc, ◌+◌, ◌≤◌, ◌==◌, ◌&&◌, ◌||◌, not, nat_lt, max, fold, cond, Bool, List, [], ◌∷◌, ◌++◌, map, filter, find, is_none, unwrap_or, bytes_eq, Option, Some, None, if◌then◌else◌, refl, sym, ap, ap₂, ◌∙◌}
 use Rattle.std.specs.List.{list_any, filter_map}
 use Rattle.std.proofs.Math.Path.{fun_ext}
 use Rattle.uc_term.specs.declared.node.Sym.{Sym}
@@ -7,17 +7,16 @@ use Rattle.uc_term.specs.declared.signature.Signature.{Signature}
 use Rattle.uc_term.specs.Table.{Table, Grows, Has, name_of, arity_of}
 use Rattle.uc_term.specs.Signatures.{first_named, first_constant}
 use Rattle.uc_term.proofs.Grown.{name-grows, arity-grows}
-use Rattle.uc_order.specs.Members.{In, in_front, in_rest, Each}
-use Rattle.uc_order.specs.Laws.{Meaning}
+use Rattle.uc_order.specs.Members.{In, in_front, in_rest}
 use Rattle.uc_order.specs.declared.spec.OrderSpec.{OrderSpec}
 use Rattle.uc_order.specs.declared.spec.OrderSpec.TheVariants.{Kbo, Lpo}
 use Rattle.uc_kbo.specs.Faults.{weighed}
 use Rattle.uc_kbo.specs.Weights.{kbo_meaning}
 use Rattle.uc_lpo.specs.Meaning.{meaning_of as lpo_meaning}
 use Rattle.uc_words.specs.declared.command.OrderWords.{OrderWords}
-use Rattle.uc_ordering.specs.Choice.{own_symbols, own_precedence, own_weights, first_unknown, first_bad, weighed_names, spec_of, chosen, IsChosen}
-use Rattle.uc_ordering.specs.Precedence.{of_arity, of_less, greatest_arity, by_arity, is_named, unnamed, symbols_named, precedence_of}
-use Rattle.uc_ordering.specs.Weights.{weight_given, weight_of, is_last, is_bad, is_bad_at, is_bad_for}
+use Rattle.uc_ordering.specs.Choice.{own_symbols, own_precedence, own_weights, weighed_names, spec_of, IsChosen}
+use Rattle.uc_ordering.specs.Precedence.{of_arity, of_less, greatest_arity, by_arity, is_named, unnamed, symbols_named}
+use Rattle.uc_ordering.specs.Weights.{weight_given, weight_of, is_last, is_bad_at, is_bad_for}
 use Rattle.uc_ordering.specs.Meaning.{meaning_of, or_first}
 use Rattle.uc_ordering.specs.Premises.{IsSignature}
 use Rattle.uc_ordering.proofs.Lists.{filter-In, in_each}

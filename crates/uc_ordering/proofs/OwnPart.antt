@@ -1,5 +1,5 @@
 -- The order that options name for an encoded problem, without the encoding's symbols.
-use Rattle.std.proofs.Common.{◌≡◌, ℕ, zero, suc, ◌+◌, ◌<◌, ◌≤◌, ◌==◌, ◌||◌, nat_lt, Bool, true, false, cond, List, [], ◌∷◌, ◌++◌, length, map, filter, take, drop, min, ◌-◌, append_assoc, Option, Some, None, if◌then◌else◌, refl, sym, ap, ap₂, ◌∙◌, subst, arith, ◌⊎◌, inl, inr, take-append-drop, append-nil}
+use Rattle.std.proofs.Common.{◌≡◌, ℕ, suc, ◌+◌, ◌<◌, ◌≤◌, ◌==◌, ◌||◌, nat_lt, Bool, true, false, cond, List, [], ◌∷◌, ◌++◌, length, map, filter, take, drop, min, ◌-◌, append_assoc, Option, Some, None, if◌then◌else◌, refl, sym, ap, ap₂, ◌∙◌, subst, arith, ◌⊎◌, inl, inr, take-append-drop, append-nil}
 use Rattle.std.specs.List.{list_any}
 use Rattle.std.proofs.lemmas.Bool.{eqb-true, eq-eqb}
 use Rattle.std.proofs.lemmas.Bool.Decides.{nat_tests}
@@ -19,14 +19,13 @@ use Rattle.uc_kbo.specs.declared.weights.Weighed.{Weighed}
 use Rattle.uc_kbo.specs.Faults.{weighed}
 use Rattle.uc_kbo.specs.Weights.{lighter_of, least_constant, symbol_or}
 use Rattle.uc_words.specs.declared.command.OrderWords.{OrderWords}
-use Rattle.uc_ordering.specs.Choice.{own_precedence, own_weights, heaviest_constant, ends_in_zero, below_marks, marks_at, with_behind, spec_of, chosen, IsChosen}
+use Rattle.uc_ordering.specs.Choice.{own_precedence, own_weights, heaviest_constant, ends_in_zero, below_marks, marks_at, with_behind, spec_of, IsChosen}
 use Rattle.uc_ordering.specs.Weights.{weight_of}
 use Rattle.uc_ordering.specs.Fits.{Fits}
 use Rattle.uc_ordering.specs.Meaning.{meaning_of, or_first}
 use Rattle.uc_ordering.specs.Premises.{IsSignature, AreMarks}
 use Rattle.uc_ordering.specs.Restricting.{is_one_of, weights_beside, restricted}
 use Rattle.uc_ordering.proofs.Lists.{In-left, In-right, in_each}
-use Rattle.uc_ordering.proofs.Totals.{AreApart}
 use Rattle.uc_ordering.proofs.Marks.{apart, yes_arity, no_arity, eq_arity}
 use Rattle.uc_ordering.proofs.GoodWeights.{FineIn, heaviest_least}
 use Rattle.uc_ordering.proofs.Fitting.{fits, good as fine_weight, whole as whole_precedence}

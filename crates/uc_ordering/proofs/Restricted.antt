@@ -1,5 +1,5 @@
 -- An order that is restricted to some of its symbols says of ground terms over these what the whole order says.
-use Rattle.std.proofs.Common.{◌≡◌, ◌↔◌, ℕ, ◌<◌, ◌==◌, ◌&&◌, Bool, true, false, cond, List, [], ◌∷◌, filter, map, refl, sym, ap, ◌∙◌, subst, ◌⊎◌, inl, inr, if◌then◌else◌}
+use Rattle.std.proofs.Common.{◌≡◌, ◌↔◌, ℕ, ◌<◌, ◌==◌, ◌&&◌, Bool, true, false, cond, List, [], ◌∷◌, filter, refl, sym, ap, ◌∙◌, subst, ◌⊎◌, inl, inr, if◌then◌else◌}
 use Rattle.std.proofs.lemmas.Bool.{eqb-true, eq-eqb}
 use Rattle.uc_term.specs.declared.node.Sym.{Sym}
 use Rattle.uc_term.specs.Table.{Table, arity_of}
@@ -11,7 +11,7 @@ use Rattle.uc_order.specs.declared.spec.OrderSpec.{OrderSpec}
 use Rattle.uc_order.specs.declared.spec.OrderSpec.TheVariants.{Kbo, Lpo}
 use Rattle.uc_kbo.specs.declared.weights.Weighed.{Weighed}
 use Rattle.uc_kbo.specs.Faults.{weighed}
-use Rattle.uc_kbo.specs.Kbo.{Weighing, is_it, None}
+use Rattle.uc_kbo.specs.Kbo.{is_it, None}
 use Rattle.uc_kbo.specs.Weights.{symbols_of, is_entry, arity_in, weighing, kbo_meaning}
 use Rattle.uc_lpo.specs.PathOrder.{Nothing}
 use Rattle.uc_lpo.specs.Ranks.{rank_in}

@@ -1,16 +1,15 @@
 -- A question has one line by a certificate and by a search for the same problem, where both orders agree.
-use Rattle.std.proofs.Common.{◌⊎◌, inl, inr, ℕ, zero, suc, ◌≡◌, ◌≤◌, ◌++◌, List, [], ◌∷◌, slice_get, codes, Option, Some, None, Ok, refl, sym, ap, ap₂, ◌∙◌, subst}
+use Rattle.std.proofs.Common.{ℕ, zero, suc, ◌≡◌, ◌≤◌, ◌++◌, List, [], ◌∷◌, slice_get, codes, Option, Some, None, refl, ap, ap₂, ◌∙◌, subst}
 use Rattle.uc_term.specs.declared.equation.Equation.{Equation}
 use Rattle.uc_term.specs.declared.node.Sym.{Sym}
 use Rattle.uc_term.specs.Over.{IsGround, AreGround}
-use Rattle.uc_term.specs.Table.{Table, Grows, Has, IsDistinct, arity_of, name_of}
+use Rattle.uc_term.specs.Table.{Table, Grows, Has, arity_of}
 use Rattle.uc_term.specs.Tree.{Tree, var, app, Trees, none, more}
 use Rattle.uc_term.proofs.Grown.{name-grows}
 use Rattle.uc_edge.specs.Files.{Files}
 use Rattle.uc_check.specs.Clauses.{axioms_of}
 use Rattle.uc_clause.specs.Names.{spelling}
 use Rattle.uc_clause.specs.Printing.{term_text, args_text, rest_text}
-use Rattle.uc_clause.specs.Reading.{ReadsEquation}
 use Rattle.uc_clause.proofs.Means.{means_grows, extends_not}
 use Rattle.uc_problem.specs.declared.problem.Problem.{Problem}
 use Rattle.uc_problem.specs.Filling.{IsFilled}

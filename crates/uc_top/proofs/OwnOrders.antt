@@ -1,9 +1,8 @@
 -- The order of a certificate extends that of a search for the same problem.
-use Rattle.std.proofs.Common.{◌⊎◌, inl, inr, ℕ, ◌≡◌, ◌≤◌, ◌++◌, List, ◌∷◌, [], Option, Some, None, Ok, refl, sym, ap, ◌∙◌, subst}
+use Rattle.std.proofs.Common.{ℕ, ◌≡◌, ◌≤◌, List, Option, Some, None, Ok, refl, sym, ap, ◌∙◌, subst}
 use Rattle.uc_term.specs.declared.node.Sym.{Sym}
 use Rattle.uc_term.specs.declared.fresh.Fresh.{Fresh}
-use Rattle.uc_term.specs.Table.{Table, Grows, Has, IsDistinct, arity_of}
-use Rattle.uc_term.specs.Tree.{Tree}
+use Rattle.uc_term.specs.Table.{Table, Grows, Has, arity_of}
 use Rattle.uc_term.proofs.Grown.{arity-grows}
 use Rattle.uc_edge.specs.Files.{Files}
 use Rattle.uc_check.specs.Clauses.{axioms_of}
@@ -13,8 +12,8 @@ use Rattle.uc_problem.specs.Holds.{Agrees}
 use Rattle.uc_problem.specs.Marks.{Marks}
 use Rattle.uc_problem.proofs.Growth.{agrees_later}
 use Rattle.uc_problem.proofs.Later.{Grows-trans}
-use Rattle.uc_order.specs.Members.{In, Each}
-use Rattle.uc_order.specs.Laws.{Meaning, Laws, HasSym, IsGroundOf}
+use Rattle.uc_order.specs.Members.{In}
+use Rattle.uc_order.specs.Laws.{Meaning, Laws, HasSym}
 use Rattle.uc_order.specs.declared.spec.OrderSpec.{OrderSpec}
 use Rattle.uc_order.specs.declared.spec.OrderSpec.TheVariants.{Kbo, Lpo}
 use Rattle.uc_kbo.proofs.Tables.{each_in}
@@ -33,7 +32,7 @@ use Rattle.uc_certify.specs.declared.certified.Certified.TheVariants.{Yes}
 use Rattle.uc_certify.specs.Extending.{AgreeOnOwn, Extends, IsOwnOrder}
 use Rattle.uc_answer.proofs.OrderLaws.{spec_laws}
 use Rattle.uc_answer.proofs.SpecSymbols.{known_symbol, symbol_known}
-use Rattle.uc_top.specs.SharedOrders.{HasOwnLeast, SharesOrder, agrees, restricts, is_named}
+use Rattle.uc_top.specs.SharedOrders.{SharesOrder, agrees, restricts, is_named}
 use Rattle.uc_top.specs.CertifyRuns.{HasTested}
 use Rattle.uc_top.proofs.CertificateOrders.{own_known}
 use Rattle.uc_top.proofs.CertificateTexts.{read_system}

@@ -1,5 +1,5 @@
 -- When the order of a certificate decides questions as that of a search for the same problem does.
-use Rattle.std.specs.Prelude.{◌≡◌, None, Option}
+use Rattle.std.specs.Prelude.{◌≡◌, Option}
 use Rattle.uc_term.specs.declared.fresh.Fresh.{Fresh}
 use Rattle.uc_term.specs.Table.{Table}
 use Rattle.uc_problem.specs.declared.problem.Problem.{Problem}
