@@ -8,6 +8,7 @@ use Rattle.uc_term.specs.Tree.{Tree, var, app, Trees, none, more}
 use Rattle.uc_term.proofs.Grown.{name-grows}
 use Rattle.uc_edge.specs.Files.{Files}
 use Rattle.uc_check.specs.Clauses.{axioms_of}
+use Rattle.uc_clause.specs.Meaning.{variables_of}
 use Rattle.uc_clause.specs.Names.{spelling}
 use Rattle.uc_clause.specs.Printing.{term_text, args_text, rest_text}
 use Rattle.uc_clause.proofs.Means.{means_grows, extends_not}
@@ -77,8 +78,9 @@ module _ (old new : Table) (grows : Grows old new) (known : List Sym) where
   question_later : (word : List ℕ) (sides : Tree × Tree) → IsQuestionWord old known word sides → IsQuestionWord new known word sides
   question_later word sides q =
       let r = q.reads in
-      let left = means_grows word r.tokens old new _ _ grows (extends_not _) r.means.means_left in
-      let right = means_grows word r.tokens old new _ _ grows (extends_not _) r.means.means_right in
+      let seen = variables_of word r.tokens r.parse in
+      let left = means_grows word r.tokens old new seen seen grows (extends_not seen) r.means.means_left in
+      let right = means_grows word r.tokens old new seen seen grows (extends_not seen) r.means.means_right in
       record { reads = record { tokens = r.tokens; are_tokens = r.are_tokens; parse = r.parse; end = r.end; reads = r.reads; means = record { means_left = left; means_right = right } }; is_fit = q.is_fit }
 
 -- the question that a word is
@@ -159,8 +161,8 @@ module _ (files : Files) (all : List (List ℕ)) (command other_command : Comman
         let by_problem = subst (λ (q : Problem). IsToldLine passed.loaded (axioms_of q.clauses) p.decided.spec sides line) problems by_table in
         let reply = tells_too.0 in
         let right = right_at j sides reply y.are_right there tells_too.1 in
-        let own = own_at passed.read passed.problem y.questions j sides y.are_own there in
-        let by_certificate = told_here files other_command.root name file passed command.order within.0 within.1 p.decided.spec chosen_there shares sides own reply right other tells_too.2 tells_too.3 in
+        let are_own = own_at passed.read passed.problem y.questions j sides y.are_own there in
+        let by_certificate = told_here files other_command.root name file passed command.order within.0 within.1 p.decided.spec chosen_there shares sides are_own reply right other tells_too.2 tells_too.3 in
         one_line_for files other_command.root name file passed command.order within.0 within.1 p.decided.spec chosen_there shares sides line other by_problem by_certificate
 
     pub same_for_word : (word : List ℕ) → slice_get asked i ≡ Some word → slice_get questions j ≡ Some word → line ≡ other

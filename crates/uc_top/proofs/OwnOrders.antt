@@ -21,6 +21,7 @@ use Rattle.uc_words.specs.declared.command.OrderWords.{OrderWords}
 use Rattle.uc_ordering.specs.Choice.{IsChosen, all_symbols}
 use Rattle.uc_ordering.specs.Fits.{Fits}
 use Rattle.uc_ordering.specs.Meaning.{meaning_of}
+use Rattle.uc_ordering.specs.Premises.{IsSignature}
 use Rattle.uc_ordering.specs.Restricting.{restricted}
 use Rattle.uc_ordering.proofs.Fitting.{fits}
 use Rattle.uc_ordering.proofs.LaterTables.{symbols_of, meaning_same, chosen_later}
@@ -137,6 +138,7 @@ module _ (files : Files) (root : Option (List ℕ)) (name file : List ℕ) (pass
     chosen_here = chosen_later loaded table to_table problem.signature words some most (is_signature loaded problem agreeing) own_has own_spec chosen
 
     module _ (marks : Fresh) (marked : Marks table problem (Ok (Some marks))) (named : IsChosen table problem.signature words (Some marks) whole) where
+      is_signed : IsSignature table problem.signature
       is_signed = is_signature table problem table_agrees
 
       restricted_is : restricted problem.signature.symbols whole ≡ own_spec
