@@ -150,7 +150,7 @@ module _ (table read : Table) (grows : Grows table read) (problem : Problem) (ag
     decides = certified_decides (meaning_of read spec) (spec_laws read (precedence_of spec) spec system.fits) problem.clauses encoded certificate Yes refl passes (own_symbols read spec system.fits) (facts_over read spec system.fits certificate.text.system.facts system.facts) is_encoding
 
     -- the problem's own symbols are the order's, with their arities
-    own_known : (f : Sym) → In problem.signature.symbols f → HasSym (meaning_of read spec) f × (arity_of read f ≡ (meaning_of read spec).arity f)
+    pub own_known : (f : Sym) → In problem.signature.symbols f → HasSym (meaning_of read spec) f × (arity_of read f ≡ (meaning_of read spec).arity f)
     own_known f i =
         let encoded_has : In encoded.signature.symbols f = subst (λ (fs : List Sym). In fs f) (sym (encoded_symbols read problem encoded read_encodes)) (among_all problem.signature encoded.fresh f i) in
         symbol_known read (precedence_of spec) spec system.fits f ((names_symbols (meaning_of read spec) problem.clauses encoded certificate Yes refl passes f).1 encoded_has)

@@ -29,6 +29,7 @@ pub mod TableRuns
 pub mod ModelRuns
 pub mod CertifyRuns
 pub mod SystemRuns
+pub mod SharedOrders
 pub mod GenRuns
 pub mod Completeness
 pub mod Headline

@@ -20,6 +20,8 @@ ghost use Rattle.uc_top.specs.ProveRuns.{IsHeldAnswer};
 ghost use Rattle.uc_top.specs.DecideAnswers.{opening_of_axioms, facts_of};
 ghost use Rattle.uc_top.specs.DecideRuns.{IsHeldDecision, KeepsDecision, Tells};
 ghost use Rattle.uc_top.specs.GenRuns.{CountsClasses};
+ghost use Rattle.uc_top.specs.SharedOrders.{SharesOrder};
+ghost use Rattle.uc_top.specs.SystemRuns.{IsAnsweredByCertificate, TellsByCertificate};
 
 /// Words and the files of a library have at most one status and one text for an answer, whatever the command is, but where a fetch
 /// failed, or where several workers search and end with status 0, 1 or 2. So `Answers` says exactly where each refusal comes.
@@ -63,6 +65,15 @@ pub fn one_line()
 pub fn one_system()
     ensures certificate { (files : Files) (words others : List (List ℕ)) (k l : Command) (name file : List ℕ) (asked : List (List ℕ)) (before now again later : ℕ) (old new first last : Option (List ℕ)) (write_before write_now write_again write_later : ℕ) (r q : ℕ) → Reads words k → Reads others l → k.verb ≡ Decide → l.verb ≡ Decide → k.system ≡ Some file → l.system ≡ Some file → k.positionals ≡ name ∷ asked → l.positionals ≡ name ∷ asked → k.root ≡ l.root → k.steps ≡ l.steps → IsSettledStatus r → IsSettledStatus q → (x : IsRun (Some files) before now words old new write_before write_now r) (y : IsRun (Some files) again later others first last write_again write_later q) → (r ≡ q) × (x.text ≡ y.text) }
     ensures search { (files others : Files) (k l : Command) (name another : List ℕ) (asked words : List (List ℕ)) (s t : ℕ) (a b : List ℕ) (x : IsHeldDecision files k name asked s a) (y : IsHeldDecision others l another words t b) → x.verdict ≡ Saturated → y.verdict ≡ Saturated → x.table ≡ y.table → x.spec ≡ y.spec → facts_of x.state ≡ facts_of y.state → x.questions ≡ y.questions → k.steps ≡ l.steps → (s ≡ t) × (a ≡ b) }
+{}
+
+/// A run of `decide` by a search and one by a certificate for the same problem that both say of a question whether its equation follows
+/// print the same line for it, where the certificate's order agrees with that of the search on terms over the problem's own symbols and
+/// none of the encoding's is its least constant. So it is with the certificate that `prove` prints by the options of the search. The
+/// encoding's symbols change nothing, whatever the limits and the numbers of workers are and whatever else is asked.
+pub fn one_line_by_certificate()
+    ensures terms { (files : Files) (words : List (List ℕ)) (k l : Command) (name file : List ℕ) (asked questions : List (List ℕ)) (s t : ℕ) (a b : List ℕ) (x : KeepsDecision files k name asked s a) (y : IsAnsweredByCertificate files l name file questions t b) (i j : ℕ) (sides : Tree × Tree) (line other : List ℕ) → Reads words k → k.root ≡ l.root → SharesOrder y.has.passed.loaded y.has.passed.table y.has.passed.read y.has.passed.problem y.has.passed.encoded.fresh k.order x.is_decided.decided.spec y.has.passed.certificate.text.spec → slice_get x.is_decided.decided.questions i ≡ Some sides → slice_get y.questions j ≡ Some sides → Tells x i line → TellsByCertificate y j other → line ≡ other }
+    ensures word { (files : Files) (words : List (List ℕ)) (k l : Command) (name file : List ℕ) (asked questions : List (List ℕ)) (s t : ℕ) (a b : List ℕ) (x : KeepsDecision files k name asked s a) (y : IsAnsweredByCertificate files l name file questions t b) (i j : ℕ) (word line other : List ℕ) → Reads words k → k.root ≡ l.root → SharesOrder y.has.passed.loaded y.has.passed.table y.has.passed.read y.has.passed.problem y.has.passed.encoded.fresh k.order x.is_decided.decided.spec y.has.passed.certificate.text.spec → slice_get asked i ≡ Some word → slice_get questions j ≡ Some word → Tells x i line → TellsByCertificate y j other → line ≡ other }
 {}
 
 /// The search by one worker that `prove` or `decide` tells of is short. With the budget `B` and `g` goals, those of the encoded problem, it draws

@@ -23,8 +23,8 @@ mod showing;
 mod tabling;
 
 pub use laws::{
-    chosen_order_fits, one_answer, one_history, one_line, one_number, one_run, one_system,
-    searches_are_short,
+    chosen_order_fits, one_answer, one_history, one_line, one_line_by_certificate, one_number,
+    one_run, one_system, searches_are_short,
 };
 pub use output::tell_memory_out;
 pub use program::run;
