@@ -1,9 +1,9 @@
 //! How often each outcome of a comparison comes.
 
-use crate::pairs::Pair;
 use uc_order::{Cmp, Order};
+use uc_term::Term;
 
-#[derive(Drop, Debug)]
+#[derive(Clone, Copy, Debug)]
 pub struct Counts {
     pub greater: u64,
     pub less: u64,
@@ -23,14 +23,14 @@ impl Counts {
     }
 }
 
-fn add_round<O: Order>(order: &O, pairs: &[Pair], counts: &mut Counts) {
-    for pair in pairs {
-        counts.add(order.compare(pair.left.as_nodes(), pair.right.as_nodes()));
+fn add_round<O: Order>(order: &O, terms: &[Term], counts: &mut Counts) {
+    for k in 0..terms.len() / 2 {
+        counts.add(order.compare(terms[2 * k].as_nodes(), terms[2 * k + 1].as_nodes()));
     }
 }
 
-/// The outcomes of so many rounds over the pairs.
-pub fn compared<O: Order>(order: &O, pairs: &[Pair], rounds: u64) -> Counts {
+/// The outcomes of so many rounds over pairs of terms that stand one behind the other.
+pub fn compared<O: Order>(order: &O, terms: &[Term], rounds: u64) -> Counts {
     let mut counts = Counts {
         greater: 0,
         less: 0,
@@ -38,7 +38,7 @@ pub fn compared<O: Order>(order: &O, pairs: &[Pair], rounds: u64) -> Counts {
         unknown: 0,
     };
     for _ in 0..rounds {
-        add_round(order, pairs, &mut counts);
+        add_round(order, terms, &mut counts);
     }
     counts
 }

@@ -10,7 +10,7 @@ use uc_order::{Cmp, Order};
 use uc_term::{MAX_INSTANCE, Node};
 
 /// How a term goes on: by its one argument, by the first of two or by the second.
-#[derive(Clone, Copy, PartialEq, Eq, Debug)]
+#[derive(Clone, Copy, Debug)]
 pub enum Shape {
     Chain,
     Left,
@@ -25,39 +25,40 @@ fn add(list: &mut Vec<Node>, times: usize, nodes: &[Node]) -> Result<(), AllocEr
     Ok(())
 }
 
-/// The nodes of a term of so many levels: `end` stands in the deepest, and `near` beside the first argument that goes on,
-/// where the other levels have the constant.
-pub fn deep(
-    alloc: Global,
+const CHAIN: &[Node] = &[Node::App(I, 1)];
+
+const COMB: &[Node] = &[Node::App(M, 2)];
+
+const COMB_BESIDE_UNIT: &[Node] = &[Node::App(M, 2), Node::App(E, 0)];
+
+// The nodes of a term of so many levels: `end` stands in the deepest, and `near` beside the first argument that goes on,
+// where the other levels have the constant.
+fn add_deep(
+    list: &mut Vec<Node>,
     shape: Shape,
     levels: usize,
     near: &[Node],
     end: &[Node],
-) -> Result<Vec<Node>, AllocError> {
-    let chain = Node::App(I, 1);
-    let comb = Node::App(M, 2);
-    let constant = Node::App(E, 0);
+) -> Result<(), AllocError> {
     let further = levels.saturating_sub(1);
-    let mut list = Vec::new(alloc);
     match shape {
         Shape::Chain => {
-            add(&mut list, levels, &[chain])?;
-            add(&mut list, 1, end)?;
+            add(list, levels, CHAIN)?;
+            add(list, 1, end)
         }
         Shape::Left => {
-            add(&mut list, levels, &[comb])?;
-            add(&mut list, 1, end)?;
-            add(&mut list, further, &[constant])?;
-            add(&mut list, 1, near)?;
+            add(list, levels, COMB)?;
+            add(list, 1, end)?;
+            add(list, further, UNIT)?;
+            add(list, 1, near)
         }
         Shape::Right => {
-            add(&mut list, 1, &[comb])?;
-            add(&mut list, 1, near)?;
-            add(&mut list, further, &[comb, constant])?;
-            add(&mut list, 1, end)?;
+            add(list, 1, COMB)?;
+            add(list, 1, near)?;
+            add(list, further, COMB_BESIDE_UNIT)?;
+            add(list, 1, end)
         }
     }
-    Ok(list)
 }
 
 #[inline]
@@ -101,55 +102,50 @@ pub const UNIT: &[Node] = &[Node::App(E, 0)];
 /// Greater than the constant, and as heavy.
 pub const INVERSE: &[Node] = &[Node::App(I, 1), Node::App(E, 0)];
 
-pub const X: &[Node] = &[Node::Var(0)];
+const X: &[Node] = &[Node::Var(0)];
 
-pub const Y: &[Node] = &[Node::Var(1)];
+const Y: &[Node] = &[Node::Var(1)];
 
-/// What stands at the ends of a deep term.
-#[derive(Clone, Copy)]
-pub struct Ends<'a> {
-    pub near: &'a [Node],
-    pub deep: &'a [Node],
-}
-
-/// The part stands at the deep end, and the constant at the other.
-pub fn deep_end(part: &[Node]) -> Ends {
-    Ends {
-        near: UNIT,
-        deep: part,
+// The nodes of the deep term with the part at one end, the near or the deep one, and the constant at the other.
+fn deep(
+    alloc: Global,
+    shape: Shape,
+    levels: usize,
+    part: &[Node],
+    is_near: bool,
+) -> Result<Vec<Node>, AllocError> {
+    let mut list = Vec::new(alloc);
+    if is_near {
+        add_deep(&mut list, shape, levels, part, UNIT)?;
+    } else {
+        add_deep(&mut list, shape, levels, UNIT, part)?;
     }
+    Ok(list)
 }
 
-/// The part stands at the near end, and the constant at the other.
-pub fn near_end(part: &[Node]) -> Ends {
-    Ends {
-        near: part,
-        deep: UNIT,
-    }
-}
-
-/// How two deep terms of one shape compare.
-pub fn deep_compared<O: Order>(
+// How two deep terms of one shape compare that differ in the part at one end.
+fn deep_compared<O: Order>(
     alloc: Global,
     order: &O,
     shape: Shape,
     levels: usize,
-    ends: (Ends, Ends),
+    parts: (&[Node], &[Node]),
+    is_near: bool,
 ) -> Result<Option<Cmp>, AllocError> {
-    let s = deep(alloc, shape, levels, ends.0.near, ends.0.deep)?;
-    let t = deep(alloc, shape, levels, ends.1.near, ends.1.deep)?;
+    let s = deep(alloc, shape, levels, parts.0, is_near)?;
+    let t = deep(alloc, shape, levels, parts.1, is_near)?;
     Ok(compared_whole(order, &s, &t))
 }
 
-/// How a deep term with `X` in its deep end compares with a variable.
-pub fn variable_compared<O: Order>(
+// How a deep term with `X` in its deep end compares with a variable.
+fn variable_compared<O: Order>(
     alloc: Global,
     order: &O,
     shape: Shape,
     levels: usize,
     variable: &[Node],
 ) -> Result<Option<Cmp>, AllocError> {
-    let s = deep(alloc, shape, levels, UNIT, X)?;
+    let s = deep(alloc, shape, levels, X, false)?;
     Ok(compared_whole(order, &s, variable))
 }
 
@@ -162,8 +158,6 @@ pub struct Outcomes {
     pub variables: [Option<Cmp>; 2],
 }
 
-const PARTS: [(&[Node], &[Node]); 3] = [(INVERSE, UNIT), (UNIT, INVERSE), (X, Y)];
-
 /// The outcomes for terms of this shape with so many levels.
 pub fn deep_outcomes<O: Order>(
     alloc: Global,
@@ -171,19 +165,27 @@ pub fn deep_outcomes<O: Order>(
     shape: Shape,
     levels: usize,
 ) -> Result<Outcomes, AllocError> {
-    let mut deep = [None; 3];
-    let mut near = [None; 3];
-    for i in 0..3 {
-        let (s, t) = PARTS[i];
-        deep[i] = deep_compared(alloc, order, shape, levels, (deep_end(s), deep_end(t)))?;
-        near[i] = deep_compared(alloc, order, shape, levels, (near_end(s), near_end(t)))?;
-    }
     Ok(Outcomes {
-        deep,
-        near,
+        deep: compared_at(alloc, order, shape, levels, false)?,
+        near: compared_at(alloc, order, shape, levels, true)?,
         variables: [
             variable_compared(alloc, order, shape, levels, X)?,
             variable_compared(alloc, order, shape, levels, Y)?,
         ],
     })
+}
+
+// How deep terms compare that differ at this end.
+fn compared_at<O: Order>(
+    alloc: Global,
+    order: &O,
+    shape: Shape,
+    levels: usize,
+    is_near: bool,
+) -> Result<[Option<Cmp>; 3], AllocError> {
+    Ok([
+        deep_compared(alloc, order, shape, levels, (INVERSE, UNIT), is_near)?,
+        deep_compared(alloc, order, shape, levels, (UNIT, INVERSE), is_near)?,
+        deep_compared(alloc, order, shape, levels, (X, Y), is_near)?,
+    ])
 }

@@ -11,18 +11,17 @@ mod many;
 mod orders;
 mod pairs;
 
-use counts::{Counts, compared};
-use deep::{Outcomes, Shape, deep_outcomes};
+use counts::compared;
+use deep::{Shape, deep_outcomes};
 use many::many_variables;
 use orders::{kbo, lpo, symbols};
-use pairs::{Pair, read_pairs};
-use std::alloc::{AllocError, Global};
+use pairs::read_terms;
+use std::alloc::AllocError;
 use std::io::Print;
-use std::rt::Env;
+use std::rt::{Env, Files};
 use std::{env, fs, io};
 use uc_order::Order;
-
-const SHAPES: &[Shape] = &[Shape::Chain, Shape::Left, Shape::Right];
+use uc_term::{Symbols, Term};
 
 // How often two combs with many variables are compared.
 const ROUNDS: u32 = 1000;
@@ -40,71 +39,93 @@ fn numbers(rt: &(impl Env + AllocGlobal)) -> io::Result<[u64; 5]> {
     Ok(numbers)
 }
 
-// What an order says of the pairs in so many rounds, and of deep terms of each shape.
-#[derive(Drop)]
-struct Answers {
-    counts: Counts,
-    outcomes: Vec<(Shape, Outcomes)>,
+// What an order says of deep terms of this shape.
+fn tell_deep<O: Order>(
+    rt: &(impl Print + AllocGlobal),
+    name: &str,
+    order: &O,
+    shape: Shape,
+    levels: u64,
+) -> io::Result<()> {
+    let outcomes = deep_outcomes(rt.alloc(), order, shape, levels as usize)?;
+    println!(rt; "{name} {shape:?} {outcomes:?}")
 }
 
-fn answers_of<O: Order>(
-    alloc: Global,
+// What an order says of the pairs in so many rounds, and of deep terms of each shape.
+fn tell<O: Order>(
+    rt: &(impl Print + AllocGlobal),
+    name: &str,
     order: &O,
-    pairs: &[Pair],
+    terms: &[Term],
     rounds: u64,
     levels: u64,
-) -> Result<Answers, AllocError> {
-    let mut outcomes = Vec::new(alloc);
-    if levels > 0 {
-        for shape in SHAPES {
-            outcomes.push((
-                *shape,
-                deep_outcomes(alloc, order, *shape, levels as usize)?,
-            ))?;
-        }
+) -> io::Result<()> {
+    println!(rt; "{name} {:?}", compared(order, terms, rounds))?;
+    if levels == 0 {
+        return Ok(());
     }
-    Ok(Answers {
-        counts: compared(order, pairs, rounds),
-        outcomes,
-    })
+    tell_deep(rt, name, order, Shape::Chain, levels)?;
+    tell_deep(rt, name, order, Shape::Left, levels)?;
+    tell_deep(rt, name, order, Shape::Right, levels)
 }
 
-fn work(alloc: Global, text: &[u8], numbers: [u64; 5]) -> Option<(Answers, Answers, u64)> {
-    let symbols = symbols(alloc).ok()?;
-    let pairs = read_pairs(alloc, text).ok()?;
-    let by_weight = kbo(alloc, &symbols)?;
-    let by_paths = lpo(alloc, &symbols)?;
-    Some((
-        answers_of(alloc, &by_weight, &pairs, numbers[0], numbers[2]).ok()?,
-        answers_of(alloc, &by_paths, &pairs, numbers[1], numbers[3]).ok()?,
-        many_variables(alloc, &by_weight, u32::try_from(numbers[4]).ok()?, ROUNDS).ok()?,
-    ))
+fn tell_kbo(
+    rt: &(impl Print + AllocGlobal),
+    symbols: &Symbols,
+    terms: &[Term],
+    rounds: u64,
+    levels: u64,
+) -> io::Result<()> {
+    let order = kbo(rt.alloc(), symbols).ok_or(AllocError)?;
+    tell(rt, "kbo", &order, terms, rounds, levels)
 }
 
-fn tell(rt: &impl Print, name: &str, answers: &Answers) -> io::Result<()> {
-    println!(rt; "{name} {:?}", answers.counts)?;
-    for (shape, outcomes) in &answers.outcomes {
-        println!(rt; "{name} {shape:?} {outcomes:?}")?;
-    }
-    Ok(())
+fn tell_lpo(
+    rt: &(impl Print + AllocGlobal),
+    symbols: &Symbols,
+    terms: &[Term],
+    rounds: u64,
+    levels: u64,
+) -> io::Result<()> {
+    let order = lpo(rt.alloc(), symbols).ok_or(AllocError)?;
+    tell(rt, "lpo", &order, terms, rounds, levels)
 }
 
-fn tell_many(rt: &impl Print, levels: u64, greater: u64) -> io::Result<()> {
-    if levels > 0 {
-        println!(rt; "kbo {levels} variables: greater in {greater} of {ROUNDS} rounds")?;
+// What the Knuth-Bendix order says of two combs with so many variables.
+fn tell_many(rt: &(impl Print + AllocGlobal), symbols: &Symbols, levels: u64) -> io::Result<()> {
+    if levels == 0 {
+        return Ok(());
     }
-    Ok(())
+    let order = kbo(rt.alloc(), symbols).ok_or(AllocError)?;
+    let count = u32::try_from(levels).unwrap_or(u32::MAX);
+    let greater = many_variables(rt.alloc(), &order, count, ROUNDS)?;
+    println!(rt; "kbo {levels} variables: greater in {greater} of {ROUNDS} rounds")
+}
+
+fn tell_orders(
+    rt: &(impl Print + AllocGlobal),
+    symbols: &Symbols,
+    terms: &[Term],
+    numbers: [u64; 5],
+) -> io::Result<()> {
+    tell_kbo(rt, symbols, terms, numbers[0], numbers[2])?;
+    tell_lpo(rt, symbols, terms, numbers[1], numbers[3])?;
+    tell_many(rt, symbols, numbers[4])
+}
+
+fn tell_all(rt: &(impl Print + AllocGlobal), terms: &[Term], numbers: [u64; 5]) -> io::Result<()> {
+    let symbols = symbols(rt.alloc())?;
+    tell_orders(rt, &symbols, terms, numbers)
+}
+
+// The terms of the file.
+fn group_pairs(rt: &(impl Files + AllocGlobal)) -> io::Result<Vec<Term>> {
+    let text = fs::read(rt, "group_pairs")?;
+    Ok(read_terms(rt.alloc(), &text).ok().ok_or(AllocError)?)
 }
 
 fn main(rt: HostRuntime) -> io::Result<()> {
-    let text = fs::read(&rt, "group_pairs")?;
     let numbers = numbers(&rt)?;
-    match work(rt.alloc(), &text, numbers) {
-        Some((by_weight, by_paths, greater)) => {
-            tell(&rt, "kbo", &by_weight)?;
-            tell(&rt, "lpo", &by_paths)?;
-            tell_many(&rt, numbers[4], greater)
-        }
-        None => println!(rt; "no memory"),
-    }
+    let terms = group_pairs(&rt)?;
+    tell_all(&rt, &terms, numbers)
 }

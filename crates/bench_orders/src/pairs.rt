@@ -2,51 +2,37 @@
 
 use crate::orders::{E, I, M};
 use std::alloc::Global;
-use uc_term::{Term, TermFault};
+use uc_term::{Sym, Term, TermFault};
 
-#[derive(Drop)]
-pub struct Pair {
-    pub left: Term,
-    pub right: Term,
+// The symbol over the last terms of the list, so many, takes their place.
+fn apply(alloc: Global, symbol: Sym, arity: u8, terms: &mut Vec<Term>) -> Result<(), TermFault> {
+    let before = terms.len().saturating_sub(arity as usize);
+    let term = Term::app(alloc, symbol, &terms[before..])?;
+    terms.truncate(before);
+    terms.push(term)?;
+    Ok(())
 }
 
-fn pop(alloc: Global, stack: &mut Vec<Term>) -> Result<Term, TermFault> {
-    match stack.pop() {
-        Some(t) => Ok(t),
-        None => Ok(Term::var(alloc, 0)?),
-    }
-}
-
-// The term of a letter and of what stands on the stack.
-fn one(alloc: Global, letter: u8, stack: &mut Vec<Term>) -> Result<Term, TermFault> {
+// A letter's symbol takes the place of its arguments; a variable comes behind the others.
+fn read(alloc: Global, letter: u8, terms: &mut Vec<Term>) -> Result<(), TermFault> {
     match letter {
-        b'e' => Term::app(alloc, E, &[]),
-        b'i' => {
-            let args = [pop(alloc, stack)?];
-            Term::app(alloc, I, &args)
+        b'e' => apply(alloc, E, 0, terms),
+        b'i' => apply(alloc, I, 1, terms),
+        b'm' => apply(alloc, M, 2, terms),
+        _ => {
+            terms.push(Term::var(alloc, letter.saturating_sub(b'A') as u32)?)?;
+            Ok(())
         }
-        b'm' => {
-            let second = pop(alloc, stack)?;
-            let args = [pop(alloc, stack)?, second];
-            Term::app(alloc, M, &args)
-        }
-        _ => Ok(Term::var(alloc, letter.saturating_sub(b'A') as u32)?),
     }
 }
 
-/// The pairs of the lines, each of which has two terms with a blank between them.
-pub fn read_pairs(alloc: Global, text: &[u8]) -> Result<Vec<Pair>, TermFault> {
-    let mut pairs = Vec::new(alloc);
-    let mut stack = Vec::new(alloc);
+/// The two terms of each line, which have a blank between them, one behind the other.
+pub fn read_terms(alloc: Global, text: &[u8]) -> Result<Vec<Term>, TermFault> {
+    let mut terms = Vec::new(alloc);
     for letter in text {
-        if *letter == b'\n' {
-            let right = pop(alloc, &mut stack)?;
-            let left = pop(alloc, &mut stack)?;
-            pairs.push(Pair { left, right })?;
-        } else if *letter != b' ' {
-            let t = one(alloc, *letter, &mut stack)?;
-            stack.push(t)?;
+        if *letter != b' ' && *letter != b'\n' {
+            read(alloc, *letter, &mut terms)?;
         }
     }
-    Ok(pairs)
+    Ok(terms)
 }

@@ -19,7 +19,7 @@ const PLUS: Sym = Sym(2);
 
 const TIMES: Sym = Sym(3);
 
-const PRECEDENCE: [Sym; 4] = [ZERO, S, PLUS, TIMES];
+const PRECEDENCE: &[Sym] = &[ZERO, S, PLUS, TIMES];
 
 // Their names, in the order of their numbers, with the numbers of their arguments.
 const NAMES: &[(&[u8], u32)] = &[(b"zero", 0), (b"s", 1), (b"plus", 2), (b"times", 2)];
@@ -60,65 +60,85 @@ fn has_constant(symbols: &Symbols, list: &[Sym]) -> bool
 /// The order, if there is memory.
 pub fn order(alloc: Global) -> Option<Lpo> {
     let symbols = symbols(alloc).ok()?;
-    let signature = PRECEDENCE;
-    if !are_known(&symbols, &signature) || !has_constant(&symbols, &signature) {
+    if !are_known(&symbols, PRECEDENCE) || !has_constant(&symbols, PRECEDENCE) {
         return None;
     }
-    Lpo::new(alloc, &signature, &symbols, &signature).ok()
+    Lpo::new(alloc, PRECEDENCE, &symbols, PRECEDENCE).ok()
 }
 
-fn zero(alloc: Global) -> Result<Term, TermFault> {
-    Term::app(alloc, ZERO, &[])
+// The symbol over the last terms of the list, so many, takes their place.
+fn apply(alloc: Global, symbol: Sym, arity: u8, terms: &mut Vec<Term>) -> Result<(), TermFault> {
+    let before = terms.len().saturating_sub(arity as usize);
+    let term = Term::app(alloc, symbol, &terms[before..])?;
+    terms.truncate(before);
+    terms.push(term)?;
+    Ok(())
 }
 
-fn next(alloc: Global, t: Term) -> Result<Term, TermFault> {
-    Term::app(alloc, S, &[t])
-}
-
-fn sum(alloc: Global, s: Term, t: Term) -> Result<Term, TermFault> {
-    Term::app(alloc, PLUS, &[s, t])
-}
-
-/// The product of two terms.
-pub fn product(alloc: Global, s: Term, t: Term) -> Result<Term, TermFault> {
-    Term::app(alloc, TIMES, &[s, t])
-}
-
-/// The numeral of a number.
-pub fn numeral(alloc: Global, number: u64) -> Result<Term, TermFault> {
-    let mut t = zero(alloc)?;
-    for _ in 0..number {
-        t = next(alloc, t)?;
+// A letter's symbol takes the place of its arguments; a variable comes behind the others.
+fn read(alloc: Global, letter: u8, terms: &mut Vec<Term>) -> Result<(), TermFault> {
+    match letter {
+        b'0' => apply(alloc, ZERO, 0, terms),
+        b's' => apply(alloc, S, 1, terms),
+        b'+' => apply(alloc, PLUS, 2, terms),
+        b'*' => apply(alloc, TIMES, 2, terms),
+        _ => {
+            terms.push(Term::var(alloc, letter.saturating_sub(b'X') as u32)?)?;
+            Ok(())
+        }
     }
-    Ok(t)
 }
 
-fn x(alloc: Global) -> Result<Term, TermFault> {
-    Ok(Term::var(alloc, 0)?)
+// The term that the letters spell in postfix order.
+fn spelled(alloc: Global, letters: &[u8]) -> Result<Term, TermFault> {
+    let mut terms = Vec::new(alloc);
+    for letter in letters {
+        read(alloc, *letter, &mut terms)?;
+    }
+    last(alloc, terms)
 }
 
-fn y(alloc: Global) -> Result<Term, TermFault> {
-    Ok(Term::var(alloc, 1)?)
+fn last(alloc: Global, mut terms: Vec<Term>) -> Result<Term, TermFault> {
+    match terms.pop() {
+        Some(term) => Ok(term),
+        None => Ok(Term::var(alloc, 0)?),
+    }
 }
 
-/// plus(zero,Y) = Y, plus(s(X),Y) = s(plus(X,Y)), times(zero,Y) = zero and times(s(X),Y) = plus(Y,times(X,Y)).
+fn push_numeral(alloc: Global, number: u64, terms: &mut Vec<Term>) -> Result<(), TermFault> {
+    apply(alloc, ZERO, 0, terms)?;
+    for _ in 0..number {
+        apply(alloc, S, 1, terms)?;
+    }
+    Ok(())
+}
+
+/// The product of the numerals of two numbers.
+pub fn product(alloc: Global, m: u64, n: u64) -> Result<Term, TermFault> {
+    let mut terms = Vec::new(alloc);
+    push_numeral(alloc, m, &mut terms)?;
+    push_numeral(alloc, n, &mut terms)?;
+    apply(alloc, TIMES, 2, &mut terms)?;
+    last(alloc, terms)
+}
+
+// The sides in postfix order: plus(zero,Y) = Y, plus(s(X),Y) = s(plus(X,Y)), times(zero,Y) = zero and
+// times(s(X),Y) = plus(Y,times(X,Y)).
+const AXIOMS: &[(&[u8], &[u8])] = &[
+    (b"0Y+", b"Y"),
+    (b"XsY+", b"XY+s"),
+    (b"0Y*", b"0"),
+    (b"XsY*", b"YXY*+"),
+];
+
+/// The axioms of addition and multiplication.
 pub fn axioms(alloc: Global) -> Result<Vec<Equation>, TermFault> {
     let mut list = Vec::new(alloc);
-    list.push(Equation {
-        left: sum(alloc, zero(alloc)?, y(alloc)?)?,
-        right: y(alloc)?,
-    })?;
-    list.push(Equation {
-        left: sum(alloc, next(alloc, x(alloc)?)?, y(alloc)?)?,
-        right: next(alloc, sum(alloc, x(alloc)?, y(alloc)?)?)?,
-    })?;
-    list.push(Equation {
-        left: product(alloc, zero(alloc)?, y(alloc)?)?,
-        right: zero(alloc)?,
-    })?;
-    list.push(Equation {
-        left: product(alloc, next(alloc, x(alloc)?)?, y(alloc)?)?,
-        right: sum(alloc, y(alloc)?, product(alloc, x(alloc)?, y(alloc)?)?)?,
-    })?;
+    for (left, right) in AXIOMS {
+        list.push(Equation {
+            left: spelled(alloc, left)?,
+            right: spelled(alloc, right)?,
+        })?;
+    }
     Ok(list)
 }
