@@ -85,21 +85,21 @@ close_counted s _ _ _ has_stuck = omega arith
 
 -- THE END OF A ROUND
 
-audited_counted : (o : Opening) (all left : List Missing) (drained s : State) → AreAudited o all drained left s → drained.counted ≤ s.counted
-audited_counted o all _ drained _ none_yet = omega arith
-audited_counted o all left drained u (one_more {missing = x} {s = s} {answer = r} a b) =
-    let before : drained.counted ≤ s.counted = audited_counted o all (x ∷ left) drained s a in
+audited_counted : (o : Opening) (all : List Missing) (drained : State) (left : List Missing) (s : State) → AreAudited o all drained left s → drained.counted ≤ s.counted
+audited_counted o all drained _ _ none_yet = omega arith
+audited_counted o all drained left u (one_more {missing = x} {s = s} {answer = r} a b) =
+    let before : drained.counted ≤ s.counted = audited_counted o all drained (x ∷ left) s a in
     let now : s.counted ≤ u.counted = audit_counted o x.fact s r u b in
     omega arith
 
 module _ (m : Meaning) (o : Opening) where
   pub round_end_counted : (s : State) (v : Option Verdict) (u : State) → EndsRound m o s v u → s.counted ≤ u.counted
   round_end_counted s _ u (is_closed_by {outcome = x} {v = v} f c) = close_counted s x v u c
-  round_end_counted s v u (audits_missing {missing = xs} f a) = audited_counted o xs a.left s u a.audited
+  round_end_counted s v u (audits_missing {missing = xs} f a) = audited_counted o xs s a.left u a.audited
 
   pub cut_counted : (s u : State) → CutsRound m o s u → s.counted ≤ u.counted
   cut_counted s _ before_answer = omega arith
-  cut_counted s u (while_auditing {missing = xs} f a) = audited_counted o xs a.left s u a.audited
+  cut_counted s u (while_auditing {missing = xs} f a) = audited_counted o xs s a.left u a.audited
 
 -- ONE WORKER ALONE
 
