@@ -1,5 +1,5 @@
 -- Each turn makes a commit, and each round after which the search goes on counts a unit: so neither goes on without end.
-use Rattle.std.proofs.Common.{◌≡◌, ◌≢◌, ℕ, ◌+◌, ◌≤◌, List, [], ◌∷◌, None, refl, sym, ap, ◌∙◌, arith, subst}
+use Rattle.std.proofs.Common.{◌≡◌, ◌≢◌, ℕ, ◌+◌, ◌≤◌, List, [], None, refl, sym, ap, ◌∙◌, arith, subst}
 use Rattle.uc_order.specs.Laws.{Meaning}
 use Rattle.uc_term.specs.declared.equation.Equation.{Equation}
 use Rattle.uc_machine.specs.declared.task.Missing.{Missing}

@@ -1,5 +1,5 @@
 -- The units that are counted never get fewer.
-use Rattle.std.proofs.Common.{◌≡◌, ℕ, ◌+◌, ◌≤◌, List, [], ◌∷◌, cond, Option, refl, ap, ◌∙◌, arith, inl, inr}
+use Rattle.std.proofs.Common.{◌≡◌, ℕ, ◌≤◌, List, [], ◌∷◌, cond, Option, refl, ◌∙◌, arith, inl, inr}
 use Rattle.std.proofs.lemmas.Bool.{cases_Bool}
 use Rattle.uc_order.specs.Laws.{Meaning}
 use Rattle.uc_fact.specs.declared.chain.Chain.{Chain}
@@ -22,7 +22,7 @@ use Rattle.uc_machine.specs.Draws.{Reply, Drew, Drained as IsDrained, Closed as 
 use Rattle.uc_machine.specs.Commits.{GoalEnds, ends_meet, ends_differ, Meets, within_limit, past_limit, newly_waiting, stays, Commits, is_late, goal_ends, more_ends, pair_joins, fact_is_kept, fact_is_stale, fact_is_dead, fact_meets}
 use Rattle.uc_machine.specs.Runs.{AuditReply, Audits, is_closed, is_spent, is_kept, AreAudited, none_yet, one_more, Closes, converges, has_large, has_stuck}
 use Rattle.uc_search.specs.declared.working.Ended.{Ended}
-use Rattle.uc_search.specs.Working.{TakesTurn, Works, no_turn, one_more_turn, WorksUntil, EndsAlone, drains, finds_closed, lacks_memory, puts_back}
+use Rattle.uc_search.specs.Working.{Works, no_turn, one_more_turn, WorksUntil, EndsAlone, drains, finds_closed, lacks_memory, puts_back}
 use Rattle.uc_search.specs.Searching.{EndsRound, is_closed_by, audits_missing, CutsRound, before_answer, while_auditing}
 
 -- CALLS

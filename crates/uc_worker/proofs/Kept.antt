@@ -1,5 +1,5 @@
 -- What a call leaves of the number of commits of each worker and of the units that are counted, in a book.
-use Rattle.std.proofs.Common.{◌≡◌, ℕ, ◌+◌, ◌≤◌, ◌<◌, List, [], ◌∷◌, Result, Ok, Err, IfOk, OnErr, Option, None, Some, ap, ◌∙◌, arith}
+use Rattle.std.proofs.Common.{◌≡◌, ℕ, ◌+◌, ◌≤◌, ◌<◌, List, [], ◌∷◌, Result, Ok, Err, IfOk, OnErr, Option, None, Some, refl, ap, ◌∙◌, arith}
 use Rattle.uc_machine.specs.State.{Opening, State}
 use Rattle.uc_machine.specs.Draws.{Draws}
 use Rattle.uc_machine.specs.Events.{commits_by}
@@ -66,6 +66,6 @@ module _ (m : Meaning) (o : Opening) where
 
   -- after a round without a verdict there are more
   pub round_counts : {E : Type 0} (s u : State) (r : Result (Option Verdict) E) → IfOk r (λ v. EndsRound m o s v u) → IfOk r (λ v. v ≡ None → s.counted < u.counted)
-  round_counts s u (Ok None) h = λ e. ended_counted m o s u h
+  round_counts s u (Ok None) h = λ e. (let more : s.counted + 1 ≤ u.counted = ended_counted m o s u h in omega arith)
   round_counts s u (Ok (Some v)) h = λ e. absurd (cc)
   round_counts s u (Err x) h = tt

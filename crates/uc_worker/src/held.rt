@@ -247,12 +247,15 @@ impl<'a, O: Order, K: NamesOrder<O>, C: Ledger> Held<'a, O, K, C> {
             };
             hands.push(hand)?;
         }
-        let held = Held {
-            book,
-            total,
-            rounds,
-        };
-        Ok((held, made, hands))
+        Ok((
+            Held {
+                book,
+                total,
+                rounds,
+            },
+            made,
+            hands,
+        ))
     }
 
     /// As many rounds as the count says were made, and at least as many units are counted. The count has the whole ledger.

@@ -1,6 +1,6 @@
 //! The rounds of a search by several workers.
 
-ghost use Rattle.std.specs.Prelude.{◌≡◌, ◌≢◌, ◌<◌, ◌≤◌, [], Some, None, length, sum, sum_by, IfOk};
+ghost use Rattle.std.specs.Prelude.{◌≡◌, ◌≢◌, ◌+◌, ◌^◌, ◌<◌, ◌≤◌, [], Some, None, length, sum, sum_by, IfOk};
 ghost use Rattle.uc_book.specs.Openings.{opening_of};
 ghost use Rattle.uc_worker.specs.Commits.{commits_of, shares_of, AreOfFirst};
 ghost use Rattle.uc_worker.specs.Ends.{HasEnded};
@@ -72,13 +72,7 @@ fn together<
 
 /// Worker 0 goes on with what waits, and makes the final pass, by the threads of so many workers, where the book is drained. None
 /// where no verdict stands then.
-fn end_work<
-    'a,
-    O: Order + Sync,
-    K: NamesOrder<O>,
-    C: Ledger,
-    R: Threads + Wait + Sync,
->(
+fn end_work<'a, O: Order + Sync, K: NamesOrder<O>, C: Ledger, R: Threads + Wait + Sync>(
     rt: &R,
     alloc: Global,
     held: &mut Held<'a, O, K, C>,
