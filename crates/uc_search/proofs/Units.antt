@@ -101,7 +101,7 @@ module _ (m : Meaning) (o : Opening) where
   cut_counted s _ before_answer = omega arith
   cut_counted s u (while_auditing {missing = xs} f a) = audited_counted o xs s a.left u a.audited
 
--- ONE WORKER ALONE
+  -- ONE WORKER ALONE
 
   module _ (w : ℕ) where
     pub works_counted : (s u : State) → Works m o w s u → s.counted ≤ u.counted
