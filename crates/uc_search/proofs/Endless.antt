@@ -1,30 +1,21 @@
 -- Each turn makes a commit, and each round after which the search goes on counts a unit: so neither goes on without end.
-use Rattle.std.proofs.Common.{◌≡◌, ◌≢◌, ℕ, ◌+◌, ◌≤◌, List, [], ◌∷◌, cond, None, refl, sym, ap, ◌∙◌, arith, inl, inr, subst}
-use Rattle.std.proofs.lemmas.Bool.{cases_Bool}
+use Rattle.std.proofs.Common.{◌≡◌, ◌≢◌, ℕ, ◌+◌, ◌≤◌, List, [], None, refl, sym, ap, ◌∙◌, arith, subst}
 use Rattle.uc_order.specs.Laws.{Meaning}
 use Rattle.uc_term.specs.declared.equation.Equation.{Equation}
-use Rattle.uc_fact.specs.declared.chain.Chain.{Chain}
-use Rattle.uc_fact.specs.declared.fact.Stop.{Stop}
-use Rattle.uc_shelf.specs.Entries.{is_dead}
-use Rattle.uc_machine.specs.declared.event.GoalEnd.{GoalEnd}
-use Rattle.uc_machine.specs.declared.event.Happening.{Happening}
-use Rattle.uc_machine.specs.declared.event.Happening.TheVariants.{CommitGoal, CommitMore, CommitMeet}
-use Rattle.uc_machine.specs.declared.task.Finding.{Finding}
 use Rattle.uc_machine.specs.declared.task.Missing.{Missing}
 use Rattle.uc_machine.specs.declared.task.Outcome.TheVariants.{Missing as Lacks}
-use Rattle.uc_machine.specs.Lists.{each}
 use Rattle.uc_machine.specs.State.{Opening, State, Out}
-use Rattle.uc_machine.specs.Effects.{accepts, is_met, dies, kills, visits, drops}
+use Rattle.uc_machine.specs.Effects.{drops}
 use Rattle.uc_machine.specs.Events.{commits_by}
 use Rattle.uc_machine.specs.Finals.{IsFinal, some_missing}
 use Rattle.uc_machine.specs.Draws.{Reply, Drew, Draws, verdict_stands, goal_is_due, fact_is_unmet, orphan_is_dropped, goal_is_continued, pair_is_drawn, budget_is_out, budget_is_spent, all_is_out, all_is_done}
-use Rattle.uc_machine.specs.Commits.{GoalEnds, ends_meet, ends_differ, Meets, within_limit, past_limit, newly_waiting, stays, Commits, is_late, goal_ends, more_ends, pair_joins, fact_is_kept, fact_is_stale, fact_is_dead, fact_meets}
 use Rattle.uc_machine.specs.Runs.{KeptAs, Audits, is_kept}
 use Rattle.uc_search.specs.declared.working.Turn.TheVariants.{Worked}
-use Rattle.uc_search.specs.Working.{TakesTurn, TurnsTo, takes_turn, Works, no_turn, one_more_turn}
+use Rattle.uc_search.specs.Working.{TakesTurn, TurnsTo, takes_turn}
 use Rattle.uc_search.proofs.InOrder.{AuditsAll, all_are_kept, one_is_kept, audits_all}
 use Rattle.uc_search.specs.Searching.{EndsRound, audits_missing, Rounds, gets_drained}
 use Rattle.uc_search.proofs.Counting.{draw_commits, commit_commits}
+use Rattle.uc_search.proofs.Units.{drawn_counted, works_counted}
 
 -- TURNS
 
@@ -54,43 +45,6 @@ module _ (m : Meaning) (o : Opening) (w : ℕ) where
 
 -- ROUNDS
 
-drawn_counted : (o : Opening) (w : ℕ) (s : State) (r : Reply) (u : State) → Draws o w s r u → u.counted ≡ s.counted
-drawn_counted o w s _ _ (verdict_stands v e) = refl
-drawn_counted o w s _ _ (goal_is_due g e f) = refl
-drawn_counted o w s _ _ (fact_is_unmet i n f) = refl
-drawn_counted o w s r u (orphan_is_dropped p n e f d) = drawn_counted o w (drops w p.number s) r u d
-drawn_counted o w s _ _ (goal_is_continued g l f room) = refl
-drawn_counted o w s _ _ (pair_is_drawn p x l f e at room) = refl
-drawn_counted o w s _ _ (budget_is_out l a b c) = refl
-drawn_counted o w s _ _ (budget_is_spent l a b c) = refl
-drawn_counted o w s _ _ (all_is_out l a b) = refl
-drawn_counted o w s _ _ (all_is_done l a b) = refl
-
-kills_counted : (i k : ℕ) (s : State) → (kills i k s).counted ≡ s.counted
-kills_counted i k s = elim (cases_Bool (is_dead s.entries k)) as (λ _. (cond (is_dead s.entries k) s (dies i k s)).counted ≡ s.counted) [ inl e ↦ rw e refl | inr e ↦ rw e refl ]
-
-each_counted : (i : ℕ) (ks : List ℕ) (s : State) → (each (kills i) ks s).counted ≡ s.counted
-each_counted i [] s = refl
-each_counted i (k ∷ ks) s = each_counted i ks (kills i k s) ∙ kills_counted i k s
-
-meets_counted : (o : Opening) (t : Out) (i pairs : ℕ) (does : State → State) (s u : State) → ((x : State) → (does x).counted ≡ x.counted) → Meets o t i pairs does s u → s.counted ≤ u.counted
-meets_counted o t i pairs does s _ d (within_limit died a b) = omega (arith, d (is_met i (accepts t (CommitMeet i pairs died) s)))
-meets_counted o t i pairs does s _ d (past_limit more a b) = omega arith
-
-goal_counted : (kind : ℕ → ℕ → GoalEnd → Happening) (t : Out) (g : ℕ) (l r : Chain) (stop : Stop) (s u : State) → GoalEnds kind t g l r stop s u → s.counted ≤ u.counted
-goal_counted kind t g l r stop s _ (ends_meet e) = omega arith
-goal_counted kind t g l r stop s _ (ends_differ c e a) = omega arith
-
-commits_counted : (o : Opening) (t : Out) (f : Finding) (s u : State) → Commits o t f s u → s.counted ≤ u.counted
-commits_counted o t f s _ (is_late v e) = omega arith
-commits_counted o t _ s u (goal_ends {l = l} {r = r} {stop = stop} g a b e is x) = goal_counted CommitGoal t g l r stop s u x
-commits_counted o t _ s u (more_ends {l = l} {r = r} {stop = stop} g a b e is x) = goal_counted CommitMore t g l r stop s u x
-commits_counted o t _ s _ (pair_joins p a e is) = omega arith
-commits_counted o t _ s _ (fact_is_kept p a e is) = omega arith
-commits_counted o t _ s u (fact_is_stale {k = k} i e is m) = meets_counted o t i 0 (λ x. kills k i x) s u (kills_counted k i) m
-commits_counted o t _ s u (fact_is_dead i e is d m) = meets_counted o t i 0 stays s u (λ x. refl) m
-commits_counted o t _ s u (fact_meets {ks = ks} {fs = fs} i e is d m) = meets_counted o t i (newly_waiting fs (each (λ c. kills i c) ks s)) (λ x. visits i ks fs x) s u (λ x. each_counted i ks x) m
-
 kept_counted : (o : Opening) (x : Missing) (s u : State) (n : ℕ) → Audits o x.fact s (KeptAs n) u → u.counted ≡ s.counted + 1
 kept_counted o x s _ _ (is_kept e c) = refl
 
@@ -106,14 +60,10 @@ no_missing : (m : Meaning) (axioms : List Equation) (s : State) (xs : List Missi
 no_missing m axioms s xs (some_missing a t ne) = ne
 
 module _ (m : Meaning) (o : Opening) where
-  ended_counted : (s u : State) → EndsRound m o s None u → s.counted + 1 ≤ u.counted
+  pub ended_counted : (s u : State) → EndsRound m o s None u → s.counted + 1 ≤ u.counted
   ended_counted s u (audits_missing {missing = xs} f a) = more_kept o xs s u (no_missing m o.axioms s xs f) (audits_all o xs s None u a)
 
   module _ (w : ℕ) where
-    works_counted : (s u : State) → Works m o w s u → s.counted ≤ u.counted
-    works_counted s _ no_turn = omega arith
-    works_counted s v (one_more_turn {u = u} b t) = omega (arith, works_counted s u b, drawn_counted o w u (Drew t.task) t.drawn t.draws, commits_counted o t.task t.commits.finding t.drawn v t.commits.commits)
-
     -- a round without a verdict
     pub round_counted : (s u : State) → Rounds m o w s None u → s.counted + 1 ≤ u.counted
-    round_counted s u (gets_drained {drained = d} b e) = omega (arith, works_counted s b.last b.works, drawn_counted o w b.last _ d b.draws, ended_counted d u e)
+    round_counted s u (gets_drained {drained = d} b e) = omega (arith, works_counted m o w s b.last b.works, drawn_counted o w b.last _ d b.draws, ended_counted d u e)

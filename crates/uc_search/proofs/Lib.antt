@@ -17,4 +17,5 @@ pub mod Distinct
 pub mod Loads
 pub mod Fits
 pub mod Bounded
+pub mod Units
 pub mod Endless

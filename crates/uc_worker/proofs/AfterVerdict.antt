@@ -1,10 +1,10 @@
 -- Nothing comes where a verdict stands and no task is out.
-use Rattle.std.proofs.Common.{◌≡◌, ℕ, List, [], ◌∷◌, Some, None, refl, sym, ap, ◌∙◌, subst}
+use Rattle.std.proofs.Common.{◌≡◌, ℕ, List, [], ◌∷◌, Some, None, refl, ap, ◌∙◌}
 use Rattle.uc_order.specs.Laws.{Meaning}
 use Rattle.uc_fact.specs.declared.fact.Fact.{Fact}
 use Rattle.uc_machine.specs.declared.event.Verdict.{Verdict}
 use Rattle.uc_machine.specs.Draws.{Reply, Draws, verdict_stands, goal_is_due, fact_is_unmet, orphan_is_dropped, goal_is_continued, pair_is_drawn, budget_is_out, budget_is_spent, all_is_out, all_is_done}
-use Rattle.uc_machine.specs.Effects.{reclaims, recalls}
+use Rattle.uc_machine.specs.Effects.{reclaims}
 use Rattle.uc_machine.specs.Lists.{each}
 use Rattle.uc_machine.specs.Runs.{AuditReply, Audits, is_closed, is_spent, is_kept}
 use Rattle.uc_machine.specs.State.{Opening, State, Out, out_at}

@@ -1,11 +1,11 @@
 -- What a draw answers is known after the lock is given back.
-use Rattle.std.proofs.Common.{◌≡◌, ℕ, Option, Some, Result, IfOk, IfSome, sym, subst}
+use Rattle.std.proofs.Common.{◌≡◌, ℕ, Option, Some, Result, IfOk, IfSome, subst}
 use Rattle.std.proofs.lemmas.Result.{IfOk-weaker}
 use Rattle.std.specs.declared.alloc.AllocError.{AllocError}
 use Rattle.uc_order.specs.Laws.{Meaning}
 use Rattle.uc_machine.specs.declared.event.Verdict.{Verdict}
 use Rattle.uc_machine.specs.State.{Opening}
-use Rattle.uc_machine.specs.Draws.{Drained as IsDrained, Closed as IsClosed, Draws}
+use Rattle.uc_machine.specs.Draws.{Draws}
 use Rattle.uc_machine.specs.Runs.{Run}
 use Rattle.uc_book.specs.Openings.{Opened, BookView, opening_of}
 use Rattle.uc_book.specs.Answers.{reply_of}

@@ -1,4 +1,4 @@
-//! The book with a ledger of its commits, and the workers' hands.
+//! The book with ledgers of its commits and of the rounds, and the workers' hands.
 
 ghost use Rattle.std.specs.Prelude.{◌≡◌, ℕ, ◌+◌, ◌^◌, ◌<◌, ◌≤◌, ◌++◌, ◌∷◌, [], false, Some, None, Option, length, vec_len, IfOk, IfErr, IfSome, OnOk, OnErr, sum_by, slice_index_or};
 ghost use Rattle.uc_shelf.specs.Fronts.{IsOf};
@@ -18,7 +18,7 @@ ghost use Rattle.uc_worker.specs.Works.{WasAnswered};
 use crate::naming::{NamesOrder, Naming};
 use std::alloc::{AllocError, Global};
 use std::marker::Model;
-use std::sync::ledger::{Blank, Share};
+use std::sync::ledger::{Blank, Ledger, Share};
 use std::sync::{Wait, ledger};
 use std::thread::Threads;
 use uc_book::{Audited, Book, CommitFault, Done, Drawn, Pass, Receipt};
@@ -29,15 +29,17 @@ use uc_problem::Encoded;
 use uc_search::{Ended, end_round, work_alone};
 use uc_shelf::Shelf;
 
-/// What lies under the lock: the book, and the total of all commits.
+/// What lies under the lock: the book, the total of all commits, and how many rounds were made. Each round after which the search
+/// goes on counts a unit, and no unit that is counted is ever taken back; so there are no more rounds than units.
 #[derive(Drop)]
-pub struct Held<'a, O: Order, K: NamesOrder<O>> {
+pub struct Held<'a, O: Order, K: NamesOrder<O>, C: Ledger> {
     book: Book<'a, O>,
     total: ledger::Book<K>,
+    rounds: ledger::Book<C>,
 }
 
-impl<'a, O: Order, K: NamesOrder<O>> Model for Held<'a, O, K> {
-    ghost use Rattle.std.specs.Prelude.{◌≡◌, Some};
+impl<'a, O: Order, K: NamesOrder<O>, C: Ledger> Model for Held<'a, O, K, C> {
+    ghost use Rattle.std.specs.Prelude.{◌≡◌, ◌≤◌, Some};
     ghost use Rattle.std.specs.Coded.{codes};
     ghost use Rattle.uc_term.specs.Code.{tree_code};
     ghost use Rattle.boxcar.specs.Table.{shelves_coded};
@@ -50,7 +52,7 @@ impl<'a, O: Order, K: NamesOrder<O>> Model for Held<'a, O, K> {
 
     ghost view = { λ h. h.book };
 
-    ghost invariant = { λ h. (h.book.opening ≡ K.opening) × (Some h.book.order ≡ K.order) × (h.total.total ≡ commits_of h.book.state.history) × AreOfFirst K.parts h.book.state.history };
+    ghost invariant = { λ h. (h.book.opening ≡ K.opening) × (Some h.book.order ≡ K.order) × (h.total.total ≡ commits_of h.book.state.history) × AreOfFirst K.parts h.book.state.history × (h.rounds.total ≤ h.book.state.counted) };
 }
 
 /// A worker's pass with its part of the ledger.
@@ -97,7 +99,7 @@ impl<K: Naming> Hand<K> {
     }
 }
 
-impl<'a, O: Order, K: NamesOrder<O>> Held<'a, O, K> {
+impl<'a, O: Order, K: NamesOrder<O>, C: Ledger> Held<'a, O, K, C> {
     /// What comes next for a worker, as `Book::draw`.
     pub fn draw(&mut self, alloc: Global, hand: &mut Hand<K>) -> Result<Drawn, AllocError>
         ensures drawn { IfOk result (λ d. Draws (opening_of self.old.opening) hand.old.worker self.old.state (reply_of hand.old.worker d) self.new.state) }
@@ -132,7 +134,7 @@ impl<'a, O: Order, K: NamesOrder<O>> Held<'a, O, K> {
         ensures refused { IfErr result (λ e. (e.0 ≡ done) × IsRefused self.old.state hand.old.worker done e.1) }
         ensures err { OnErr result ((self.new ≡ self.old) × (hand.new ≡ hand.old)) }
     {
-        let Held { book, total } = self;
+        let Held { book, total, .. } = self;
         let Hand { pass, share } = hand;
         // They show that the pass's count is below its type's end.
         let _length = book.history().len();
@@ -208,29 +210,33 @@ impl<'a, O: Order, K: NamesOrder<O>> Held<'a, O, K> {
         ensures run { Run (O.meaning result.order) (opening_of result.opening) result.state.history result.state }
         ensures first { AreOfFirst K.parts result.state.history }
     {
-        let Held { book, total: _ } = self;
+        let Held { book, .. } = self;
         let _ = book.history();
         book
     }
 
-    /// The book under the name, and the hands of all its workers. For want of memory the book is dropped.
+    /// The book under the name, the count of the rounds, and the hands of all its workers. For want of memory the book is dropped.
     pub fn new(
         alloc: Global,
         blank: Blank,
+        rounds: Blank,
         mut book: Book<'a, O>,
         workers: u32,
-    ) -> Result<(Held<'a, O, K>, Vec<Hand<K>>), AllocError>
+    ) -> Result<(Held<'a, O, K, C>, Share<C>, Vec<Hand<K>>), AllocError>
         requires name { blank.name ≡ K.name }
         requires parts { blank.parts ≡ K.parts }
+        requires rounds { (rounds.name ≡ C.name) × (rounds.parts ≡ C.parts) }
         requires workers { (workers ≡ K.parts) × (workers ≤ 65) }
         requires opening { book.opening ≡ K.opening }
         requires order { Some book.order ≡ K.order }
         requires none { book.enrolled ≡ [] }
         requires history { commits_of book.state.history ≡ 0 }
         ensures held { IfOk result (λ r. r.0 ≡ record book.entry { enrolled = r.0.enrolled }) }
-        ensures all { IfOk result (λ r. vec_len r.1 ≡ K.parts) }
-        ensures each { IfOk result (λ r. (k : ℕ) (d : HandView) → k < vec_len r.1 → slice_index_or r.1.items k d ≡ record { worker = k; commits = 0 }) }
+        ensures made { IfOk result (λ r. (r.1.parts ≡ C.parts) × (r.1.amount ≡ 0)) }
+        ensures all { IfOk result (λ r. vec_len r.2 ≡ K.parts) }
+        ensures each { IfOk result (λ r. (k : ℕ) (d : HandView) → k < vec_len r.2 → slice_index_or r.2.items k d ≡ record { worker = k; commits = 0 }) }
     {
+        let (rounds, made) = rounds.open::<C>();
         let (total, mut rest) = blank.open::<K>();
         let mut hands = Vec::new(alloc);
         for worker in 0..workers {
@@ -241,7 +247,38 @@ impl<'a, O: Order, K: NamesOrder<O>> Held<'a, O, K> {
             };
             hands.push(hand)?;
         }
-        Ok((Held { book, total }, hands))
+        Ok((
+            Held {
+                book,
+                total,
+                rounds,
+            },
+            made,
+            hands,
+        ))
+    }
+
+    /// As many rounds as the count says were made, and at least as many units are counted. The count has the whole ledger.
+    pub fn has_made(&mut self, made: &mut Share<C>)
+        requires whole { made.old.parts ≡ C.parts }
+        ensures few { made.old.amount ≤ self.old.state.counted }
+        ensures held { self.new ≡ self.old }
+        ensures parts { made.new.parts ≡ made.old.parts }
+        ensures amount { made.new.amount ≡ made.old.amount }
+    {
+        self.rounds.audit(made);
+    }
+
+    /// One more round was made, where more units are counted than rounds.
+    pub fn makes_round(&mut self, made: &mut Share<C>)
+        requires whole { (made.old.parts ≡ C.parts) × (0 < made.old.parts) }
+        requires room { made.old.amount < self.old.state.counted }
+        ensures held { self.new ≡ self.old }
+        ensures parts { made.new.parts ≡ made.old.parts }
+        ensures amount { made.new.amount ≡ made.old.amount + 1 }
+    {
+        self.rounds.audit(made);
+        self.rounds.add(made, 1);
     }
 
     /// All hands together have the commits of the history.
@@ -274,6 +311,7 @@ impl<'a, O: Order, K: NamesOrder<O>> Held<'a, O, K> {
         ensures book { IsSameBook self.old self.new }
         ensures worker { hand.new.worker ≡ hand.old.worker }
         ensures commits { hand.new.commits + commits_of self.old.state.history ≡ hand.old.commits + commits_of self.new.state.history }
+        ensures counted { self.old.state.counted ≤ self.new.state.counted }
     {
         self.total.audit(&mut hand.share);
         let before = hand.pass.commits();
@@ -293,7 +331,7 @@ impl<'a, O: Order, K: NamesOrder<O>> Held<'a, O, K> {
     }
 }
 
-impl<'a, O: Order + Sync, K: NamesOrder<O>> Held<'a, O, K> {
+impl<'a, O: Order + Sync, K: NamesOrder<O>, C: Ledger> Held<'a, O, K, C> {
     /// Makes the final pass over the drained book, as `end_round` over the book.
     pub fn end_round<R: Threads + Wait + Sync>(
         &mut self,
@@ -311,13 +349,14 @@ impl<'a, O: Order + Sync, K: NamesOrder<O>> Held<'a, O, K> {
         ensures ends { IfOk result (λ verdict. EndsRound (O.meaning self.old.order) (opening_of self.old.opening) self.old.state verdict self.new.state) }
         ensures verdict { IfOk result (λ verdict. self.new.state.verdict ≡ verdict) }
         ensures out { self.new.state.out ≡ self.old.state.out }
+        ensures counted { IfOk result (λ verdict. verdict ≡ None → self.old.state.counted < self.new.state.counted) }
         ensures book { IsSameBook self.old self.new }
     {
         end_round(rt, alloc, &mut self.book, shelf, order, workers, passes)
     }
 }
 
-impl<'a, O: Order, K: NamesOrder<O>> Held<'a, O, K> {
+impl<'a, O: Order, K: NamesOrder<O>, C: Ledger> Held<'a, O, K, C> {
     /// What happened, in order. A run of the machine with this history leads to the book's state.
     pub fn history(&self) -> &[Event]
         ensures events { result.now ≡ self.now.state.history }

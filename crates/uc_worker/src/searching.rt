@@ -1,6 +1,6 @@
 //! The rounds of a search by several workers.
 
-ghost use Rattle.std.specs.Prelude.{◌≡◌, ◌≢◌, ◌<◌, ◌≤◌, [], Some, None, length, sum, sum_by, IfOk};
+ghost use Rattle.std.specs.Prelude.{◌≡◌, ◌≢◌, ◌+◌, ◌^◌, ◌<◌, ◌≤◌, [], Some, None, length, sum, sum_by, IfOk};
 ghost use Rattle.uc_book.specs.Openings.{opening_of};
 ghost use Rattle.uc_worker.specs.Commits.{commits_of, shares_of, AreOfFirst};
 ghost use Rattle.uc_worker.specs.Ends.{HasEnded};
@@ -12,7 +12,7 @@ use crate::naming::NamesOrder;
 use crate::working::work;
 use std::alloc::{AllocError, Global};
 use std::marker::Brand;
-use std::sync::ledger::Blank;
+use std::sync::ledger::{Blank, Ledger, Share};
 use std::sync::{Condvar, Mutex, Wait};
 use std::thread;
 use std::thread::Threads;
@@ -33,18 +33,19 @@ fn together<
     'a,
     O: Order + Sync,
     K: NamesOrder<O> + Send + Sync,
+    C: Ledger + Send + Sync,
     G: Gate + Sync,
     R: Threads + Wait + Sync,
 >(
     rt: &R,
     alloc: Global,
-    held: Held<'a, O, K>,
+    held: Held<'a, O, K, C>,
     hands: &mut [Hand<K>],
     shelf: &Shelf,
     problem: &Encoded,
     order: &O,
     gate: &G,
-) -> Held<'a, O, K>
+) -> Held<'a, O, K, C>
     requires problem { problem.now ≡ K.opening.problem }
     requires shelf { shelf.now ≡ K.opening.shelf }
     requires order { Some order.now ≡ K.order }
@@ -71,10 +72,10 @@ fn together<
 
 /// Worker 0 goes on with what waits, and makes the final pass, by the threads of so many workers, where the book is drained. None
 /// where no verdict stands then.
-fn end_work<'a, O: Order + Sync, K: NamesOrder<O>, R: Threads + Wait + Sync>(
+fn end_work<'a, O: Order + Sync, K: NamesOrder<O>, C: Ledger, R: Threads + Wait + Sync>(
     rt: &R,
     alloc: Global,
-    held: &mut Held<'a, O, K>,
+    held: &mut Held<'a, O, K, C>,
     hand: &mut Hand<K>,
     shelf: &Shelf,
     problem: &Encoded,
@@ -87,6 +88,7 @@ fn end_work<'a, O: Order + Sync, K: NamesOrder<O>, R: Threads + Wait + Sync>(
     requires none_out { held.old.state.out ≡ [] }
     ensures none_out { held.new.state.out ≡ [] }
     ensures verdict { IfOk result (λ verdict. held.new.state.verdict ≡ verdict) }
+    ensures counted { IfOk result (λ verdict. verdict ≡ None → held.old.state.counted < held.new.state.counted) }
 {
     match held.alone(rt, alloc, shelf, problem, order, hand) {
         Ended::Drained => {
@@ -98,61 +100,73 @@ fn end_work<'a, O: Order + Sync, K: NamesOrder<O>, R: Threads + Wait + Sync>(
 }
 
 /// One round: the workers of all hands but the first work at once, each task that is still out then waits again, and the first
-/// goes on alone. The others' threads make the final pass.
+/// goes on alone. The others' threads make the final pass. A round after which the search goes on is counted.
 fn round<
     'a,
     O: Order + Sync,
     K: NamesOrder<O> + Send + Sync,
+    C: Ledger + Send + Sync,
     G: Gate + Sync,
     R: Threads + Wait + Sync,
 >(
     rt: &R,
     alloc: Global,
-    held: Held<'a, O, K>,
+    held: Held<'a, O, K, C>,
     hands: &mut [Hand<K>],
     shelf: &Shelf,
     problem: &Encoded,
     order: &O,
     gate: &G,
-) -> (Held<'a, O, K>, Result<Option<Verdict>, AllocError>)
+    made: &mut Share<C>,
+) -> (Held<'a, O, K, C>, Result<Option<Verdict>, AllocError>)
     requires some { 0 < length hands.old }
+    requires whole { (made.old.parts ≡ C.parts) × (0 < made.old.parts) }
     requires problem { problem.now ≡ K.opening.problem }
     requires shelf { shelf.now ≡ K.opening.shelf }
     requires order { Some order.now ≡ K.order }
     ensures none_out { result.0.state.out ≡ [] }
     ensures verdict { IfOk result.1 (λ verdict. result.0.state.verdict ≡ verdict) }
     ensures hands { length hands.new ≡ length hands.old }
+    ensures made { (made.new.parts ≡ made.old.parts) × IfOk result.1 (λ verdict. verdict ≡ None → made.new.amount ≡ made.old.amount + 1) }
 {
     match hands.split_first_mut() {
         None => unreachable!(),
         Some((first, rest)) => {
             let mut held = together(rt, alloc, held, rest, shelf, problem, order, gate);
             held.recall();
+            held.has_made(made);
             let workers = rest.len().min(MOST_WORKERS) as u32;
             let verdict = end_work(rt, alloc, &mut held, first, shelf, problem, order, workers);
+            if let Ok(None) = verdict {
+                held.makes_round(made);
+            }
             (held, verdict)
         }
     }
 }
 
-/// Makes rounds until the book has a verdict. A run of the machine leads to it, no task is out, the verdict has its cause, and the
-/// hands' commits are those of its history. For want of memory the book is dropped.
+/// Makes rounds until the book has a verdict, and there are no more of them than units that the budget counts. A run of the machine
+/// leads to the verdict, no task is out, the verdict has its cause, and the hands' commits are those of its history. For want of memory
+/// the book is dropped.
 pub fn rounds<
     'a,
     O: Order + Sync,
     K: NamesOrder<O> + Send + Sync,
+    C: Ledger + Send + Sync,
     G: Gate + Sync,
     R: Threads + Wait + Sync,
 >(
     rt: &R,
     alloc: Global,
-    held: Held<'a, O, K>,
+    held: Held<'a, O, K, C>,
     hands: &mut [Hand<K>],
     shelf: &Shelf,
     problem: &Encoded,
     order: &O,
     gate: &G,
-) -> Result<Held<'a, O, K>, AllocError>
+    made: Share<C>,
+) -> Result<Held<'a, O, K, C>, AllocError>
+    requires made { (made.parts ≡ C.parts) × (made.amount ≡ 0) × (0 < made.parts) }
     requires all { length hands.old ≡ K.parts }
     requires some { 0 < length hands.old }
     requires problem { problem.now ≡ K.opening.problem }
@@ -165,8 +179,11 @@ pub fn rounds<
     ensures order { IfOk result (λ h. Some h.order ≡ K.order) }
 {
     let mut held = held;
-    for _ in rt.forever() {
-        let (next, answer) = round(rt, alloc, held, hands, shelf, problem, order, gate);
+    let mut made = made;
+    for number in 0..u64::MAX {
+        let (next, answer) = round(
+            rt, alloc, held, hands, shelf, problem, order, gate, &mut made,
+        );
         held = next;
         match answer {
             Ok(None) => {}
@@ -178,11 +195,20 @@ pub fn rounds<
             Err(e) => return Err(e),
         }
     }
+    held.has_made(&mut made);
+    has_few_units(held.book());
     unreachable!()
 }
 
+/// The units are counted by a number of 32 bits.
+fn has_few_units<O: Order>(book: &Book<O>)
+    ensures { book.now.state.counted < 2 ^ 32 }
+{
+    let _counted = book.counted();
+}
+
 /// A run leads to the book's state, and a verdict that stands there has its cause.
-fn has_ended<'a, O: Order, K: NamesOrder<O>>(held: &Held<'a, O, K>)
+fn has_ended<'a, O: Order, K: NamesOrder<O>, C: Ledger>(held: &Held<'a, O, K, C>)
     requires verdict { held.now.state.verdict ≢ None }
     requires none_out { held.now.state.out ≡ [] }
     ensures ended { HasEnded (O.meaning held.now.order) (opening_of held.now.opening) held.now.state }
@@ -198,12 +224,14 @@ fn search_as<
     'a,
     O: Order + Sync,
     K: NamesOrder<O> + Send + Sync,
+    C: Ledger + Send + Sync,
     G: Gate + Sync,
     R: Threads + Wait + Sync,
 >(
     rt: &R,
     alloc: Global,
     blank: Blank,
+    count: Blank,
     book: Book<'a, O>,
     workers: u32,
     shelf: &Shelf,
@@ -213,6 +241,7 @@ fn search_as<
 ) -> Result<(Book<'a, O>, Vec<u64>), AllocError>
     requires name { blank.name ≡ K.name }
     requires parts { blank.parts ≡ K.parts }
+    requires count { (count.name ≡ C.name) × (count.parts ≡ C.parts) × (0 < count.parts) }
     requires workers { (workers ≡ K.parts) × (0 < workers) × (workers ≤ 65) }
     requires opening { book.opening ≡ K.opening }
     requires named { Some book.order ≡ K.order }
@@ -227,7 +256,7 @@ fn search_as<
     ensures opening { IfOk result (λ r. r.0.opening ≡ K.opening) }
     ensures order { IfOk result (λ r. Some r.0.order ≡ K.order) }
 {
-    let (held, mut hands) = Held::<O, K>::new(alloc, blank, book, workers)?;
+    let (held, made, mut hands) = Held::<O, K, C>::new(alloc, blank, count, book, workers)?;
     let held = rounds(
         rt,
         alloc,
@@ -237,6 +266,7 @@ fn search_as<
         problem,
         order,
         gate,
+        made,
     )?;
     let shares = shares(alloc, held.history(), workers)?;
     Ok((held.into_book(), shares))
@@ -266,10 +296,11 @@ pub(crate) fn search_together<'a, O: Order + Sync, G: Gate + Sync, R: Threads + 
 {
     let book = Book::start(alloc, problem, order, shelf, budget, limit)?;
     let hands = hands_for(workers);
-    search_as::<O, Brand, G, R>(
+    search_as::<O, Brand, Brand, G, R>(
         rt,
         alloc,
         Blank::new(hands as u64),
+        Blank::new(1),
         book,
         hands,
         shelf,

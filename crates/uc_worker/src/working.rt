@@ -8,6 +8,7 @@ ghost use Rattle.uc_worker.specs.Works.{EndsWork};
 use crate::held::{Hand, Held};
 use crate::naming::NamesOrder;
 use std::alloc::{AllocError, Global};
+use std::sync::ledger::Ledger;
 use std::sync::{Condvar, Mutex, Wait};
 use uc_book::{CommitFault, Drawn, Task};
 use uc_edge::Gate;
@@ -19,10 +20,10 @@ use uc_shelf::Shelf;
 /// Draws task after task under the lock, computes each with no lock and commits its result under the lock. Where a task is out
 /// and none may be drawn, it waits. It ends where a draw is answered so, or for want of memory, in which case its task waits again
 /// and it wakes the others.
-pub fn work<'a, O: Order, K: NamesOrder<O>, G: Gate, R: Wait>(
+pub fn work<'a, O: Order, K: NamesOrder<O>, C: Ledger, G: Gate, R: Wait>(
     rt: &R,
     alloc: Global,
-    held: &Mutex<Held<'a, O, K>>,
+    held: &Mutex<Held<'a, O, K, C>>,
     ready: &Condvar,
     shelf: &Shelf,
     problem: &Encoded,
@@ -73,10 +74,10 @@ pub fn work<'a, O: Order, K: NamesOrder<O>, G: Gate, R: Wait>(
 }
 
 /// Computes a task with no lock, and commits its result under the lock. Where the task is no longer out, the result is dropped.
-fn finish<'a, O: Order, K: NamesOrder<O>, R: Wait>(
+fn finish<'a, O: Order, K: NamesOrder<O>, C: Ledger, R: Wait>(
     rt: &R,
     alloc: Global,
-    held: &Mutex<Held<'a, O, K>>,
+    held: &Mutex<Held<'a, O, K, C>>,
     shelf: &Shelf,
     problem: &Encoded,
     order: &O,

@@ -1,7 +1,6 @@
-use Rattle.std.proofs.Common.{◌≡◌, sym, ap, ◌∙◌, subst, arith}
+use Rattle.std.proofs.Common.{◌≡◌, arith}
 use Rattle.std.proofs.lemmas.Bool.Decides.{nat_tests}
-use Rattle.uc_book.specs.Openings.{BookView, opening_of}
-use Rattle.uc_worker.specs.Ends.{IsSearchedBy}
+use Rattle.uc_book.specs.Openings.{opening_of}
 use Rattle.uc_worker.proofs.OneWorker.{by_many}
 use Rattle.uc_worker.proofs.searched.search.Goals as goal
 

@@ -1,5 +1,4 @@
 use Rattle.std.proofs.Common.{sym, ap, ◌∙◌, [], ◌∷◌}
-use Rattle.uc_machine.specs.State.{State}
 use Rattle.uc_book.specs.Openings.{BookView, opening_of}
 use Rattle.uc_worker.proofs.OneWorker.{by_worker, one_share}
 use Rattle.uc_worker.proofs.Starting.{starts_none_out}

@@ -5,7 +5,7 @@ use Rattle.uc_book.specs.Answers.{reply_of}
 use Rattle.uc_worker.specs.Hands.{HandView}
 use Rattle.uc_worker.specs.Works.{WasAnswered}
 use Rattle.uc_worker.proofs.Totals.{commits_same, first_same}
-use Rattle.uc_worker.proofs.Kept.{drawn_commits}
+use Rattle.uc_worker.proofs.Kept.{drawn_commits, draw_keeps_units, units_stay}
 use Rattle.uc_worker.proofs.Answered.{answered}
 use Rattle.uc_worker.proofs.held.Held.draw.Goals as goal
 
@@ -26,4 +26,5 @@ invariant_of-self g c =
       ap Some c.draw.ensures.book.order ∙ c.self.invariant.1,
       c.self.invariant.2 ∙ sym (commits_same n.state.history b.state.history e),
       first_same g.K.Ledger.parts b.state.history n.state.history e c.self.invariant.3,
+      units_stay c.self.inside.rounds.total b.state n.state c.self.invariant.4 (draw_keeps_units (opening_of b.opening) c.hand.inside.pass.worker b n c.draw.result c.draw.ensures.drawn c.draw.ensures.err),
     )

@@ -35,4 +35,5 @@ invariant_of-result g c =
       ap (λ (v : BookView _). Some v.order) same ∙ c.requires.order,
       c.open-total.ensures.total ∙ sym none,
       none_of_any g.K.Ledger.parts b.state.history none,
+      (let no_round = c.open-rounds.ensures.total in omega arith),
     )

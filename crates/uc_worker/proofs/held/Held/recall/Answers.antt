@@ -1,8 +1,9 @@
-use Rattle.std.proofs.Common.{◌≡◌, ℕ, Some, sym, ap, ◌∙◌}
+use Rattle.std.proofs.Common.{◌≡◌, ℕ, Some, sym, ap, ◌∙◌, arith}
 use Rattle.uc_machine.specs.State.{State}
 use Rattle.uc_machine.specs.Events.{commits_by}
 use Rattle.uc_worker.proofs.Totals.{commits_same, first_same}
 use Rattle.uc_worker.proofs.Others.{recall_commits}
+use Rattle.uc_worker.proofs.Kept.{recall_keeps_units, units_stay}
 use Rattle.uc_worker.proofs.held.Held.recall.Goals as goal
 
 pub invariant_of-self : goal.invariant_of-self
@@ -14,4 +15,5 @@ invariant_of-self g c =
       ap Some c.recall.ensures.book.order ∙ c.self.invariant.1,
       c.self.invariant.2 ∙ sym (commits_same n.state.history b.state.history e),
       first_same g.K.Ledger.parts b.state.history n.state.history e c.self.invariant.3,
+      units_stay c.self.inside.rounds.total b.state n.state c.self.invariant.4 (let f : n.state.counted ≡ b.state.counted = ap (λ (s : State). s.counted) c.recall.ensures.state ∙ recall_keeps_units b.state in omega arith),
     )

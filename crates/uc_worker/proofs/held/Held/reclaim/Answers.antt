@@ -1,6 +1,6 @@
 use Rattle.std.proofs.Common.{Some, sym, ap, ◌∙◌}
 use Rattle.uc_worker.proofs.Totals.{commits_same, first_same}
-use Rattle.uc_worker.proofs.Kept.{reclaimed_commits}
+use Rattle.uc_worker.proofs.Kept.{reclaimed_commits, reclaim_keeps_units, units_stay}
 use Rattle.uc_worker.proofs.held.Held.reclaim.Goals as goal
 
 pub invariant_of-self : goal.invariant_of-self
@@ -12,4 +12,5 @@ invariant_of-self g c =
       ap Some c.reclaim.ensures.book.order ∙ c.self.invariant.1,
       c.self.invariant.2 ∙ sym (commits_same n.state.history b.state.history e),
       first_same g.K.Ledger.parts b.state.history n.state.history e c.self.invariant.3,
+      units_stay c.self.inside.rounds.total b.state n.state c.self.invariant.4 (reclaim_keeps_units c.hand.inside.pass.worker c.args.ticket b n c.reclaim.result c.reclaim.ensures.reclaimed c.reclaim.ensures.err),
     )

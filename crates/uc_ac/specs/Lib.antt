@@ -1,0 +1,9 @@
+pub mod Reordered
+pub mod AcEqual
+pub mod AcLaw
+pub mod AcFacts
+pub mod SortedForm
+pub mod Joining
+pub mod NodeOrder
+pub mod Writing
+pub mod Found
