@@ -23,3 +23,6 @@ returns-in-Refused-clause-answers g c = refused_answers (IsAskedCertificate c.ar
 
 pub returns-in-Passed-clause-answers : goal.returns-in-Passed-clause-answers
 returns-in-Passed-clause-answers g c = asked_answers c.args.command.now.steps c.args.words.now _ _ _ c.args.file.now c.args.symbols.now c.args.problem.now c.test_certificate.new.symbols c.in-Passed.certificate c.asked_answer.result (rw c.in-Passed.is at c.in_ok-answer.ensures.tested) c.asked_answer.ensures
+
+pub returns-in-Passed-clause-faulted : goal.returns-in-Passed-clause-faulted
+returns-in-Passed-clause-faulted g c = none_failed (g.L.Library.faults c.args.library.now) (g.L.Library.faults c.test_certificate.new.library) (g.L.Library.failed_at c.args.library.now) (g.L.Library.failed_at c.test_certificate.new.library) [] c.asked_answer.result (rw c.in-Passed.is at c.in_ok-answer.ensures.faulted)
