@@ -8,14 +8,15 @@ mod order;
 mod pairs;
 
 use order::default_order;
-use pairs::{Pair, first_pairs, sorting_facts};
-use std::alloc::{AllocError, Global};
+use pairs::{IN_ORDER, arrangement, sorting_facts, spelled};
+use std::alloc::Global;
 use std::rt::Env;
 use std::{env, io};
 use uc_fact::{Equation, Joinable};
 use uc_ground::ground_join;
 use uc_order::Order;
 use uc_rewrite::Scan;
+use uc_term::{Term, TermFault};
 
 // The number that the word says, 0 where it says none.
 fn number(rt: &(impl Env + AllocGlobal)) -> io::Result<u64> {
@@ -26,32 +27,44 @@ fn number(rt: &(impl Env + AllocGlobal)) -> io::Result<u64> {
     }
 }
 
-// How many of the pairs are joined.
+// Whether the variables in order and their arrangement with this number are joined.
+fn is_joined<O: Order>(
+    alloc: Global,
+    order: &O,
+    facts: &Scan,
+    left: &Term,
+    number: u64,
+) -> Result<bool, TermFault> {
+    let right = spelled(alloc, &arrangement(number as usize))?;
+    let answer = ground_join(alloc, left, &right, facts, order)?;
+    Ok(matches!(answer, Joinable::Joined(_)))
+}
+
+// How many of the first pairs are joined.
 fn count_joined<O: Order>(
     alloc: Global,
     order: &O,
     facts: &[Equation],
-    pairs: &[Pair],
-) -> Result<u64, AllocError> {
+    number: u64,
+) -> Result<u64, TermFault> {
     if facts.len() > 9 {
         return Ok(0);
     }
+    let left = spelled(alloc, IN_ORDER)?;
     let scan = Scan::new(facts);
     let mut count: u64 = 0;
-    for pair in pairs {
-        if let Joinable::Joined(_) = ground_join(alloc, &pair.left, &pair.right, &scan, order)? {
+    for place in 0..number {
+        if is_joined(alloc, order, &scan, &left, place)? {
             count = count.saturating_add(1);
         }
     }
     Ok(count)
 }
 
-// How many of the first pairs are joined.
 fn work(alloc: Global, number: u64) -> Option<u64> {
     let order = default_order(alloc)?;
     let facts = sorting_facts(alloc).ok()?;
-    let pairs = first_pairs(alloc, number).ok()?;
-    count_joined(alloc, &order, &facts, &pairs).ok()
+    count_joined(alloc, &order, &facts, number).ok()
 }
 
 fn main(rt: HostRuntime) -> io::Result<()> {

@@ -12,7 +12,7 @@ use uc_term::{Sym, Symbols};
 /// The binary symbol.
 pub const F: Sym = Sym(1);
 
-const PRECEDENCE: [Sym; 2] = [Sym(0), F];
+const PRECEDENCE: &[Sym] = &[Sym(0), F];
 
 // Their names, in the order of their numbers, with the numbers of their arguments.
 const NAMES: &[(&[u8], u32)] = &[(b"a", 0), (b"f", 2)];
@@ -53,9 +53,8 @@ fn symbols(alloc: Global) -> Result<Symbols, AllocError> {
 /// The order, if there is memory.
 pub fn default_order(alloc: Global) -> Option<Kbo> {
     let symbols = symbols(alloc).ok()?;
-    let signature = PRECEDENCE;
-    if !are_known(&symbols, &signature) || !has_constant(&symbols, &signature) {
+    if !are_known(&symbols, PRECEDENCE) || !has_constant(&symbols, PRECEDENCE) {
         return None;
     }
-    Kbo::new(alloc, &signature, &symbols, 1, &[1, 1], &signature).ok()
+    Kbo::new(alloc, PRECEDENCE, &symbols, 1, &[1, 1], PRECEDENCE).ok()
 }

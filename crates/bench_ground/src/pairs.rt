@@ -1,89 +1,70 @@
-//! Pairs of terms with the same five variables, and facts that sort them.
+//! Pairs of terms with the same five variables, and facts that sort them, in postfix order.
 
 use crate::order::F;
-use std::alloc::{AllocError, Global};
+use std::alloc::Global;
 use uc_fact::Equation;
 use uc_term::{Term, TermFault};
 
-#[derive(Drop)]
-pub struct Pair {
-    pub left: Term,
-    pub right: Term,
+// The symbol over the last two terms of the list takes their place.
+fn apply(alloc: Global, terms: &mut Vec<Term>) -> Result<(), TermFault> {
+    let before = terms.len().saturating_sub(2);
+    let term = Term::app(alloc, F, &terms[before..])?;
+    terms.truncate(before);
+    terms.push(term)?;
+    Ok(())
 }
 
-const VARIABLES: [u32; 5] = [0, 1, 2, 3, 4];
-
-// The variables in brackets to the left.
-fn to_the_left(alloc: Global, vars: &[u32]) -> Result<Term, TermFault> {
-    let mut term = Term::var(alloc, 0)?;
-    for (place, x) in vars.iter().enumerate() {
-        let next = Term::var(alloc, *x)?;
-        term = if place == 0 {
-            next
-        } else {
-            Term::app(alloc, F, &[term, next])?
-        };
+// A capital letter's variable comes behind the others; any other letter is the symbol.
+fn read(alloc: Global, letter: u8, terms: &mut Vec<Term>) -> Result<(), TermFault> {
+    if letter < b'A' || b'Z' < letter {
+        return apply(alloc, terms);
     }
-    Ok(term)
+    terms.push(Term::var(alloc, (letter - b'A') as u32)?)?;
+    Ok(())
 }
 
-// The variables, from the last to the first, in brackets to the right.
-fn to_the_right(alloc: Global, vars: &[u32]) -> Result<Term, TermFault> {
-    let mut term = Term::var(alloc, 0)?;
-    for (place, x) in vars.iter().enumerate() {
-        let next = Term::var(alloc, *x)?;
-        term = if place == 0 {
-            next
-        } else {
-            Term::app(alloc, F, &[next, term])?
-        };
+fn last(alloc: Global, mut terms: Vec<Term>) -> Result<Term, TermFault> {
+    match terms.pop() {
+        Some(term) => Ok(term),
+        None => Ok(Term::var(alloc, 0)?),
     }
-    Ok(term)
 }
 
-// The arrangement of the variables with this number.
-fn arrangement(alloc: Global, number: usize) -> Result<Vec<u32>, AllocError> {
-    let mut rest = Vec::from_slice(alloc, &VARIABLES)?;
-    let mut list = Vec::new(alloc);
+/// The term that the letters spell.
+pub fn spelled(alloc: Global, letters: &[u8]) -> Result<Term, TermFault> {
+    let mut terms = Vec::new(alloc);
+    for letter in letters {
+        read(alloc, *letter, &mut terms)?;
+    }
+    last(alloc, terms)
+}
+
+/// The variables in order, in brackets to the left.
+pub const IN_ORDER: &[u8] = b"ABfCfDfEf";
+
+/// The arrangement of the variables with this number, in brackets to the right.
+pub fn arrangement(number: usize) -> [u8; 9] {
+    let mut letters = *b"ABCDEffff";
     let mut code = number;
-    for _ in 0..VARIABLES.len() {
-        let left = rest.len();
-        if left == 0 {
-            return Ok(list);
-        }
-        list.push(rest.remove(code % left))?;
+    for k in 0..5 {
+        let left = 5 - k;
+        letters[code % left..left].rotate_left(1);
         code /= left;
     }
-    Ok(list)
+    letters
 }
 
-/// So many pairs: the variables in order against their arrangements, one after another.
-pub fn first_pairs(alloc: Global, number: u64) -> Result<Vec<Pair>, TermFault> {
-    let mut pairs = Vec::new(alloc);
-    for place in 0..number {
-        let list = arrangement(alloc, place as usize)?;
-        pairs.push(Pair {
-            left: to_the_left(alloc, &VARIABLES)?,
-            right: to_the_right(alloc, &list)?,
-        })?;
-    }
-    Ok(pairs)
-}
+// The sides: `f(X,Y) = f(Y,X)`, `f(f(X,Y),Z) = f(X,f(Y,Z))` and `f(X,f(Y,Z)) = f(Y,f(X,Z))`.
+const FACTS: &[(&[u8], &[u8])] = &[(b"ABf", b"BAf"), (b"ABfCf", b"ABCff"), (b"ABCff", b"BACff")];
 
-/// `f(X,Y) = f(Y,X)`, `f(f(X,Y),Z) = f(X,f(Y,Z))` and `f(X,f(Y,Z)) = f(Y,f(X,Z))`.
+/// The facts of an associative and commutative symbol, with the one that sorts what stands in brackets to the right.
 pub fn sorting_facts(alloc: Global) -> Result<Vec<Equation>, TermFault> {
     let mut facts = Vec::new(alloc);
-    facts.push(Equation {
-        left: to_the_left(alloc, &[0, 1])?,
-        right: to_the_left(alloc, &[1, 0])?,
-    })?;
-    facts.push(Equation {
-        left: to_the_left(alloc, &[0, 1, 2])?,
-        right: to_the_right(alloc, &[2, 1, 0])?,
-    })?;
-    facts.push(Equation {
-        left: to_the_right(alloc, &[2, 1, 0])?,
-        right: to_the_right(alloc, &[2, 0, 1])?,
-    })?;
+    for (left, right) in FACTS {
+        facts.push(Equation {
+            left: spelled(alloc, left)?,
+            right: spelled(alloc, right)?,
+        })?;
+    }
     Ok(facts)
 }
