@@ -1,12 +1,11 @@
 -- From what the calls beneath `decide` by a certificate promise to its answers.
-use Rattle.std.proofs.Common.{ℕ, ◌≡◌, List, [], Option, Result, Ok, Err, sym, subst}
+use Rattle.std.proofs.Common.{ℕ, ◌≡◌, List, Option, Result, Ok, Err, sym, subst}
 use Rattle.std.specs.Result.{IfOk}
 use Rattle.std.specs.declared.alloc.AllocError.{AllocError}
 use Rattle.uc_term.specs.declared.equation.Equation.{Equation}
 use Rattle.uc_term.specs.Tree.{Tree}
 use Rattle.uc_term.specs.Table.{Table, Grows, Has}
 use Rattle.uc_edge.specs.Files.{Files}
-use Rattle.uc_clause.proofs.Tables.{grows_twice}
 use Rattle.uc_problem.specs.declared.problem.Problem.{Problem}
 use Rattle.uc_problem.specs.Holds.{Agrees}
 use Rattle.uc_problem.proofs.Growth.{agrees_later}

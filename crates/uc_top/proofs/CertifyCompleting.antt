@@ -29,7 +29,7 @@ use Rattle.uc_top.specs.CertificateTested.{IsRefusal, fails_so, PassesTests}
 use Rattle.uc_top.specs.CertifyAnswers.{IsCertifiedAnswer, tells_outcome}
 use Rattle.uc_top.specs.Loaded.{IsLoaded}
 use Rattle.uc_top.specs.Answers.{CertifyAnswers, fetch_fails, is_refused, is_loaded, Answers}
-use Rattle.uc_top.specs.Runs.{MayAnswer, is_answer, wants_memory, IsRun, EndsWith, tells_want}
+use Rattle.uc_top.specs.Runs.{MayAnswer, is_answer, wants_memory, IsRun, tells_want}
 use Rattle.uc_top.specs.CertifyRuns.{HasCertificate, KeepsCertifyWord, CertifiedEnds, CompletesCertify}
 use Rattle.uc_top.proofs.Positionals.{first_name, second_name}
 use Rattle.uc_top.proofs.ByVerb.{of_verb}

@@ -1,5 +1,5 @@
 -- Questions over a problem's own symbols, and what the replies to them say of the problem's own axioms.
-use Rattle.std.proofs.Common.{◌≡◌, ◌↔◌, ℕ, List, [], ◌∷◌, refl}
+use Rattle.std.proofs.Common.{◌↔◌, ℕ, List, [], ◌∷◌, refl}
 use Rattle.uc_term.specs.declared.equation.Equation.{Equation}
 use Rattle.uc_term.specs.Tree.{Tree}
 use Rattle.uc_term.specs.Table.{Table}

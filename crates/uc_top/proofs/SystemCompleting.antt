@@ -28,7 +28,6 @@ use Rattle.uc_answer.proofs.OneCertifiedLine.{certified_line_once}
 use Rattle.uc_answer.proofs.OneQuestion.{questions_once, questions_or_fault, first_fault_once}
 use Rattle.uc_top.specs.CertificateAnswers.{CertificateAnswers}
 use Rattle.uc_top.specs.SystemAnswers.{IsAskedCertificate, fails_test, asks_no_question, has_replies}
-use Rattle.uc_top.specs.Loaded.{IsLoaded}
 use Rattle.uc_top.specs.Answers.{SystemAnswers, Answers}
 use Rattle.uc_top.specs.Runs.{MayAnswer, is_answer, wants_memory, IsRun, EndsWith, tells_want}
 use Rattle.uc_top.specs.SystemRuns.{AskedEnds, tells_replies, asks_in_want, AskedCertificateEnds, CompletesSystem}

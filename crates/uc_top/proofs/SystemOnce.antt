@@ -1,14 +1,13 @@
 -- What `decide` answers by a certificate is one answer.
 use Rattle.std.proofs.Common.{ℕ, ◌≡◌, List, refl, ap, ap₂, subst}
 use Rattle.uc_term.specs.Tree.{Tree}
-use Rattle.uc_term.specs.Table.{Table, Grows, IsDistinct}
+use Rattle.uc_term.specs.Table.{Table, IsDistinct}
 use Rattle.uc_term.specs.Gathering.{HasAll}
 use Rattle.uc_problem.specs.declared.problem.Problem.{Problem}
 use Rattle.uc_problem.specs.Holds.{Agrees}
 use Rattle.uc_problem.proofs.FreshMarks.{signature_has}
 use Rattle.uc_problem.proofs.Growth.{agrees_later}
 use Rattle.uc_fact.specs.Live.{numbered}
-use Rattle.uc_decide.specs.declared.reply.Reply.{Reply}
 use Rattle.uc_ordering.specs.Meaning.{meaning_of}
 use Rattle.uc_certificate.specs.declared.certificate.Certificate.{Certificate}
 use Rattle.uc_certify.specs.declared.certified.Certified.{Certified}

@@ -3,7 +3,6 @@ use Rattle.std.proofs.Common.{ℕ, ◌≡◌, List, ◌∷◌, Option, Some, ref
 use Rattle.uc_term.specs.Tree.{Tree}
 use Rattle.uc_term.specs.Table.{Table}
 use Rattle.uc_edge.specs.Files.{Files}
-use Rattle.uc_edge.specs.Faults.{Rose}
 use Rattle.uc_order.specs.declared.spec.OrderSpec.{OrderSpec}
 use Rattle.uc_fact.specs.Live.{Live}
 use Rattle.uc_machine.specs.declared.event.Verdict.{Verdict}

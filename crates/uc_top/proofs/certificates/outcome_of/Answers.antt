@@ -1,8 +1,7 @@
 use Rattle.std.proofs.Common.{sym, subst}
 use Rattle.std.specs.Result.{IfOk}
 use Rattle.uc_order.specs.Laws.{Meaning}
-use Rattle.uc_ordering.specs.Chosen.{chosen_meaning, meaning_is}
-use Rattle.uc_ordering.specs.Meaning.{meaning_of}
+use Rattle.uc_ordering.specs.Chosen.{meaning_is}
 use Rattle.uc_system.specs.Reading.{precedence_of}
 use Rattle.uc_certificate.specs.Arities.{JoinsKeepArities}
 use Rattle.uc_certify.specs.Certifying.{AreSameSymbols, IsCertified}

@@ -1,1 +1,0 @@
-use Rattle.uc_top.proofs.certificates.tested_as.Goals as goal

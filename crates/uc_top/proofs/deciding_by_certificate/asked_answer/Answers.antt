@@ -1,10 +1,7 @@
-use Rattle.std.proofs.Common.{List, sym, subst}
-use Rattle.uc_term.specs.declared.equation.Equation.{Equation}
+use Rattle.std.proofs.Common.{sym, subst}
 use Rattle.uc_term.specs.Table.{Table}
-use Rattle.uc_decide.specs.Deciding.{Decides}
 use Rattle.uc_system.specs.Reading.{IsSystem}
 use Rattle.uc_ordering.specs.Meaning.{meaning_of}
-use Rattle.uc_answer.specs.RightReplies.{AreGroundQuestions}
 use Rattle.uc_problem.proofs.FreshMarks.{signature_has}
 use Rattle.uc_top.proofs.AskedAnswers.{ground_asked, misread_asked, replied_asked}
 use Rattle.uc_top.proofs.deciding_by_certificate.asked_answer.Goals as goal
