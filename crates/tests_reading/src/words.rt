@@ -73,6 +73,28 @@ prove|--certificate=1|r5.p
 prove|--certificate|r5.p|--certificate
 prove|--certificates|r5.p
 decide|--certificate|r5.p|a = b
+decide|--system|r8.p|a = b|--system
+decide|--system=|r8.p|a = b
+decide|--system||r8.p|a = b
+decide|--system|-|r8.p|a = b
+decide|--system|--|r8.p|a = b
+decide|--system|r8.c|r8.p
+decide|--system|r8.c|--system|r8.c|r8.p|a = b
+decide|--systems|r8.c|r8.p|a = b
+decide|--system|r8.c|--order|lpo|r8.p|a = b
+decide|--order=kbo|--system=r8.c|r8.p|a = b
+decide|--system|r8.c|r8.p|a = b|--precedence|f
+decide|--weights|f=1|--system|r8.c|r8.p|a = b
+decide|--system|r8.c|--w0|1|r8.p|a = b
+decide|--budget=100000|--system|r8.c|r8.p|a = b
+decide|--system|r8.c|r8.p|a = b|--pairs=1000000
+decide|--system|r8.c|--limit|1|r8.p|a = b
+decide|--system|r8.c|--workers|65|r8.p|a = b
+decide|--system|r8.c|--steps|10000001|r8.p|a = b
+prove|--system|r8.c|r8.p
+rewrite|--system|r8.c|r8.p|f(a)
+certify|--system|r8.c|r8.p|r8.c
+gen|--system|r8.c|5|1
 check|--certificate|r5.p|r5.s
 certify|r8.p
 certify|r8.p|r8.c|r8.c
@@ -89,6 +111,9 @@ prove|--budget|10000000|--pairs|8000000|r5.p => Prove 10000000 8000000 1 100000 
 prove|--pairs=1|--workers=1|r5.p => Prove 100000 1 1 100000 4096 4 1 false false false;r5.p
 decide|--steps=10000000|--w0=1000000|r5.p|a = b => Decide 100000 1000000 1 10000000 4096 4 1000000 false false false;r5.p;a = b
 decide|--steps=0|r5.p|a = b|b = a => Decide 100000 1000000 1 0 4096 4 1 false false false;r5.p;a = b;b = a
+decide|--system|r8.c|r8.p|a = b => Decide 100000 1000000 1 100000 4096 4 1 false false false;r8.p;a = b@r8.c
+decide|r8.p|a = b|--workers|8|--system=-x=y|--steps|0|b = a|--root|lib => Decide 100000 1000000 8 0 4096 4 1 false false false;r8.p;a = b;b = a:lib@-x=y
+decide|--|--system|r8.c => Decide 100000 1000000 1 100000 4096 4 1 false false false;--system;r8.c
 rewrite|--limit=10000000|r5.p|f(a) => Rewrite 100000 1000000 1 100000 10000000 4 1 false false false;r5.p;f(a)
 rewrite|--limit=0|r5.p|f(a) => Rewrite 100000 1000000 1 100000 0 4 1 false false false;r5.p;f(a)
 gen|1|0 => Gen 100000 1000000 1 100000 4096 4 1 false false false;1;0
@@ -140,11 +165,11 @@ fn put_weights(
     Ok(())
 }
 
-fn put_root(out: &mut Text, root: &Option<Text>) -> Result<(), AllocError> {
-    match root {
-        Some(root) => {
-            out.extend(b":")?;
-            out.extend(root.as_bytes())
+fn put_name(out: &mut Text, mark: &[u8], name: &Option<Text>) -> Result<(), AllocError> {
+    match name {
+        Some(name) => {
+            out.extend(mark)?;
+            out.extend(name.as_bytes())
         }
         None => Ok(()),
     }
@@ -170,7 +195,8 @@ fn told(alloc: Global, command: &Command) -> Result<Text, AllocError> {
     )?;
     let mut out = Text::from_bytes(alloc, numbers.as_bytes())?;
     put_texts(&mut out, b";", &command.positionals)?;
-    put_root(&mut out, &command.root)?;
+    put_name(&mut out, b":", &command.root)?;
+    put_name(&mut out, b"@", &command.system)?;
     put_texts(&mut out, b"<", &order.precedence)?;
     put_weights(alloc, &mut out, &order.weights)?;
     Ok(out)

@@ -1,5 +1,5 @@
 -- Of the ground terms over a problem's own symbols the encoded axioms make those equal that the problem's own do.
-use Rattle.std.proofs.Common.{◌≡◌, ◌↔◌, ℕ, zero, suc, List, [], ◌∷◌, ◌++◌, Option, Some, None, Ok, refl, sym, ap, ◌∙◌, subst}
+use Rattle.std.proofs.Common.{◌≡◌, ◌↔◌, ℕ, List, [], ◌∷◌, ◌++◌, Option, Some, None, Ok, refl, sym, ap, ◌∙◌, subst}
 use Rattle.uc_term.specs.declared.node.Sym.{Sym}
 use Rattle.uc_term.specs.declared.fresh.Fresh.{Fresh}
 use Rattle.uc_term.specs.Tree.{Tree, var, app, Trees, none, more}
@@ -17,18 +17,14 @@ use Rattle.uc_problem.specs.Holds.{Agrees}
 use Rattle.uc_problem.specs.Marks.{Marks, AreMarks}
 use Rattle.uc_problem.specs.Encodes.{Encodes, encoding_of}
 use Rattle.uc_problem.proofs.EncodedOnce.{adds_nothing}
-use Rattle.uc_problem.proofs.FreshMarks.{plain, In as IsAt}
+use Rattle.uc_problem.proofs.FreshMarks.{plain}
+use Rattle.uc_certify.proofs.Foreign.{at_place}
 use Rattle.uc_ordering.specs.Fits.{Fits}
 use Rattle.uc_ordering.specs.Meaning.{meaning_of}
 use Rattle.uc_answer.specs.Promises.{IsOwnGround}
 use Rattle.uc_answer.proofs.SpecSymbols.{symbol_known}
 
 -- MEMBERS
-
-at_place : {f : Sym} (fs : List Sym) → In fs f → IsAt f fs
-at_place [] i = elim i [ ]
-at_place (f ∷ fs) in_front = (zero, refl)
-at_place (f ∷ fs) (in_rest i) = let p = at_place fs i in (suc p.0, p.1)
 
 in_left : {f : Sym} {fs : List Sym} (gs : List Sym) → In fs f → In (fs ++ gs) f
 in_left gs in_front = in_front

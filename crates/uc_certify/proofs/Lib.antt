@@ -29,3 +29,5 @@ pub mod FilledOrders
 pub mod PrintablePaths
 pub mod SuchJoins
 pub mod PrintableJoins
+pub mod Foreign
+pub mod OwnLeast

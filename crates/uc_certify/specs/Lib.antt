@@ -9,3 +9,4 @@ pub mod Knowing
 pub mod Replacing
 pub mod Testing
 pub mod Naming
+pub mod Extending

@@ -1,10 +1,10 @@
 //! Laws over the definitions, each the contract of a function that does nothing.
 
-ghost use Rattle.std.specs.Prelude.{◌≡◌, List};
+ghost use Rattle.std.specs.Prelude.{◌≡◌, List, Ok};
 ghost use Rattle.std.specs.List.{AllByRecursion};
 ghost use Rattle.uc_term.specs.declared.equation.Equation.{Equation};
 ghost use Rattle.uc_clause.specs.declared.clause.Sourced.{Sourced};
-ghost use Rattle.uc_order.specs.Laws.{HasSym};
+ghost use Rattle.uc_order.specs.Laws.{HasSym, IsGroundOf};
 ghost use Rattle.uc_fact.specs.declared.fact.System.{System};
 ghost use Rattle.uc_fact.specs.Ground.{AreOfSignature, IsJoinable};
 ghost use Rattle.uc_fact.specs.Live.{equations_of};
@@ -12,7 +12,13 @@ ghost use Rattle.uc_shelf.specs.Entries.{live};
 ghost use Rattle.uc_machine.specs.declared.task.Outcome.TheVariants.{Convergent};
 ghost use Rattle.uc_machine.specs.State.{State};
 ghost use Rattle.uc_machine.specs.Finals.{IsFinal};
+ghost use Rattle.uc_check.specs.Clauses.{axioms_of};
+ghost use Rattle.uc_decide.specs.declared.reply.Reply.{Reply};
+ghost use Rattle.uc_decide.specs.NormalForms.{HasNormalForm};
 ghost use Rattle.uc_decide.specs.Deciding.{Decides};
+ghost use Rattle.uc_decide.specs.Asking.{IsRight};
+ghost use Rattle.uc_problem.specs.declared.problem.Problem.{Problem};
+ghost use Rattle.uc_problem.specs.Encodes.{Encodes};
 ghost use Rattle.uc_problem.specs.declared.problem.Encoded.{Encoded};
 ghost use Rattle.uc_system.specs.Reading.{precedence_of};
 ghost use Rattle.uc_term.specs.Tree.{Tree};
@@ -31,6 +37,7 @@ ghost use Rattle.uc_certify.specs.Expecting.{AreExpected};
 ghost use Rattle.uc_certify.specs.Certifying.{AreSameSymbols, IsCertified};
 ghost use Rattle.uc_certify.specs.Making.{AllAreFoundJoined, AreAllMade};
 ghost use Rattle.uc_certify.specs.Settings.{IsEncodingOf};
+ghost use Rattle.uc_certify.specs.Extending.{Extends, IsOwnOrder};
 ghost use Rattle.uc_certify.specs.Naming.{AreSymbolsIn, HaveFewVariables};
 
 use uc_order::Order;
@@ -71,4 +78,13 @@ pub fn made_joins_are_printable<O: Order>(order: &O)
     ensures of_table { (table : Table) (facts axioms : List Equation) (joins : List Join) → AreAllMade (O.meaning order.now) facts axioms joins → AreOfSignature (HasSym (O.meaning order.now)) (O.meaning order.now).arity facts → AreOfSignature (HasSym (O.meaning order.now)) (O.meaning order.now).arity axioms → AreSymbolsIn table (Has table) (O.meaning order.now) → AllByRecursion (IsJoinOf table) joins }
     ensures printable { (table : Table) (facts axioms : List Equation) (joins : List Join) → AreAllMade (O.meaning order.now) facts axioms joins → AreOfSignature (HasSym (O.meaning order.now)) (O.meaning order.now).arity facts → AreOfSignature (HasSym (O.meaning order.now)) (O.meaning order.now).arity axioms → AreSymbolsIn table (IsPrintableSymbol table) (O.meaning order.now) → HaveFewVariables axioms → AllByRecursion (IsPrintableJoin table) joins }
     ensures few { (equations : List Equation) → AreNumbered equations → AreSmall equations → HaveFewVariables equations }
+{}
+
+/// An order that extends one of the problem's own symbols gives terms over these the normal forms that the own order gives them, where
+/// the facts of the one decide what follows from the encoded axioms, and those of the other what follows from the problem's own: the
+/// encoding's symbols change nothing. So a reply to a question of such terms that is right of the encoded axioms is right of the
+/// problem's own axioms, by the own order.
+pub fn own_forms_agree<O: Order, P: Order>(order: &O, own: &P)
+    ensures forms { (table : Table) (problem : Problem) (encoded : Encoded) (facts own_facts : List Equation) (u n k : Tree) → Extends (O.meaning order.now) (P.meaning own.now) → IsOwnOrder problem (P.meaning own.now) → Encodes table problem (Ok encoded) → Decides (O.meaning order.now) facts encoded.axioms → Decides (P.meaning own.now) own_facts (axioms_of problem.clauses) → IsGroundOf (P.meaning own.now) u → HasNormalForm (O.meaning order.now) facts u n → HasNormalForm (P.meaning own.now) own_facts u k → n ≡ k }
+    ensures replies { (table : Table) (problem : Problem) (encoded : Encoded) (s t : Tree) (reply : Reply) → Extends (O.meaning order.now) (P.meaning own.now) → IsOwnOrder problem (P.meaning own.now) → Encodes table problem (Ok encoded) → IsGroundOf (P.meaning own.now) s → IsGroundOf (P.meaning own.now) t → IsRight (O.meaning order.now) encoded.axioms s t reply → IsRight (P.meaning own.now) (axioms_of problem.clauses) s t reply }
 {}

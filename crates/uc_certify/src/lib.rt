@@ -24,6 +24,6 @@ pub use checking::check_certificate;
 pub use expected::{Member, expected_members};
 pub use laws::{
     certified_decides, convergent_is_joined, joins_are_joinable, made_joins_are_printable,
-    one_certified, one_making,
+    one_certified, one_making, own_forms_agree,
 };
 pub use making::make_certificate;

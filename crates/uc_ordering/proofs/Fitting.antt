@@ -43,10 +43,10 @@ module _ (table : Table) (signature : Signature) (words : OrderWords) (some : 1 
   abbrev pub is_unknown : List ℕ → Bool
   is_unknown name = is_none (first_named table name (own_symbols signature))
 
-  whole : IsTotalOn signature.symbols (own_precedence table signature words)
+  pub whole : IsTotalOn signature.symbols (own_precedence table signature words)
   whole = total table (own_symbols signature) signature s words.precedence (find_none-left is_unknown words.precedence (weighed_names words) x.known) once.0
 
-  good : (f : Sym) → In signature.symbols f → FineIn table words.w0 some most (own_precedence table signature words) f (weight_of table words.w0 words.weights f)
+  pub good : (f : Sym) → In signature.symbols f → FineIn table words.w0 some most (own_precedence table signature words) f (weight_of table words.w0 words.weights f)
   good f i = fine table words.w0 some most (own_symbols signature) signature s words.weights (find_none-right is_unknown words.precedence (weighed_names words) x.known) (own_precedence table signature words) x.fit f i
 
   each_good : (f : Sym) → In (own_precedence table signature words) f → FineIn table words.w0 some most (own_precedence table signature words) f (weight_of table words.w0 words.weights f)

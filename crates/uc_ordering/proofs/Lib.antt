@@ -13,3 +13,8 @@ pub mod GoodWeights
 pub mod Fitting
 pub mod Choosing
 pub mod Lasts
+pub mod AlikeOnGround
+pub mod KeptRanks
+pub mod Restricted
+pub mod OwnPart
+pub mod LaterTables

@@ -6,3 +6,4 @@ pub mod Meaning
 pub mod Fits
 pub mod Numbers
 pub mod Chosen
+pub mod Restricting

@@ -17,4 +17,4 @@ mod weights;
 pub use choice::choose;
 pub use chosen::Chosen;
 pub use fault::ChoiceFault;
-pub use laws::one_choice;
+pub use laws::{encoding_extends_order, one_choice, restriction_agrees};

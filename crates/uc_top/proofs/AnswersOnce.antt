@@ -13,17 +13,20 @@ use Rattle.uc_top.specs.RewriteAnswers.{IsRewritten}
 use Rattle.uc_top.specs.PairsAnswers.{IsPaired}
 use Rattle.uc_top.specs.ProveAnswers.{ProveAnswers}
 use Rattle.uc_top.specs.DecideAnswers.{IsDecided}
-use Rattle.uc_top.specs.Answers.{IsShown, ProblemAnswers, CheckAnswers, ShowAnswers, OrderAnswers, RewriteAnswers, PairsAnswers, DecideAnswers, TableAnswers, ModelAnswers, CertifyAnswers, IsSearching, SearchesAlone, Answers}
+use Rattle.uc_top.specs.Answers.{IsShown, ProblemAnswers, CheckAnswers, ShowAnswers, OrderAnswers, RewriteAnswers, PairsAnswers, DecideAnswers, TableAnswers, ModelAnswers, CertifyAnswers, SystemAnswers, IsSearching, SearchesAlone, Answers}
 use Rattle.uc_top.proofs.Positionals.{first_name, second_name, head_name, tail_names, only_name}
 use Rattle.uc_top.specs.FileAnswers.{FileAnswers}
 use Rattle.uc_top.specs.TableAnswers.{TableTextAnswers}
 use Rattle.uc_top.specs.ModelAnswers.{IsModelled}
-use Rattle.uc_top.specs.CertifyAnswers.{CertificateAnswers}
+use Rattle.uc_top.specs.CertificateAnswers.{CertificateAnswers}
+use Rattle.uc_top.specs.CertifyAnswers.{IsCertifiedAnswer}
+use Rattle.uc_top.specs.SystemAnswers.{IsAskedCertificate}
 use Rattle.uc_top.proofs.LoadedOnce.{load_once, with_premise}
 use Rattle.uc_top.proofs.FileAnswering.{file_once}
 use Rattle.uc_top.proofs.TabledOnce.{table_text_once}
 use Rattle.uc_top.proofs.ModelledOnce.{modelled_once}
-use Rattle.uc_top.proofs.CertifiedOnce.{certificate_once}
+use Rattle.uc_top.proofs.CertifiedOnce.{certified_answer_once, certificate_once}
+use Rattle.uc_top.proofs.SystemOnce.{asked_is_once}
 use Rattle.uc_top.proofs.OrderOnce.{ordered_once}
 use Rattle.uc_top.proofs.RewriteOnce.{rewritten_once}
 use Rattle.uc_top.proofs.PairsOnce.{paired_once}
@@ -33,7 +36,7 @@ use Rattle.uc_top.proofs.ProveOnce.{prove_answers_once}
 use Rattle.uc_top.proofs.DecideOnce.{decided_once}
 use Rattle.uc_top.proofs.GenOnce.{gen_once}
 use Rattle.uc_top.proofs.VariableWeights.{w0_within}
-use Rattle.uc_top.proofs.ByVerb.{IsUsage, OfProve, OfDecide, Of, of_command, read_or_not}
+use Rattle.uc_top.proofs.ByVerb.{IsUsage, OfProve, OfSearch, OfCertificate, OfDecide, by_search, by_certificate, Of, of_command, read_or_not}
 
 -- THE COMMANDS
 
@@ -61,7 +64,10 @@ module _ (files : Files) (before now again later : ℕ) where
   model_once k name v w x y = load_once files k.root name before now again later (λ symbols. IsModelled symbols k name) (λ symbols. IsModelled symbols k name) (λ symbols problem s t a b d l v w p q. modelled_once symbols k name problem p q) v w x y
 
   certify_once : (root : Option (List ℕ)) (name file : List ℕ) {s t : ℕ} {a b : List ℕ} → (s ≡ 5 → Rose before now → ⊥) → (t ≡ 5 → Rose again later → ⊥) → CertifyAnswers (Some files) before now root name file s a → CertifyAnswers (Some files) again later root name file t b → (s ≡ t) × (a ≡ b)
-  certify_once root name file v w x y = load_once files root name before now again later (CertificateAnswers (Some files) before now file) (CertificateAnswers (Some files) again later file) (λ table problem s t a b d l v w p q. certificate_once files root name table problem l before now again later file v w p q) v w x y
+  certify_once root name file v w x y = load_once files root name before now again later (CertificateAnswers IsCertifiedAnswer (Some files) before now file) (CertificateAnswers IsCertifiedAnswer (Some files) again later file) (λ table problem s t a b d l v w p q. certificate_once files root name table problem l IsCertifiedAnswer (λ read certificate outcome s t a b e g m n. certified_answer_once read certificate outcome m n) before now again later file v w p q) v w x y
+
+  pub system_once : (steps : ℕ) (questions : List (List ℕ)) (file : List ℕ) (root : Option (List ℕ)) (name : List ℕ) {s t : ℕ} {a b : List ℕ} → (s ≡ 5 → Rose before now → ⊥) → (t ≡ 5 → Rose again later → ⊥) → SystemAnswers (Some files) before now steps questions file root name s a → SystemAnswers (Some files) again later steps questions file root name t b → (s ≡ t) × (a ≡ b)
+  system_once steps questions file root name v w x y = load_once files root name before now again later (λ table problem. CertificateAnswers (IsAskedCertificate steps questions problem) (Some files) before now file table problem) (λ table problem. CertificateAnswers (IsAskedCertificate steps questions problem) (Some files) again later file table problem) (λ table problem s t a b d l v w p q. certificate_once files root name table problem l (IsAskedCertificate steps questions problem) (asked_is_once steps questions problem table l.holds.agrees) before now again later file v w p q) v w x y
 
   -- There is one search; and a variable's weight is within its limits.
   module _ (one_search : OneSearch) where
@@ -77,19 +83,28 @@ module _ (files : Files) (before now again later : ℕ) where
     prove_command_once : (k : Command) → IsWithin k → {s t : ℕ} {a b : List ℕ} → (s ≤ 2 → k.workers ≡ 1) → (s ≡ 5 → Rose before now → ⊥) → (t ≡ 5 → Rose again later → ⊥) → OfProve (Some files) before now k s a → OfProve (Some files) again later k t b → (s ≡ t) × (a ≡ b)
     prove_command_once k within {t = t} {b = b} alone v w (name, p, x) (named, q, y) = prove_answers_once one_search k within.0 within.1 name files before now again later alone v w x (subst (λ n. ProveAnswers k n (Some files) again later t b) (only_name (sym q ∙ p)) y)
 
-    decide_command_once : (k : Command) → IsWithin k → {s t : ℕ} {a b : List ℕ} → (s ≤ 2 → k.workers ≡ 1) → (s ≡ 5 → Rose before now → ⊥) → (t ≡ 5 → Rose again later → ⊥) → OfDecide (Some files) before now k s a → OfDecide (Some files) again later k t b → (s ≡ t) × (a ≡ b)
-    decide_command_once k within {t = t} {b = b} alone v w (name, questions, p, x) (named, asked, q, y) =
+    searched_once : (k : Command) → IsWithin k → {s t : ℕ} {a b : List ℕ} → (s ≤ 2 → k.workers ≡ 1) → (s ≡ 5 → Rose before now → ⊥) → (t ≡ 5 → Rose again later → ⊥) → OfSearch (Some files) before now k s a → OfSearch (Some files) again later k t b → (s ≡ t) × (a ≡ b)
+    searched_once k within {t = t} {b = b} alone v w (name, questions, p, x) (named, asked, q, y) =
         let names : named ∷ asked ≡ name ∷ questions = sym q ∙ p in
         decide_once k within name questions alone v w x (subst (λ n. DecideAnswers (Some files) again later k n questions t b) (head_name names) (subst (λ qs. DecideAnswers (Some files) again later k named qs t b) (tail_names names) y))
 
-    verb_once : (u : Verb) (k : Command) → IsWithin k → {s t : ℕ} {a b : List ℕ} → (s ≤ 2 → IsSearching u → k.workers ≡ 1) → (s ≡ 5 → Rose before now → ⊥) → (t ≡ 5 → Rose again later → ⊥) → Of (Some files) before now u k s a → Of (Some files) again later u k t b → (s ≡ t) × (a ≡ b)
+    by_certificate_once : (k : Command) (file : List ℕ) {s t : ℕ} {a b : List ℕ} → (s ≡ 5 → Rose before now → ⊥) → (t ≡ 5 → Rose again later → ⊥) → OfCertificate (Some files) before now k file s a → OfCertificate (Some files) again later k file t b → (s ≡ t) × (a ≡ b)
+    by_certificate_once k file {t = t} {b = b} v w (name, questions, p, x) (named, asked, q, y) =
+        let names : named ∷ asked ≡ name ∷ questions = sym q ∙ p in
+        system_once k.steps questions file k.root name v w x (subst (λ n. SystemAnswers (Some files) again later k.steps questions file k.root n t b) (head_name names) (subst (λ qs. SystemAnswers (Some files) again later k.steps qs file k.root named t b) (tail_names names) y))
+
+    decide_command_once : (k : Command) → IsWithin k → {s t : ℕ} {a b : List ℕ} → (s ≤ 2 → IsSearching verb.Decide k.system → k.workers ≡ 1) → (s ≡ 5 → Rose before now → ⊥) → (t ≡ 5 → Rose again later → ⊥) → OfDecide (Some files) before now k s a → OfDecide (Some files) again later k t b → (s ≡ t) × (a ≡ b)
+    decide_command_once k within alone v w (inl x) y = searched_once k within (λ few. alone few (subst (IsSearching verb.Decide) (sym x.0) tt)) v w x.1 (by_search (Some files) again later k x.0 y)
+    decide_command_once k within alone v w (inr x) y = by_certificate_once k x.0 v w x.2 (by_certificate (Some files) again later k x.0 x.1 y)
+
+    verb_once : (u : Verb) (k : Command) → IsWithin k → {s t : ℕ} {a b : List ℕ} → (s ≤ 2 → IsSearching u k.system → k.workers ≡ 1) → (s ≡ 5 → Rose before now → ⊥) → (t ≡ 5 → Rose again later → ⊥) → Of (Some files) before now u k s a → Of (Some files) again later u k t b → (s ≡ t) × (a ≡ b)
     verb_once verb.Check k within {t = t} {b = b} alone v w (name, proof, p, x) (named, proved, q, y) =
         let names : named ∷ proved ∷ [] ≡ name ∷ proof ∷ [] = sym q ∙ p in
         check_once k.root name proof v w x (subst (λ n. CheckAnswers (Some files) again later k.root n proof t b) (first_name names) (subst (λ n. CheckAnswers (Some files) again later k.root named n t b) (second_name names) y))
     verb_once verb.Show k within {t = t} {b = b} alone v w (name, p, x) (named, q, y) = show_once k.root name v w x (subst (λ n. ShowAnswers (Some files) again later k.root n t b) (only_name (sym q ∙ p)) y)
     verb_once verb.Order k within {t = t} {b = b} alone v w (name, p, x) (named, q, y) = order_once k.order k.root name v w x (subst (λ n. OrderAnswers (Some files) again later k.order k.root n t b) (only_name (sym q ∙ p)) y)
     verb_once verb.Prove k within alone v w x y = prove_command_once k within (λ few. alone few tt) v w x y
-    verb_once verb.Decide k within alone v w x y = decide_command_once k within (λ few. alone few tt) v w x y
+    verb_once verb.Decide k within alone v w x y = decide_command_once k within alone v w x y
     verb_once verb.Rewrite k within {t = t} {b = b} alone v w (name, word, p, x) (named, other, q, y) =
         let names : named ∷ other ∷ [] ≡ name ∷ word ∷ [] = sym q ∙ p in
         rewrite_once k.order k.limit word k.root name v w x (subst (λ n. RewriteAnswers (Some files) again later k.order k.limit word k.root n t b) (first_name names) (subst (λ u. RewriteAnswers (Some files) again later k.order k.limit u k.root named t b) (second_name names) y))

@@ -10,14 +10,11 @@ use Rattle.uc_term.specs.Tree.{Tree, var, app, Trees, none, more}
 use Rattle.uc_term.specs.Over.{AreOver, IsTerm}
 use Rattle.uc_term.specs.Table.{Table, Grows, Has, IsOf, arity_of}
 use Rattle.uc_clause.specs.declared.clause.Sourced.{Sourced}
-use Rattle.uc_clause.proofs.Tables.{grows_not, grows_twice}
 use Rattle.uc_problem.specs.declared.problem.Problem.{Problem}
 use Rattle.uc_problem.specs.declared.problem.Encoded.{Encoded}
 use Rattle.uc_problem.specs.Encodes.{Encodes}
-use Rattle.uc_problem.specs.Filling.{AddsMarks}
 use Rattle.uc_problem.specs.Holds.{Agrees}
 use Rattle.uc_problem.specs.Marks.{Marks}
-use Rattle.uc_problem.proofs.AddedOnce.{adds_grows}
 use Rattle.uc_problem.proofs.FreshMarks.{signature_has, marks_later}
 use Rattle.uc_problem.proofs.Growth.{agrees_later}
 use Rattle.uc_order.specs.Members.{In, in_front, in_rest, Each}
@@ -96,15 +93,10 @@ module _ (table : Table) (spec : OrderSpec) (fits : Fits table (precedence_of sp
   pub joins_keep : (joins : List Join) → JoinsHave (IsOf table) joins → JoinsKeepArities m joins
   joins_keep joins h = each_mapped (JoinHas (IsOf table)) (JoinKeepsArities m) join_keeps joins h
 
-  facts_over : (facts : List Equation) → Each (IsFact table (precedence_of spec)) facts → AreOfSignature (HasSym m) m.arity facts
+  pub facts_over : (facts : List Equation) → Each (IsFact table (precedence_of spec)) facts → AreOfSignature (HasSym m) m.arity facts
   facts_over facts h n e at =
       let fact = each_at (IsFact table (precedence_of spec)) facts h n e at in
       (order_term table (precedence_of spec) spec fits e.left fact.left.over, order_term table (precedence_of spec) spec fits e.right fact.right.over)
-
--- a table with the encoding's symbols begins with the one before
-pub marks_grow : (old new : Table) (fresh : Option Fresh) → AddsMarks old new fresh → Grows old new
-marks_grow old new None e = subst (Grows old) (sym e) (grows_not old)
-marks_grow old new (Some marks) h = grows_twice old h.0 new (adds_grows old h.0 marks.eq h.2) (grows_twice h.0 h.1 new (adds_grows h.0 h.1 marks.yes h.3) (adds_grows h.1 new marks.no h.4))
 
 encodes_later : (old new : Table) (problem : Problem) (encoded : Encoded) → Grows old new → Agrees old problem → Encodes old problem (Ok encoded) → Encodes new problem (Ok encoded)
 encodes_later old new problem encoded g agrees e = (go encoded.fresh e.0, e.1)
@@ -158,13 +150,17 @@ module _ (table read : Table) (grows : Grows table read) (problem : Problem) (ag
     decides = certified_decides (meaning_of read spec) (spec_laws read (precedence_of spec) spec system.fits) problem.clauses encoded certificate Yes refl passes (own_symbols read spec system.fits) (facts_over read spec system.fits certificate.text.system.facts system.facts) is_encoding
 
     -- the problem's own symbols are the order's, with their arities
-    own_known : (f : Sym) → In problem.signature.symbols f → HasSym (meaning_of read spec) f × (arity_of read f ≡ (meaning_of read spec).arity f)
+    pub own_known : (f : Sym) → In problem.signature.symbols f → HasSym (meaning_of read spec) f × (arity_of read f ≡ (meaning_of read spec).arity f)
     own_known f i =
         let encoded_has : In encoded.signature.symbols f = subst (λ (fs : List Sym). In fs f) (sym (encoded_symbols read problem encoded read_encodes)) (among_all problem.signature encoded.fresh f i) in
         symbol_known read (precedence_of spec) spec system.fits f ((names_symbols (meaning_of read spec) problem.clauses encoded certificate Yes refl passes f).1 encoded_has)
 
-    own_ground : (u : Tree) → IsOwnGround read problem u → IsGroundOf (meaning_of read spec) u
+    pub own_ground : (u : Tree) → IsOwnGround read problem u → IsGroundOf (meaning_of read spec) u
     own_ground u h = over_from (In problem.signature.symbols) (HasSym (meaning_of read spec)) (arity_of read) (meaning_of read spec).arity own_known (λ _. ⊥) (λ _. ⊥) (λ x k. k) u h
+
+    -- of such terms the encoded axioms make those equal that the problem's own do
+    pub own_same : (u v : Tree) → IsOwnGround read problem u → IsOwnGround read problem v → Conv encoded.axioms u v ↔ Conv (axioms_of problem.clauses) u v
+    own_same u v hu hv = own_equal read problem read_agrees encoded read_encodes u v hu hv
 
     pub own_form : (u : Tree) → IsOwnGround read problem u → HasOneNormalForm (meaning_of read spec) certificate.text.system.facts u
     own_form u h = decides.one_normal_form u (own_ground u h)
@@ -172,5 +168,5 @@ module _ (table read : Table) (grows : Grows table read) (problem : Problem) (ag
     pub own : (u v n k : Tree) → IsOwnGround read problem u → IsOwnGround read problem v → HasNormalForm (meaning_of read spec) certificate.text.system.facts u n → HasNormalForm (meaning_of read spec) certificate.text.system.facts v k → (n ≡ k) ↔ Conv (axioms_of problem.clauses) u v
     own u v n k hu hv to_n to_k =
         let shared = decides.shared u v n k (own_ground u hu) (own_ground v hv) to_n to_k in
-        let same = own_equal read problem read_agrees encoded read_encodes u v hu hv in
+        let same = own_same u v hu hv in
         ((λ e. same.0 (shared.0 e)), (λ c. shared.1 (same.1 c)))

@@ -1,5 +1,5 @@
--- From what reading and checking a certificate promise to the answer.
-use Rattle.std.proofs.Common.{◌⊎◌, inl, inr, ℕ, suc, ◌≡◌, ◌+◌, ◌<◌, ◌≤◌, true, false, List, [], ◌∷◌, ◌++◌, length, take, get_or, slice_get, Option, Some, Result, Ok, Err, refl, sym, subst, arith}
+-- From what reading and checking a certificate promise to what it is, and to the answer.
+use Rattle.std.proofs.Common.{◌⊎◌, inl, inr, ℕ, suc, ◌≡◌, ◌+◌, ◌<◌, ◌≤◌, true, false, List, [], ◌∷◌, ◌++◌, length, take, get_or, slice_get, Option, Some, None, Result, Ok, Err, refl, sym, subst, arith}
 use Rattle.std.proofs.lemmas.List.{take_all, length-take-le}
 use Rattle.std.proofs.lemmas.Bool.Decides.{leb_tells}
 use Rattle.std.proofs.lemmas.Option.{slice_get_read}
@@ -13,6 +13,7 @@ use Rattle.uc_term.specs.Equations.{side_of}
 use Rattle.uc_term.specs.Table.{Table, Grows, IsDistinct}
 use Rattle.uc_term.specs.Tree.{Tree, nodes}
 use Rattle.uc_edge.specs.Files.{Files}
+use Rattle.uc_edge.specs.declared.library.Fetched.TheVariants.{Found}
 use Rattle.uc_clause.specs.declared.clause.Sourced.{Sourced}
 use Rattle.uc_clause.specs.declared.fault.What.TheVariants as what
 use Rattle.uc_problem.specs.declared.fault.EncodeFault.TheVariants.{GoalTooLarge}
@@ -46,13 +47,16 @@ use Rattle.uc_certify.specs.Expecting.{axioms_from, members_of, OverlapsWith, no
 use Rattle.uc_answer.specs.declared.answer.Answer.{Answer}
 use Rattle.uc_answer.specs.Lines.{joined}
 use Rattle.uc_answer.specs.Refusals.{large_line}
-use Rattle.uc_answer.specs.CertifyLines.{IsCertifiedLine, certified_status, cert_fault_line}
-use Rattle.uc_top.specs.Answers.{CertifyAnswers, is_loaded}
-use Rattle.uc_top.specs.CertifyAnswers.{CertificateTextAnswers, isnt_certificate, is_certificate, CertificateAnswers, has_large_goal, is_encoded}
-use Rattle.uc_top.specs.FileAnswers.{FileAnswers}
+use Rattle.uc_answer.specs.CertifyLines.{cert_fault_line}
+use Rattle.uc_top.specs.Answers.{LoadAnswers, is_loaded}
+use Rattle.uc_top.specs.CertificateAnswers.{CertificateTextAnswers, isnt_certificate, is_certificate, CertificateAnswers, has_large_goal, is_encoded}
+use Rattle.uc_top.specs.CertificateTested.{IsRefusal, fails_so, IsTestedAs, PassesText, IsTestedText, PassesFile, IsTestedFile, PassesTests, IsTested}
+use Rattle.uc_top.specs.declared.certificates.Tested.{Tested}
+use Rattle.uc_top.specs.declared.certificates.Tested.TheVariants.{Refused, Passed}
+use Rattle.uc_top.specs.FileAnswers.{IsTextFetched, FileAnswers, is_absent, isnt_fetched, is_found}
 use Rattle.uc_top.proofs.Answering.{one_line, is_held, large_within}
 use Rattle.uc_top.proofs.CertificateOrders.{each_mapped}
-use Rattle.uc_top.proofs.FileAnswering.{earlier_file}
+use Rattle.uc_top.proofs.FileAnswering.{is_found_text, earlier_file}
 
 -- A LARGE OVERLAP
 
@@ -166,22 +170,19 @@ module _ (m : Meaning) where
 -- THE TEXT
 
 module _ (table : Table) (clauses : List Sourced) (encoded : Encoded) (file text : List ℕ) where
-  -- what a certificate that is read is told to be
-  abbrev pub IsTold : Table → Certificate → Answer → Type 0
-  IsTold read certificate answer = (answer_is : Certified) × IsCertified (meaning_of read certificate.text.spec) clauses encoded certificate answer_is × (answer.status ≡ certified_status answer_is) × IsCertifiedLine certificate.lines.lines certificate.text.system.facts answer_is (joined answer.lines)
+  pub read_tested : (read : Table) (certificate : Certificate) (outcome : Certified) (r : Result Tested AllocError) → IsDistinct read → Grows table read → InternsCertificate text table read → IsReading read text (Ok certificate) → IsCertified (meaning_of read certificate.text.spec) clauses encoded certificate outcome → IfOk r (IsTestedAs certificate outcome) → IfOk r (IsTestedText table clauses encoded file text read)
+  read_tested read certificate outcome (Ok (Refused answer)) d g i h c a = subst (λ (n : ℕ). CertificateTextAnswers IsRefusal table clauses encoded file text n (joined answer.lines)) (sym a.1) (is_certificate d g i h c (fails_so a.0 a.2))
+  read_tested read certificate outcome (Ok (Passed passed)) d g i h c a = subst (PassesText table clauses encoded text read) (sym a.0) (record {
+    distinct = d;
+    grows = g;
+    interns = i;
+    reads = h;
+    passes = subst (IsCertified (meaning_of read certificate.text.spec) clauses encoded certificate) a.1 c;
+  })
+  read_tested read certificate outcome (Err fault) d g i h c a = tt
 
-  pub read_told : (read : Table) (certificate : Certificate) (r : Result Answer AllocError) → IsDistinct read → Grows table read → InternsCertificate text table read → IsReading read text (Ok certificate) → IfOk r (IsTold read certificate) → IfOk r (λ answer. CertificateTextAnswers table clauses encoded file text answer.status (joined answer.lines))
-  read_told read certificate (Ok answer) d g i h a = subst (λ (n : ℕ). CertificateTextAnswers table clauses encoded file text n (joined answer.lines)) (sym a.2) (is_certificate d g i h a.1 a.3)
-  read_told read certificate (Err fault) d g i h a = tt
-
-  pub unread_told : (read : Table) (why : CertFault) (r : Result Answer AllocError) → IsDistinct read → IsReading read text (Err why) → IfOk r (λ answer. (answer.status ≡ 3) × (joined answer.lines ≡ cert_fault_line file why)) → IfOk r (λ _. why ≡ NoMemory → ⊥) → IfOk r (λ answer. CertificateTextAnswers table clauses encoded file text answer.status (joined answer.lines))
-  unread_told read why (Ok answer) d h line n = one_line (Ok answer) (CertificateTextAnswers table clauses encoded file text) 3 (cert_fault_line file why) line (isnt_certificate read d h n)
-  unread_told read why (Err fault) d h line n = tt
-
--- the answer for the order's own value
-pub checked_told : (m n : Meaning) (clauses : List Sourced) (encoded : Encoded) (certificate : Certificate) (answer : Certified) (r : Result Answer AllocError) → m ≡ n → IsCertified m clauses encoded certificate answer → IfOk r (λ a. (a.status ≡ certified_status answer) × IsCertifiedLine certificate.lines.lines certificate.text.system.facts answer (joined a.lines)) → IfOk r (λ a. (other : Certified) × IsCertified n clauses encoded certificate other × (a.status ≡ certified_status other) × IsCertifiedLine certificate.lines.lines certificate.text.system.facts other (joined a.lines))
-checked_told m n clauses encoded certificate answer (Ok a) e h told = (answer, subst (λ (o : Meaning). IsCertified o clauses encoded certificate answer) e h, told.0, told.1)
-checked_told m n clauses encoded certificate answer (Err fault) e h told = tt
+  pub unread_tested : (read : Table) (why : CertFault) (answer : Answer) → IsDistinct read → IsReading read text (Err why) → (answer.status ≡ 3) × (joined answer.lines ≡ cert_fault_line file why) → (why ≡ NoMemory → ⊥) → IsTestedText table clauses encoded file text read (Refused answer)
+  unread_tested read why answer d h line n = one_line (Ok answer) (CertificateTextAnswers IsRefusal table clauses encoded file text) 3 (cert_fault_line file why) line (isnt_certificate read d h n)
 
 -- A text that is cut behind the first byte that is too many is read as the whole one.
 module _ (text : List ℕ) (h : max_proof + 1 ≤ length text) where
@@ -206,36 +207,89 @@ module _ (text : List ℕ) (h : max_proof + 1 ≤ length text) where
   read_cut table (Limit what.Symbols p) r = isnt_short r.0
   read_cut table NoMemory r = tt
 
-module _ (table : Table) (clauses : List Sourced) (encoded : Encoded) (file : List ℕ) where
-  answers_cut : (text : List ℕ) → max_proof + 1 ≤ length text → {status : ℕ} {answer : List ℕ} → CertificateTextAnswers table clauses encoded file (take (max_proof + 1) text) status answer → CertificateTextAnswers table clauses encoded file text status answer
-  answers_cut text h (isnt_certificate read {why = why} d r n) = isnt_certificate read d (read_cut text h read why r) n
-  answers_cut text h (is_certificate d g i r c l) = isnt_short text h r.0
+module _ (table : Table) (clauses : List Sourced) (encoded : Encoded) where
+  module _ (AnswersFor : Table → Certificate → Certified → ℕ → List ℕ → Type 0) (file : List ℕ) where
+    answers_cut : (text : List ℕ) → max_proof + 1 ≤ length text → {status : ℕ} {answer : List ℕ} → CertificateTextAnswers AnswersFor table clauses encoded file (take (max_proof + 1) text) status answer → CertificateTextAnswers AnswersFor table clauses encoded file text status answer
+    answers_cut text h (isnt_certificate read {why = why} d r n) = isnt_certificate read d (read_cut text h read why r) n
+    answers_cut text h (is_certificate d g i r c a) = isnt_short text h r.0
 
-  pub whole_certificate : (text : List ℕ) (status : ℕ) (answer : List ℕ) → CertificateTextAnswers table clauses encoded file (take (max_proof + 1) text) status answer → CertificateTextAnswers table clauses encoded file text status answer
-  whole_certificate text status answer a = go (leb_tells (max_proof + 1) (length text))
+    whole_certificate : (text : List ℕ) (status : ℕ) (answer : List ℕ) → CertificateTextAnswers AnswersFor table clauses encoded file (take (max_proof + 1) text) status answer → CertificateTextAnswers AnswersFor table clauses encoded file text status answer
+    whole_certificate text status answer a = go (leb_tells (max_proof + 1) (length text))
+      where
+        go : ((nat_le (max_proof + 1) (length text) ≡ true) × (max_proof + 1 ≤ length text)) ⊎ ((nat_le (max_proof + 1) (length text) ≡ false) × (length text < max_proof + 1)) → CertificateTextAnswers AnswersFor table clauses encoded file text status answer
+        go (inl p) = answers_cut text p.1 a
+        go (inr p) = subst (λ (t : List ℕ). CertificateTextAnswers AnswersFor table clauses encoded file t status answer) (take_all (max_proof + 1) text (omega (arith, p.1))) a
+
+  -- a text that passes all tests isn't cut
+  passes_whole : (text : List ℕ) (read : Table) (certificate : Certificate) → PassesText table clauses encoded (take (max_proof + 1) text) read certificate → PassesText table clauses encoded text read certificate
+  passes_whole text read certificate p = go (leb_tells (max_proof + 1) (length text))
     where
-      go : ((nat_le (max_proof + 1) (length text) ≡ true) × (max_proof + 1 ≤ length text)) ⊎ ((nat_le (max_proof + 1) (length text) ≡ false) × (length text < max_proof + 1)) → CertificateTextAnswers table clauses encoded file text status answer
-      go (inl p) = answers_cut text p.1 a
-      go (inr p) = subst (λ (t : List ℕ). CertificateTextAnswers table clauses encoded file t status answer) (take_all (max_proof + 1) text (omega (arith, p.1))) a
+      go : ((nat_le (max_proof + 1) (length text) ≡ true) × (max_proof + 1 ≤ length text)) ⊎ ((nat_le (max_proof + 1) (length text) ≡ false) × (length text < max_proof + 1)) → PassesText table clauses encoded text read certificate
+      go (inl q) = isnt_short text q.1 p.reads.0
+      go (inr q) = subst (λ (t : List ℕ). PassesText table clauses encoded t read certificate) (take_all (max_proof + 1) text (omega (arith, q.1))) p
+
+  -- THE FILE
+
+  passed_file : (holds : Option Files) (before now : ℕ) (file bytes : List ℕ) (read : Table) (certificate : Certificate) → IsTextFetched (max_proof + 1) holds before now file (Found bytes) → PassesText table clauses encoded bytes read certificate → PassesFile table clauses encoded holds file read certificate
+  passed_file None before now file bytes read certificate h p = record { text = bytes; has_text = tt; passes_text = p }
+  passed_file (Some files) before now file bytes read certificate h p = record {
+    text = h.0;
+    has_text = h.1;
+    passes_text = passes_whole h.0 read certificate (subst (λ (t : List ℕ). PassesText table clauses encoded t read certificate) h.2 p);
+  }
+
+  pub found_tested : (holds : Option Files) (before now : ℕ) (file bytes : List ℕ) (read : Table) (r : Result Tested AllocError) → IsTextFetched (max_proof + 1) holds before now file (Found bytes) → IfOk r (IsTestedText table clauses encoded file bytes read) → IfOk r (IsTestedFile table clauses encoded holds before now file read)
+  found_tested holds before now file bytes read (Ok (Refused answer)) h a = is_found_text (max_proof + 1) holds before now (CertificateTextAnswers IsRefusal table clauses encoded file) file bytes (Ok answer) (whole_certificate IsRefusal file) h a
+  found_tested holds before now file bytes read (Ok (Passed certificate)) h a = passed_file holds before now file bytes read certificate h a
+  found_tested holds before now file bytes read (Err fault) h a = tt
+
+  -- a refusal of this status and line
+  pub refusal_of : (holds : Option Files) (before now : ℕ) (file : List ℕ) (read : Table) (status : ℕ) (line : List ℕ) (answer : Answer) → (answer.status ≡ status) × (joined answer.lines ≡ line) → FileAnswers holds before now (CertificateTextAnswers IsRefusal table clauses encoded file) file status line → IsTestedFile table clauses encoded holds before now file read (Refused answer)
+  refusal_of holds before now file read status line answer h a = one_line (Ok answer) (FileAnswers holds before now (CertificateTextAnswers IsRefusal table clauses encoded file) file) status line h a
 
 -- THE PROBLEM
 
 module _ (loaded table : Table) (holds : Option Files) (before now : ℕ) (problem : Problem) (file : List ℕ) where
-  abbrev pub Answers : Answer → Type 0
-  Answers answer = CertificateAnswers holds before now file loaded problem answer.status (joined answer.lines)
+  pub large_tested : (number : ℕ) (goal : Sourced) (read : Table) (answer : Answer) → IsEncoded table problem (Err (GoalTooLarge number)) → goal ≡ get_or problem.clauses number goal → (answer.status ≡ 3) × (joined answer.lines ≡ large_line goal) → IsTested loaded problem holds before now file read (Refused answer)
+  large_tested number goal read answer h at line = one_line (Ok answer) (CertificateAnswers IsRefusal holds before now file loaded problem) 3 (large_line goal) line (has_large_goal {number = number} (h table (Grows-refl table)) (slice_get_read problem.clauses (length problem.clauses) number goal refl (large_within table problem number h) at))
 
-  pub large_answers : (number : ℕ) (goal : Sourced) (r : Result Answer AllocError) → IsEncoded table problem (Err (GoalTooLarge number)) → goal ≡ get_or problem.clauses number goal → IfOk r (λ answer. (answer.status ≡ 3) × (joined answer.lines ≡ large_line goal)) → IfOk r Answers
-  large_answers number goal r h at line = one_line r (CertificateAnswers holds before now file loaded problem) 3 (large_line goal) line (has_large_goal {number = number} (h table (Grows-refl table)) (slice_get_read problem.clauses (length problem.clauses) number goal refl (large_within table problem number h) at))
+  pub encoded_tested : (encoded : Encoded) (read : Table) (r : Result Tested AllocError) → IsDistinct table → AddsMarks loaded table encoded.fresh → IsEncoded table problem (Ok encoded) → IfOk r (IsTestedFile table problem.clauses encoded holds before now file read) → IfOk r (IsTested loaded problem holds before now file read)
+  encoded_tested encoded read (Ok (Refused answer)) d i h a = is_encoded d i (h table (Grows-refl table)) a
+  encoded_tested encoded read (Ok (Passed certificate)) d i h a = record { table = table; distinct = d; encoded = encoded; adds = i; encodes = h table (Grows-refl table); passes_file = a }
+  encoded_tested encoded read (Err fault) d i h a = tt
 
-  pub encoded_answers : (encoded : Encoded) (r : Result Answer AllocError) → IsDistinct table → AddsMarks loaded table encoded.fresh → IsEncoded table problem (Ok encoded) → IfOk r (λ answer. FileAnswers holds before now (CertificateTextAnswers table problem.clauses encoded file) file answer.status (joined answer.lines)) → IfOk r Answers
-  encoded_answers encoded (Ok answer) d i h a = is_encoded d i (h table (Grows-refl table)) a
-  encoded_answers encoded (Err fault) d i h a = tt
+-- THE ANSWER
 
-earlier_certificate : (holds : Option Files) (first before now : ℕ) (file : List ℕ) (loaded : Table) (problem : Problem) (status : ℕ) (answer : List ℕ) → first ≤ before → CertificateAnswers holds before now file loaded problem status answer → CertificateAnswers holds first now file loaded problem status answer
-earlier_certificate holds first before now file loaded problem status answer le (has_large_goal m g) = has_large_goal m g
-earlier_certificate holds first before now file loaded problem status answer le (is_encoded d i e a) = is_encoded d i e (earlier_file holds before now _ _ first le a)
+module _ (AnswersFor : Table → Certificate → Certified → ℕ → List ℕ → Type 0) (holds : Option Files) (before now : ℕ) (file : List ℕ) (loaded : Table) (problem : Problem) where
+  -- by a certificate that passes all tests
+  pub passed_answers : (read : Table) (certificate : Certificate) (status : ℕ) (answer : List ℕ) → PassesTests loaded problem holds file read certificate → AnswersFor read certificate certified.Yes status answer → CertificateAnswers AnswersFor holds before now file loaded problem status answer
+  passed_answers read certificate status answer p a =
+      let q = p.passes_file.passes_text in
+      is_encoded p.distinct p.adds p.encodes (is_found p.passes_file.has_text (is_certificate q.distinct q.grows q.interns q.reads q.passes a))
+
+  -- a refusal is an answer to each command that is given a certificate, which answers so where it fails a test
+  abbrev pub TellsRefusals : Type 0
+  TellsRefusals = (read : Table) (certificate : Certificate) (outcome : Certified) (status : ℕ) (answer : List ℕ) → IsRefusal read certificate outcome status answer → AnswersFor read certificate outcome status answer
+
+  module _ (tells : TellsRefusals) where
+    refused_text : (table : Table) (clauses : List Sourced) (encoded : Encoded) (text : List ℕ) {status : ℕ} {answer : List ℕ} → CertificateTextAnswers IsRefusal table clauses encoded file text status answer → CertificateTextAnswers AnswersFor table clauses encoded file text status answer
+    refused_text table clauses encoded text (isnt_certificate read d h n) = isnt_certificate read d h n
+    refused_text table clauses encoded text (is_certificate {read = read} {certificate = certificate} {outcome = outcome} {status = status} {answer = answer} d g i h c a) = is_certificate d g i h c (tells read certificate outcome status answer a)
+
+    refused_file : (table : Table) (clauses : List Sourced) (encoded : Encoded) {status : ℕ} {answer : List ℕ} → FileAnswers holds before now (CertificateTextAnswers IsRefusal table clauses encoded file) file status answer → FileAnswers holds before now (CertificateTextAnswers AnswersFor table clauses encoded file) file status answer
+    refused_file table clauses encoded (is_absent h) = is_absent h
+    refused_file table clauses encoded (isnt_fetched r) = isnt_fetched r
+    refused_file table clauses encoded (is_found {text = text} h a) = is_found h (refused_text table clauses encoded text a)
+
+    pub refused_answers : (status : ℕ) (answer : List ℕ) → CertificateAnswers IsRefusal holds before now file loaded problem status answer → CertificateAnswers AnswersFor holds before now file loaded problem status answer
+    refused_answers status answer (has_large_goal m g) = has_large_goal m g
+    refused_answers status answer (is_encoded {table = table} {encoded = encoded} d i e a) = is_encoded d i e (refused_file table problem.clauses encoded a)
+
+  earlier_certificate : (first : ℕ) (status : ℕ) (answer : List ℕ) → first ≤ before → CertificateAnswers AnswersFor holds before now file loaded problem status answer → CertificateAnswers AnswersFor holds first now file loaded problem status answer
+  earlier_certificate first status answer le (has_large_goal m g) = has_large_goal m g
+  earlier_certificate first status answer le (is_encoded d i e a) = is_encoded d i e (earlier_file holds before now _ _ first le a)
 
 -- the answer for a problem that is loaded, where a later part of the call read the certificate file
-pub loaded_certificate : (empty table : Table) (holds mid : Option Files) (first before now : ℕ) (root : Option (List ℕ)) (name file : List ℕ) (problem : Problem) (r : Result Answer AllocError) → empty ≡ [] → mid ≡ holds → first ≤ before → IsDistinct table → WhereTold holds (λ files. IsFilled files root name empty table problem) → IsProblem table holds root name problem → IfOk r (λ answer. CertificateAnswers mid before now file table problem answer.status (joined answer.lines)) → IfOk r (λ answer. CertifyAnswers holds first now root name file answer.status (joined answer.lines))
-loaded_certificate empty table holds mid first before now root name file problem (Ok answer) none e le d f h a = is_loaded d (is_held empty table holds root name problem none f h) (earlier_certificate holds first before now file table problem answer.status (joined answer.lines) le (subst (λ (o : Option Files). CertificateAnswers o before now file table problem answer.status (joined answer.lines)) e a))
-loaded_certificate empty table holds mid first before now root name file problem (Err fault) none e le d f h a = tt
+pub loaded_certificate : (AnswersFor : Problem → Table → Certificate → Certified → ℕ → List ℕ → Type 0) (empty table : Table) (holds mid : Option Files) (first before now : ℕ) (root : Option (List ℕ)) (name file : List ℕ) (problem : Problem) (r : Result Answer AllocError) → empty ≡ [] → mid ≡ holds → first ≤ before → IsDistinct table → WhereTold holds (λ files. IsFilled files root name empty table problem) → IsProblem table holds root name problem → IfOk r (λ answer. CertificateAnswers (AnswersFor problem) mid before now file table problem answer.status (joined answer.lines)) → IfOk r (λ answer. LoadAnswers holds first now (λ loaded held. CertificateAnswers (AnswersFor held) holds first now file loaded held) root name answer.status (joined answer.lines))
+loaded_certificate AnswersFor empty table holds mid first before now root name file problem (Ok answer) none e le d f h a = is_loaded d (is_held empty table holds root name problem none f h) (earlier_certificate (AnswersFor problem) holds before now file table problem first answer.status (joined answer.lines) le (subst (λ (o : Option Files). CertificateAnswers (AnswersFor problem) o before now file table problem answer.status (joined answer.lines)) e a))
+loaded_certificate AnswersFor empty table holds mid first before now root name file problem (Err fault) none e le d f h a = tt

@@ -11,6 +11,7 @@ use Rattle.uc_top.proofs.RewriteCompleting.{rewrite_completes}
 use Rattle.uc_top.proofs.PairsCompleting.{pairs_complete}
 use Rattle.uc_top.proofs.ProveCompleting.{prove_completes}
 use Rattle.uc_top.proofs.DecideCompleting.{decide_completes}
+use Rattle.uc_top.proofs.SystemCompleting.{system_completes}
 use Rattle.uc_top.proofs.TableCompleting.{table_completes}
 use Rattle.uc_top.proofs.ModelCompleting.{model_completes}
 use Rattle.uc_top.proofs.CertifyCompleting.{certify_completes}
@@ -25,6 +26,7 @@ all_complete holds before now words old new write_before write_now result run fi
   pairs = pairs_complete holds before now words old new write_before write_now result run files told fetched written;
   prove = prove_completes holds before now words old new write_before write_now result run files told fetched written;
   decide = decide_completes holds before now words old new write_before write_now result run files told fetched written;
+  system = system_completes holds before now words old new write_before write_now result run files told fetched written;
   table = table_completes holds before now words old new write_before write_now result run files told fetched written;
   model = model_completes holds before now words old new write_before write_now result run files told fetched written;
   certify = certify_completes holds before now words old new write_before write_now result run files told fetched written;

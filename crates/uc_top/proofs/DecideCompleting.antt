@@ -1,4 +1,4 @@
--- How `decide` ends.
+-- How `decide` ends by a search.
 use Rattle.std.proofs.Common.{ℕ, ◌≡◌, List, ◌∷◌, Option, Some, None, sym, ◌∙◌, subst}
 use Rattle.std.specs.Io.KnownBytes.{Appends}
 use Rattle.uc_term.specs.Tree.{Tree}
@@ -24,7 +24,7 @@ use Rattle.uc_top.specs.Answers.{DecideAnswers}
 use Rattle.uc_top.specs.Runs.{MayAnswer, is_answer, wants_memory, IsRun, EndsWith, tells_all, tells_want}
 use Rattle.uc_top.specs.DecideRuns.{tells_replies, tells_limit, QuestionsEnd, tells_answer, lacks_memory, DecideEnds, CompletesDecide}
 use Rattle.uc_top.proofs.Positionals.{head_name, tail_names}
-use Rattle.uc_top.proofs.ByVerb.{OfDecide, of_verb}
+use Rattle.uc_top.proofs.ByVerb.{OfSearch, by_search, of_verb}
 use Rattle.uc_top.proofs.Completing.{told_whole}
 use Rattle.uc_top.proofs.LoadedOnce.{answers_for}
 
@@ -76,10 +76,10 @@ module _ (table : Table) (distinct : IsDistinct table) (files : Files) (command 
 
 module _ (files : Files) (before now : ℕ) (well : Rose before now → ⊥) (all : List (List ℕ)) (old new : Option (List ℕ)) where
   whole : {status result : ℕ} {text : List ℕ} → MayAnswer (Some files) before now all status text → Appends old new text → result ≡ status → CompletesDecide files all old new result
-  whole wants_memory written e command name words table problem spec reads is_decide names distinct held chosen = subst (DecideEnds table files command name problem words old new) (sym e) (record { asked = λ questions q. lacks_memory written; no_question = λ number why f some. tells_want written })
-  whole {status} {result} {text} (is_answer a) written e command name words table problem spec reads is_decide names distinct held chosen = go (of_verb (Some files) before now all verb.Decide is_decide reads a)
+  whole wants_memory written e command name words table problem spec reads is_decide none names distinct held chosen = subst (DecideEnds table files command name problem words old new) (sym e) (record { asked = λ questions q. lacks_memory written; no_question = λ number why f some. tells_want written })
+  whole {status} {result} {text} (is_answer a) written e command name words table problem spec reads is_decide none names distinct held chosen = go (by_search (Some files) before now command none (of_verb (Some files) before now all verb.Decide is_decide reads a))
     where
-      go : OfDecide (Some files) before now command status text → DecideEnds table files command name problem words old new result
+      go : OfSearch (Some files) before now command status text → DecideEnds table files command name problem words old new result
       go p =
           let names_are : p.0 ∷ p.1 ≡ name ∷ words = sym p.2 ∙ names in
           let answer : DecideAnswers (Some files) before now command name words status text = subst (λ n. DecideAnswers (Some files) before now command n words status text) (head_name names_are) (subst (λ ws. DecideAnswers (Some files) before now command p.0 ws status text) (tail_names names_are) p.3) in

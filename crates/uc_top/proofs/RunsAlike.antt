@@ -14,7 +14,7 @@ answers_alike one_search files before now again later words s _ a _ alone v n w 
 answers_alike one_search files before now again later words s t a b alone v n w m (is_answer x) (is_answer y) = answer_once files before now again later one_search words alone (λ five rose. v five) (λ five rose. w five) x y
 
 -- a run that doesn't end with status 6 told its sink everything
-told_all : {old new : Option (List ℕ)} {before now : ℕ} {text : List ℕ} {status result : ℕ} → (result ≡ 6 → ⊥) → IsTold old new before now text status result → Appends old new text × (result ≡ status)
+pub told_all : {old new : Option (List ℕ)} {before now : ℕ} {text : List ℕ} {status result : ℕ} → (result ≡ 6 → ⊥) → IsTold old new before now text status result → Appends old new text × (result ≡ status)
 told_all n (told whole) = (whole, refl)
 told_all n (cut_short short part rose) = absurd (n refl)
 

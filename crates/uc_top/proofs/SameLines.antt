@@ -25,7 +25,7 @@ use Rattle.uc_top.proofs.OrderedAnswers.{is_signature}
 use Rattle.uc_top.proofs.VariableWeights.{w0_within}
 
 -- the reply at its number is right
-right_at : {m : Meaning} {axioms : List Equation} {questions : List (Tree × Tree)} {replies : List Reply} (i : ℕ) (sides : Tree × Tree) (reply : Reply) → AreRight m axioms questions replies → slice_get questions i ≡ Some sides → slice_get replies i ≡ Some reply → IsRight m axioms sides.0 sides.1 reply
+pub right_at : {m : Meaning} {axioms : List Equation} {questions : List (Tree × Tree)} {replies : List Reply} (i : ℕ) (sides : Tree × Tree) (reply : Reply) → AreRight m axioms questions replies → slice_get questions i ≡ Some sides → slice_get replies i ≡ Some reply → IsRight m axioms sides.0 sides.1 reply
 right_at i sides reply none_is_wrong at there = absurd cc
 right_at {m} {axioms} zero sides reply (one_is_right {sides = first} {reply = other} r rest) at there =
     let asked : first ≡ sides = cc in
@@ -34,18 +34,18 @@ right_at {m} {axioms} zero sides reply (one_is_right {sides = first} {reply = ot
 right_at (suc i) sides reply (one_is_right r rest) at there = right_at i sides reply rest at there
 
 -- what an answered line says
-record IsToldLine (table : Table) (axioms : List Equation) (spec : OrderSpec) (sides : Tree × Tree) (line : List ℕ) : Type 0 where
+pub record IsToldLine (table : Table) (axioms : List Equation) (spec : OrderSpec) (sides : Tree × Tree) (line : List ℕ) : Type 0 where
   pub reply : Reply
   pub right : IsRight (meaning_of table spec) axioms sides.0 sides.1 reply
   pub verdict : IsVerdict reply
   pub line_is : line ≡ reply_line table reply
 
-told_at : {table : Table} {command : Command} {name : List ℕ} {problem : Problem} {spec : OrderSpec} {questions : List (Tree × Tree)} {status : ℕ} {answer : List ℕ} (told : IsAnswered table command problem spec questions status answer ⊎ IsOut table command name problem spec status answer) (i : ℕ) (sides : Tree × Tree) (line : List ℕ) → slice_get questions i ≡ Some sides → TellsLine told i line → IsToldLine table (axioms_of problem.clauses) spec sides line
+pub told_at : {table : Table} {command : Command} {name : List ℕ} {problem : Problem} {spec : OrderSpec} {questions : List (Tree × Tree)} {status : ℕ} {answer : List ℕ} (told : IsAnswered table command problem spec questions status answer ⊎ IsOut table command name problem spec status answer) (i : ℕ) (sides : Tree × Tree) (line : List ℕ) → slice_get questions i ≡ Some sides → TellsLine told i line → IsToldLine table (axioms_of problem.clauses) spec sides line
 told_at (inl answered) i sides line at (reply, there, verdict, is) = record { reply = reply; right = right_at i sides reply answered.are_right at there; verdict = verdict; line_is = is }
 told_at (inr out) i sides line at tells = absurd tells
 
 -- in one table, by the same axioms and the same order
-one_told : (table : Table) (axioms : List Equation) (spec : OrderSpec) → Laws (meaning_of table spec) → (sides : Tree × Tree) (m n : List ℕ) → IsToldLine table axioms spec sides m → IsToldLine table axioms spec sides n → m ≡ n
+pub one_told : (table : Table) (axioms : List Equation) (spec : OrderSpec) → Laws (meaning_of table spec) → (sides : Tree × Tree) (m n : List ℕ) → IsToldLine table axioms spec sides m → IsToldLine table axioms spec sides n → m ≡ n
 one_told table axioms spec laws sides m n a b =
     let replies : a.reply ≡ b.reply = one_verdict (meaning_of table spec) laws axioms sides.0 sides.1 a.reply b.reply a.right b.right a.verdict b.verdict in
     a.line_is ∙ ap (reply_line table) replies ∙ sym b.line_is

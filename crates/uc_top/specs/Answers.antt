@@ -1,5 +1,5 @@
 -- What the program answers: its status and its text, for the words of the command line and the files of a library.
-use Rattle.std.specs.Prelude.{ℕ, ◌≡◌, List, [], ◌∷◌, codes, slice_get, Option, Some, Ok, Err}
+use Rattle.std.specs.Prelude.{ℕ, ◌≡◌, List, [], ◌∷◌, codes, slice_get, Option, Some, None, Ok, Err}
 use Rattle.uc_term.specs.declared.fresh.Fresh.{Fresh}
 use Rattle.uc_term.specs.Table.{Table, IsDistinct}
 use Rattle.uc_edge.specs.Files.{Files}
@@ -31,7 +31,9 @@ use Rattle.uc_top.specs.Loaded.{IsLoaded}
 use Rattle.uc_top.specs.FileAnswers.{FileAnswers}
 use Rattle.uc_top.specs.TableAnswers.{TableTextAnswers}
 use Rattle.uc_top.specs.ModelAnswers.{IsModelled}
-use Rattle.uc_top.specs.CertifyAnswers.{CertificateAnswers}
+use Rattle.uc_top.specs.CertificateAnswers.{CertificateAnswers}
+use Rattle.uc_top.specs.CertifyAnswers.{IsCertifiedAnswer}
+use Rattle.uc_top.specs.SystemAnswers.{IsAskedCertificate}
 use Rattle.uc_top.specs.GenAnswers.{GenAnswers}
 use Rattle.uc_top.specs.OrderAnswers.{IsOrdered}
 use Rattle.uc_top.specs.RewriteAnswers.{IsRewritten}
@@ -43,16 +45,17 @@ abbrev pub checked_status : Checked → ℕ
 checked_status Accepted = 0
 checked_status (Rejected line cause) = 1
 
--- the commands that search, by as many workers as the words ask for
-abbrev pub IsSearching : Verb → Type 0
-IsSearching verb.Prove = Unit {0}
-IsSearching verb.Decide = Unit {0}
-IsSearching verb.Gen = Unit {0}
-IsSearching other = ⊥
+-- the commands that search, by as many workers as the words ask for; `decide` is none where it is given a certificate
+abbrev pub IsSearching : Verb → Option (List ℕ) → Type 0
+IsSearching verb.Prove system = Unit {0}
+IsSearching verb.Decide None = Unit {0}
+IsSearching verb.Decide (Some file) = ⊥
+IsSearching verb.Gen system = Unit {0}
+IsSearching other system = ⊥
 
 -- where the words name a command that searches, they ask for one worker
 abbrev pub SearchesAlone : List (List ℕ) → Type 0
-SearchesAlone words = (command : Command) → Reads words command → IsSearching command.verb → command.workers ≡ 1
+SearchesAlone words = (command : Command) → Reads words command → IsSearching command.verb command.system → command.workers ≡ 1
 
 -- Symbols are those of this table.
 module _ (table : Table) where
@@ -109,7 +112,7 @@ module _ (holds : Option Files) (before now : ℕ) where
   abbrev pub PairsAnswers : OrderWords → Option (List ℕ) → List ℕ → ℕ → List ℕ → Type 0
   PairsAnswers order root name = LoadAnswers (λ table. IsPaired table order) root name
 
-  -- the answer to `decide` for the problem file of this name and these questions
+  -- the answer to `decide` for the problem file of this name and these questions, by a search
   abbrev pub DecideAnswers : Command → List ℕ → List (List ℕ) → ℕ → List ℕ → Type 0
   DecideAnswers command name questions = LoadAnswers (λ table. IsDecided table command name questions) command.root name
 
@@ -123,9 +126,14 @@ module _ (holds : Option Files) (before now : ℕ) where
 
   -- the answer to `certify` for the problem file and the certificate file of these names, with this root
   abbrev pub CertifyAnswers : Option (List ℕ) → List ℕ → List ℕ → ℕ → List ℕ → Type 0
-  CertifyAnswers root name file = LoadAnswers (CertificateAnswers holds before now file) root name
+  CertifyAnswers root name file = LoadAnswers (CertificateAnswers IsCertifiedAnswer holds before now file) root name
 
-  -- the answer to the words of a command line; each command has a case
+  -- the answer to `decide` for the problem file of this name and these questions, by the certificate file of this name, with this limit
+  -- on the steps and with this root
+  abbrev pub SystemAnswers : ℕ → List (List ℕ) → List ℕ → Option (List ℕ) → List ℕ → ℕ → List ℕ → Type 0
+  SystemAnswers steps questions file root name = LoadAnswers (λ loaded problem. CertificateAnswers (IsAskedCertificate steps questions problem) holds before now file loaded problem) root name
+
+  -- the answer to the words of a command line; each command has a case, `decide` one by a search and one by a certificate
   module _ (words : List (List ℕ)) where
     pub data Answers : ℕ → List ℕ → Type 0 where
       has_no_reading : ((command : Command) → Reads words command → ⊥) → Answers 4 usage_line
@@ -135,7 +143,8 @@ module _ (holds : Option Files) (before now : ℕ) where
       rewrites : {command : Command} {name word : List ℕ} {status : ℕ} {answer : List ℕ} → Reads words command → command.verb ≡ verb.Rewrite → command.positionals ≡ name ∷ word ∷ [] → RewriteAnswers command.order command.limit word command.root name status answer → Answers status answer
       pairs_up : {command : Command} {name : List ℕ} {status : ℕ} {answer : List ℕ} → Reads words command → command.verb ≡ verb.Pairs → command.positionals ≡ name ∷ [] → PairsAnswers command.order command.root name status answer → Answers status answer
       proves : {command : Command} {name : List ℕ} {status : ℕ} {answer : List ℕ} → Reads words command → command.verb ≡ verb.Prove → command.positionals ≡ name ∷ [] → ProveAnswers command name holds before now status answer → Answers status answer
-      decides : {command : Command} {name : List ℕ} {questions : List (List ℕ)} {status : ℕ} {answer : List ℕ} → Reads words command → command.verb ≡ verb.Decide → command.positionals ≡ name ∷ questions → DecideAnswers command name questions status answer → Answers status answer
+      decides : {command : Command} {name : List ℕ} {questions : List (List ℕ)} {status : ℕ} {answer : List ℕ} → Reads words command → command.verb ≡ verb.Decide → command.system ≡ None → command.positionals ≡ name ∷ questions → DecideAnswers command name questions status answer → Answers status answer
+      decides_by_certificate : {command : Command} {name file : List ℕ} {questions : List (List ℕ)} {status : ℕ} {answer : List ℕ} → Reads words command → command.verb ≡ verb.Decide → command.system ≡ Some file → command.positionals ≡ name ∷ questions → SystemAnswers command.steps questions file command.root name status answer → Answers status answer
       tables : {command : Command} {name file : List ℕ} {status : ℕ} {answer : List ℕ} → Reads words command → command.verb ≡ verb.Table → command.positionals ≡ name ∷ file ∷ [] → TableAnswers command.root name file status answer → Answers status answer
       models : {command : Command} {name : List ℕ} {status : ℕ} {answer : List ℕ} → Reads words command → command.verb ≡ verb.Model → command.positionals ≡ name ∷ [] → ModelAnswers command name status answer → Answers status answer
       certifies : {command : Command} {name file : List ℕ} {status : ℕ} {answer : List ℕ} → Reads words command → command.verb ≡ verb.Certify → command.positionals ≡ name ∷ file ∷ [] → CertifyAnswers command.root name file status answer → Answers status answer

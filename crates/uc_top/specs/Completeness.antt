@@ -10,6 +10,7 @@ use Rattle.uc_top.specs.DecideRuns.{CompletesDecide}
 use Rattle.uc_top.specs.TableRuns.{CompletesTable}
 use Rattle.uc_top.specs.ModelRuns.{CompletesModel}
 use Rattle.uc_top.specs.CertifyRuns.{CompletesCertify}
+use Rattle.uc_top.specs.SystemRuns.{CompletesSystem}
 use Rattle.uc_top.specs.GenRuns.{CompletesGen}
 
 -- Where no fetch and no write fails, no command gives up: for words and files that a command accepts, its answer is told with its
@@ -22,6 +23,7 @@ pub record IsComplete (files : Files) (words : List (List ℕ)) (old new : Optio
   pub pairs : CompletesPairs files words old new result
   pub prove : CompletesProve files words old new result
   pub decide : CompletesDecide files words old new result
+  pub system : CompletesSystem files words old new result
   pub table : CompletesTable files words old new result
   pub model : CompletesModel files words old new result
   pub certify : CompletesCertify files words old new result

@@ -86,13 +86,14 @@ pub record KeepsDecision (files : Files) (command : Command) (name : List ℕ) (
   pub distinct : IsDistinct table
   pub is_decided : IsDecidedBy table files command name words status answer
 
--- So it is where the command is `decide`.
+-- So it is where the command is `decide` and is given no certificate.
 abbrev pub KeepsDecideCommand : Files → Command → ℕ → List ℕ → Type 0
-KeepsDecideCommand files command status answer = (name : List ℕ) (words : List (List ℕ)) → command.positionals ≡ name ∷ words → KeepsDecision files command name words status answer
+KeepsDecideCommand files command status answer = (name : List ℕ) (words : List (List ℕ)) → command.system ≡ None → command.positionals ≡ name ∷ words → KeepsDecision files command name words status answer
 
--- So it is of a run whose words are those of `decide`, and that ends with status 0, 1 or 2: the sink was given such an answer.
+-- So it is of a run whose words are those of `decide` without a certificate, and that ends with status 0, 1 or 2: the sink was given such
+-- an answer.
 abbrev pub KeepsDecideWord : Files → List (List ℕ) → Option (List ℕ) → Option (List ℕ) → ℕ → Type 0
-KeepsDecideWord files all old new result = (command : Command) (name : List ℕ) (words : List (List ℕ)) → Reads all command → command.verb ≡ Decide → command.positionals ≡ name ∷ words → result ≤ 2 → (answer : List ℕ) × KeepsDecision files command name words result answer × Appends old new answer
+KeepsDecideWord files all old new result = (command : Command) (name : List ℕ) (words : List (List ℕ)) → Reads all command → command.verb ≡ Decide → command.system ≡ None → command.positionals ≡ name ∷ words → result ≤ 2 → (answer : List ℕ) × KeepsDecision files command name words result answer × Appends old new answer
 
 -- ONE LINE FOR A QUESTION
 
@@ -143,7 +144,7 @@ pub record DecideEnds (table : Table) (files : Files) (command : Command) (name 
   -- one is none
   pub no_question : (number : ℕ) (why : WordFault) → IsFirstFault table problem.signature.symbols words number why → (why ≡ NoMemory → ⊥) → EndsWith 3 (word_line number why) old new result
 
--- Where the words of `decide` name an order for a problem that the files hold, `decide` ends so, with the problem's
--- symbols in the table that loading it leaves.
+-- Where the words of `decide` give no certificate and name an order for a problem that the files hold, `decide` ends so, with the
+-- problem's symbols in the table that loading it leaves.
 abbrev pub CompletesDecide : Files → List (List ℕ) → Option (List ℕ) → Option (List ℕ) → ℕ → Type 0
-CompletesDecide files all old new result = (command : Command) (name : List ℕ) (words : List (List ℕ)) (table : Table) (problem : Problem) (spec : OrderSpec) → Reads all command → command.verb ≡ Decide → command.positionals ≡ name ∷ words → IsDistinct table → IsLoaded files command.root name table problem → IsChosen table problem.signature command.order None spec → DecideEnds table files command name problem words old new result
+CompletesDecide files all old new result = (command : Command) (name : List ℕ) (words : List (List ℕ)) (table : Table) (problem : Problem) (spec : OrderSpec) → Reads all command → command.verb ≡ Decide → command.system ≡ None → command.positionals ≡ name ∷ words → IsDistinct table → IsLoaded files command.root name table problem → IsChosen table problem.signature command.order None spec → DecideEnds table files command name problem words old new result

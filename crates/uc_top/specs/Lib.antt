@@ -7,11 +7,14 @@ pub mod DecideAnswers
 pub mod FileAnswers
 pub mod TableAnswers
 pub mod ModelAnswers
+pub mod CertificateAnswers
 pub mod CertifyAnswers
+pub mod SystemAnswers
 pub mod GenLines
 pub mod GenAnswers
 pub mod Told
 pub mod Faulting
+pub mod CertificateTested
 pub mod Answers
 pub mod Runs
 pub mod Given
@@ -25,6 +28,8 @@ pub mod GenTold
 pub mod TableRuns
 pub mod ModelRuns
 pub mod CertifyRuns
+pub mod SystemRuns
+pub mod SharedOrders
 pub mod GenRuns
 pub mod Completeness
 pub mod Headline

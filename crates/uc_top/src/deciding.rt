@@ -1,15 +1,11 @@
-//! The command `decide`.
+//! The command `decide` by a search.
 
-ghost use Rattle.std.specs.Prelude.{◌≡◌, ◌≤◌, List, [], Some, IfOk};
-ghost use Rattle.uc_term.specs.declared.equation.Equation.{Equation as AnyEquation};
+ghost use Rattle.std.specs.Prelude.{◌≡◌, ◌≤◌, [], Some, IfOk};
 ghost use Rattle.uc_edge.specs.Files.{Files};
 ghost use Rattle.uc_check.specs.Clauses.{axioms_of};
 ghost use Rattle.uc_problem.specs.Holds.{Agrees};
 ghost use Rattle.uc_order.specs.Laws.{HasSym};
 ghost use Rattle.uc_fact.specs.Ground.{AreOfSignature};
-ghost use Rattle.uc_fact.specs.Live.{numbered};
-ghost use Rattle.uc_decide.specs.declared.reply.Reply.{Reply as AnyReply};
-ghost use Rattle.uc_decide.specs.Deciding.{Decides};
 ghost use Rattle.uc_book.specs.Openings.{opening_of};
 ghost use Rattle.uc_worker.specs.Ends.{IsSearchedBy};
 ghost use Rattle.uc_ordering.specs.Fits.{Fits};
@@ -17,8 +13,7 @@ ghost use Rattle.uc_ordering.specs.Meaning.{meaning_of};
 ghost use Rattle.uc_answer.specs.Lines.{joined};
 ghost use Rattle.uc_answer.specs.QuestionWords.{AreShort};
 ghost use Rattle.uc_answer.specs.VerdictLines.{opening_for};
-ghost use Rattle.uc_answer.specs.ReplyLines.{AreReplies, replies_status, reply_lines};
-ghost use Rattle.uc_answer.specs.RightReplies.{AreGroundQuestions, AreRight};
+ghost use Rattle.uc_answer.specs.RightReplies.{AreGroundQuestions};
 ghost use Rattle.uc_top.specs.DecideAnswers.{opening_of_axioms, IsDecided};
 ghost use Rattle.uc_top.specs.Answers.{DecideAnswers};
 ghost use Rattle.uc_top.specs.DecideRuns.{Decided, KeepsDecision};
@@ -27,16 +22,15 @@ ghost use Rattle.uc_top.specs.Faulting.{AnswersFault};
 
 use crate::axioms::without_goals;
 use crate::loading::bytes_of;
+use crate::replying::replied_answer;
 use std::alloc::{AllocError, Global};
 use std::sync::Wait;
 use std::thread::Threads;
 use uc_answer::{
-    Answer, Question, STOPPED, choice_answer, load_answer, out_lines, read_questions, replies,
-    replies_status, reply_lines, word_answer,
+    Answer, Question, STOPPED, choice_answer, load_answer, out_lines, read_questions, word_answer,
 };
 use uc_book::Book;
 use uc_edge::{Gate, Library};
-use uc_fact::System;
 use uc_machine::Verdict;
 use uc_order::{Order, OrderSpec};
 use uc_ordering::{Chosen, choose};
@@ -261,46 +255,20 @@ fn closed_answer<R: Threads + Sync, O: Order + Sync, G: Gate + Sync>(
     match verdict {
         Verdict::Saturated => {
             let system = live_system(alloc, shelf, book.front())?;
-            replied_answer(rt, alloc, asked, order, &system, gate)
+            replied_answer(
+                rt,
+                alloc,
+                asked.command,
+                asked.questions,
+                asked.symbols,
+                order,
+                &system,
+                gate,
+            )
         }
         _ => Ok(Answer {
             status: STOPPED,
             lines: out_lines(alloc, asked.command, asked.name, shelf, book, verdict)?,
         }),
     }
-}
-
-/// The answer by a system that decides what follows from axioms: a reply to each question.
-fn replied_answer<R: Threads + Sync, O: Order + Sync, G: Gate + Sync>(
-    rt: &R,
-    alloc: Global,
-    asked: &Asked,
-    order: &O,
-    system: &System,
-    gate: &G,
-) -> Result<Answer, AllocError>
-    requires some_workers { 1 ≤ asked.now.command.now.workers }
-    requires few_workers { asked.now.command.now.workers ≤ 64 }
-    requires over { AreOfSignature (HasSym (O.meaning order.now)) (O.meaning order.now).arity system.now.facts }
-    requires ground { AreGroundQuestions (O.meaning order.now) asked.now.questions.now }
-    requires of_table { AreGroundOfTable asked.now.symbols.now (O.meaning order.now) }
-    requires decides { (axioms : List AnyEquation) × Decides (O.meaning order.now) system.now.facts axioms }
-    ensures { (axioms : List AnyEquation) → Decides (O.meaning order.now) system.now.facts axioms → IfOk result (λ answer. (replies : List AnyReply) × AreReplies (O.meaning order.now) (numbered system.now.facts) asked.now.command.now.steps asked.now.questions.now replies × AreRight (O.meaning order.now) axioms asked.now.questions.now replies × (answer.status ≡ replies_status replies) × (joined answer.lines ≡ reply_lines asked.now.symbols.now replies)) }
-{
-    let command = asked.command;
-    let replies = replies(
-        rt,
-        alloc,
-        system,
-        order,
-        asked.questions,
-        command.steps,
-        command.workers,
-        gate,
-    )?;
-    let lines = reply_lines(alloc, replies.as_slice(), asked.symbols)?;
-    Ok(Answer {
-        status: replies_status(replies.as_slice()),
-        lines,
-    })
 }

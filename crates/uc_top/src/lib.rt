@@ -2,9 +2,11 @@
 #![tactic(auto)]
 
 mod axioms;
+mod certificates;
 mod certifying;
 mod checking;
 mod deciding;
+mod deciding_by_certificate;
 mod gen_lines;
 mod generating;
 mod laws;
@@ -15,12 +17,14 @@ mod output;
 mod pairing;
 mod program;
 mod proving;
+mod replying;
 mod rewriting;
 mod showing;
 mod tabling;
 
 pub use laws::{
-    chosen_order_fits, one_answer, one_history, one_line, one_number, one_run, searches_are_short,
+    chosen_order_fits, one_answer, one_history, one_line, one_line_by_certificate, one_number,
+    one_run, one_system, searches_are_short,
 };
 pub use output::tell_memory_out;
 pub use program::run;

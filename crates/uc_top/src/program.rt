@@ -26,6 +26,7 @@ ghost use Rattle.uc_top.specs.Headline.{Headline};
 use crate::certifying::certify_answer;
 use crate::checking::check_answer;
 use crate::deciding::decide_answer;
+use crate::deciding_by_certificate::system_answer;
 use crate::generating::gen_answer;
 use crate::modelling::model_answer;
 use crate::ordering::order_answer;
@@ -60,7 +61,9 @@ use uc_words::{Command, Verb, WordsFault, read_words};
 /// where the order is refused; else 3. For `decide` it is 0 where each question has its line, `equal` where its
 /// equation follows from the axioms and `different` where it doesn't, with the least terms to which its sides are equal; 2
 /// where a question stays open, since its steps are spent or a term grew too large, or where the text names the budget, the
-/// limit on pairs or the size that ended the search; 4 where the order is refused; else 3. For `table` it is 0 where the table
+/// limit on pairs or the size that ended the search; 4 where the order is refused; else 3. With `--system` nothing is searched: the status
+/// is 0 or 2 where each question has its line, by a certificate file whose certificate passes all tests; 1 where the certificate fails a test,
+/// the first of which is told; else 3. For `table` it is 0 where the table
 /// file has a table that is a model of the problem, so that none of the problem's goals follows from its axioms; 1 where an axiom
 /// fails in it, or the sides of a goal meet, under the assignment that is told; else 3. For `model` it is 0 where a table up to the
 /// size is a model of the problem, so that none of its goals follows, while none of a smaller size is one, and the text is that table;
@@ -77,7 +80,8 @@ use uc_words::{Command, Verb, WordsFault, read_words};
 /// again where the sink took less. At most one write fails, and it ends the call with status 6.
 ///
 /// `prove`, `decide` and `gen` search by as many workers as the words ask for. One worker searches in this thread. Of more, each has a thread,
-/// which ends before the call does, and passes the gate between the draw of a task and its computation.
+/// which ends before the call does, and passes the gate between the draw of a task and its computation. `decide` also shares its questions
+/// out among so many workers: each passes the gate before it answers one.
 pub fn run<R: Threads + Wait + Sync, L: Library, S: Sink, G: Gate + Sync>(
     rt: &R,
     alloc: Global,
@@ -255,7 +259,12 @@ fn decide_command<R: Threads + Wait + Sync, L: Library, G: Gate + Sync>(
     ensures faulted { AnswersFault (L.faults library.old) (L.faults library.new) (L.failed_at library.old) (L.failed_at library.new) (fault_opening command.now) result }
 {
     match command.positionals.as_slice() {
-        [name, questions @ ..] => decide_answer(rt, alloc, command, name, questions, library, gate),
+        [name, questions @ ..] => match &command.system {
+            None => decide_answer(rt, alloc, command, name, questions, library, gate),
+            Some(file) => {
+                system_answer(rt, alloc, command, file, name, questions, library, gate)
+            }
+        },
         _ => unreachable!(),
     }
 }

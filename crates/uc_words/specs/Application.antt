@@ -36,6 +36,7 @@ key_name key.Budget = codes "budget"
 key_name key.Pairs = codes "pairs"
 key_name key.Workers = codes "workers"
 key_name key.Steps = codes "steps"
+key_name key.System = codes "system"
 key_name key.Limit = codes "limit"
 key_name key.Size = codes "size"
 key_name key.Trace = codes "trace"
@@ -45,7 +46,7 @@ abbrev pub all_verbs : List Verb
 all_verbs = verb.Prove ∷ verb.Check ∷ verb.Decide ∷ verb.Show ∷ verb.Rewrite ∷ verb.Order ∷ verb.Pairs ∷ verb.Gen ∷ verb.Table ∷ verb.Model ∷ verb.Certify ∷ []
 
 abbrev pub all_keys : List Key
-all_keys = key.Root ∷ key.Order ∷ key.Precedence ∷ key.Weights ∷ key.W0 ∷ key.Budget ∷ key.Pairs ∷ key.Workers ∷ key.Steps ∷ key.Limit ∷ key.Size ∷ key.Trace ∷ key.Certificate ∷ []
+all_keys = key.Root ∷ key.Order ∷ key.Precedence ∷ key.Weights ∷ key.W0 ∷ key.Budget ∷ key.Pairs ∷ key.Workers ∷ key.Steps ∷ key.System ∷ key.Limit ∷ key.Size ∷ key.Trace ∷ key.Certificate ∷ []
 
 -- an option takes one value, a flag none, and neither may stand twice
 abbrev pub action_for : Bool → ArgAction

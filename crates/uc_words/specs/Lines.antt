@@ -86,10 +86,11 @@ place key.Budget = 5
 place key.Pairs = 6
 place key.Workers = 7
 place key.Steps = 8
-place key.Limit = 9
-place key.Size = 10
-place key.Trace = 11
-place key.Certificate = 12
+place key.System = 9
+place key.Limit = 10
+place key.Size = 11
+place key.Trace = 12
+place key.Certificate = 13
 
 abbrev pub same : Key → Key → Bool
 same a b = place a == place b

@@ -24,7 +24,7 @@ const VERBS: [Verb; 11] = [
     Verb::Certify,
 ];
 
-const KEYS: [Key; 13] = [
+const KEYS: [Key; 14] = [
     Key::Root,
     Key::Order,
     Key::Precedence,
@@ -34,6 +34,7 @@ const KEYS: [Key; 13] = [
     Key::Pairs,
     Key::Workers,
     Key::Steps,
+    Key::System,
     Key::Limit,
     Key::Size,
     Key::Trace,
@@ -73,6 +74,7 @@ pub fn key_name<'a>(key: Key) -> &'a str
         Key::Pairs => "pairs",
         Key::Workers => "workers",
         Key::Steps => "steps",
+        Key::System => "system",
         Key::Limit => "limit",
         Key::Size => "size",
         Key::Trace => "trace",

@@ -5,7 +5,7 @@ ghost use Rattle.std.specs.List.{list_all};
 ghost use Rattle.uc_words.specs.Application.{canonical_of, verb_name};
 ghost use Rattle.uc_words.specs.Lines.{Gives, Line, is_once, value, stands};
 ghost use Rattle.uc_words.specs.Names.{AreNames, AreWeights, Told};
-ghost use Rattle.uc_words.specs.Reads.{is_printable, is_clean, is_within, limited, order_named, is_alone, AreOptional, IsOrder, numbers_fit, is_fit, says, IsCommand, Reads};
+ghost use Rattle.uc_words.specs.Reads.{is_printable, is_clean, is_within, limited, order_named, is_alone, guides_search, system_fits, AreOptional, IsOrder, numbers_fit, is_fit, says, IsCommand, Reads};
 ghost use Rattle.uc_words.specs.Shown.{AreMatches, IsCanonical, AreFlags, IsFaultOf, IsMatch, StandFor, given_of, line_of, positionals_of};
 ghost use Rattle.uc_words.specs.Sorted.{GivesAs};
 ghost use Rattle.uc_words.specs.Table.{is_flag};
@@ -163,6 +163,25 @@ fn is_alone(lpo: bool, found: &ArgMatches<'_>) -> bool
     !(lpo && (stands(Key::Weights, found) || stands(Key::W0, found)))
 }
 
+// Whether an option stands that only a search reads.
+fn guides_search(found: &ArgMatches<'_>) -> bool
+    ensures { result ≡ guides_search (given_of found.now) }
+{
+    stands(Key::Order, found)
+        || stands(Key::Precedence, found)
+        || stands(Key::Weights, found)
+        || stands(Key::W0, found)
+        || stands(Key::Budget, found)
+        || stands(Key::Pairs, found)
+}
+
+// Whether no option of a search stands beside a certificate.
+fn system_fits(found: &ArgMatches<'_>) -> bool
+    ensures { result ≡ system_fits (given_of found.now) }
+{
+    !(stands(Key::System, found) && guides_search(found))
+}
+
 // The options on the order.
 fn order_words(alloc: Global, found: &ArgMatches<'_>) -> Result<OrderWords, WordsFault>
     ensures { Told (IsOrder (given_of found.now)) result }
@@ -223,7 +242,7 @@ fn command(alloc: Global, verb: Verb, found: &ArgMatches<'_>) -> Result<Command,
     ensures { Told (IsCommand verb (line_of found.now)) result }
 {
     let positionals = positionals_of(alloc, found)?;
-    if !is_fit(verb, found, positionals.as_slice()) {
+    if !is_fit(verb, found, positionals.as_slice()) || !system_fits(found) {
         return Err(WordsFault::Usage);
     }
     let budget = limited(value(Key::Budget, found), 0, 10_000_000, 100_000)?;
@@ -233,11 +252,13 @@ fn command(alloc: Global, verb: Verb, found: &ArgMatches<'_>) -> Result<Command,
     let limit = limited(value(Key::Limit, found), 0, 10_000_000, 4_096)?;
     let size = limited(value(Key::Size, found), 1, 8, 4)?;
     let root = optional_text(alloc, value(Key::Root, found))?;
+    let system = optional_text(alloc, value(Key::System, found))?;
     let order = order_words(alloc, found)?;
     Ok(Command {
         verb,
         positionals,
         root,
+        system,
         order,
         budget,
         pairs,
@@ -331,7 +352,7 @@ fn are_clean(words: &[String]) -> bool
 ///
 /// The first word is the command. Items follow in any order: options as `--name value` or `--name=value`, the flags
 /// `--trace` and `--certificate`, and positionals; after a word `--` all words are positionals. `Usage` comes exactly where the words have
-/// no reading: an item that the command doesn't have, an option that stands twice, a value that is missing, empty or not
+/// no reading: an item that the command doesn't have, an option that stands twice, an option of a search beside `--system`, a value that is missing, empty or not
 /// allowed, a value that is a word of its own and begins with a dash, too few or too many positionals, an empty one, or
 /// a word with a byte outside 32 to 126 or with 2^31 bytes or more.
 pub fn read_words(alloc: Global, words: &[String]) -> Result<Command, WordsFault>

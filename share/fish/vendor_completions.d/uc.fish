@@ -21,6 +21,7 @@ complete -c uc -n '__fish_seen_subcommand_from prove decide gen model' -l budget
 complete -c uc -n '__fish_seen_subcommand_from prove decide gen' -l pairs -d 'pairs that may wait' -x
 complete -c uc -n '__fish_seen_subcommand_from prove decide gen' -l workers -d 'workers that search at once; with one, two runs print the same' -x
 complete -c uc -n '__fish_seen_subcommand_from decide' -l steps -d 'rewrite steps that one question may take' -x
+complete -c uc -n '__fish_seen_subcommand_from decide' -l system -d 'a certificate, checked as by certify, whose saturated system answers in the place of a search; no option of the order, no --budget and no --pairs stands beside it' -r -F
 complete -c uc -n '__fish_seen_subcommand_from rewrite' -l limit -d 'rewrite steps' -x
 complete -c uc -n '__fish_seen_subcommand_from model' -l size -d 'greatest size of a table' -x
 complete -c uc -n '__fish_seen_subcommand_from prove' -l trace -d 'prints the history of the search after the answer'

@@ -1,11 +1,12 @@
 use Rattle.std.proofs.Common.{[]}
+use Rattle.uc_top.specs.CertifyAnswers.{IsCertifiedAnswer}
 use Rattle.uc_top.proofs.Answering.{refused_answers}
 use Rattle.uc_top.proofs.CertifiedAnswers.{loaded_certificate}
 use Rattle.uc_top.proofs.Faulted.{load_failed, later_failed}
 use Rattle.uc_top.proofs.certifying.load_and_certify.Goals as goal
 
 pub returns-in-Ok-clause-answers : goal.returns-in-Ok-clause-answers
-returns-in-Ok-clause-answers g c = loaded_certificate c.args.symbols.now c.load.new.symbols _ _ _ _ _ _ c.args.name.now c.args.file.now c.in-Ok.problem c.problem_answer.result c.requires.empty c.load.ensures.same c.load.ensures.later (rw c.in-Ok.is at c.load.ensures.distinct) (rw c.in-Ok.is at c.load.ensures.filled) (rw c.in-Ok.is at c.load.ensures.problem) c.problem_answer.ensures.answers
+returns-in-Ok-clause-answers g c = loaded_certificate (λ problem. IsCertifiedAnswer) c.args.symbols.now c.load.new.symbols _ _ _ _ _ _ c.args.name.now c.args.file.now c.in-Ok.problem c.problem_answer.result c.requires.empty c.load.ensures.same c.load.ensures.later (rw c.in-Ok.is at c.load.ensures.distinct) (rw c.in-Ok.is at c.load.ensures.filled) (rw c.in-Ok.is at c.load.ensures.problem) c.problem_answer.ensures.answers
 
 pub returns-in-Err-clause-answers : goal.returns-in-Err-clause-answers
 returns-in-Err-clause-answers g c = refused_answers c.args.symbols.now c.load.new.symbols c.requires.empty _ _ _ _ c.args.name.now _ c.in-Err.fault c.load_answer.result (rw c.in-Err.is at c.load.ensures.refused) (rw c.in-Err.is at c.load.ensures.stopped) c.load_answer.ensures.answer c.load_answer.ensures.not_memory

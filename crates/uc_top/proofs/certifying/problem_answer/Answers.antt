@@ -1,17 +1,15 @@
-use Rattle.std.proofs.Common.{[], refl}
-use Rattle.uc_top.proofs.Answering.{large_within}
-use Rattle.uc_top.proofs.CertifiedAnswers.{large_answers, encoded_answers}
+use Rattle.std.proofs.Common.{[]}
+use Rattle.uc_top.specs.CertifyAnswers.{IsCertifiedAnswer}
+use Rattle.uc_top.proofs.CertifiedAnswers.{refused_answers}
+use Rattle.uc_top.proofs.CertifyCompleting.{refusal_certified, certified_passed}
 use Rattle.uc_top.proofs.Faulted.{none_failed}
 use Rattle.uc_top.proofs.certifying.problem_answer.Goals as goal
 
-pub bounds-clauses-number : goal.bounds-clauses-number
-bounds-clauses-number g c = rw (c.as_slice-clauses.ensures) (large_within c.encode.new.symbols c.args.problem.now c.in-Err-GoalTooLarge.number (rw (c.in-Err-GoalTooLarge.is, c.in-Err-GoalTooLarge.field-0-is) at c.encode.ensures.encoded))
+pub returns-in-Refused-clause-answers : goal.returns-in-Refused-clause-answers
+returns-in-Refused-clause-answers g c = refused_answers IsCertifiedAnswer _ _ _ c.args.file.now c.args.symbols.now c.args.problem.now refusal_certified c.in-Refused.answer.status _ (rw c.in-Refused.is at c.in_ok-answer.ensures.tested)
 
-pub returns-in-Ok-clause-answers : goal.returns-in-Ok-clause-answers
-returns-in-Ok-clause-answers g c = encoded_answers c.args.symbols.now c.encode.new.symbols _ _ _ c.args.problem.now c.args.file.now c.in-Ok.encoded c.file_answer.result c.len.ensures.distinct (rw c.in-Ok.is at c.encode.ensures.adds) (rw c.in-Ok.is at c.encode.ensures.encoded) (rw c.as_slice-clauses.ensures at c.file_answer.ensures.answers)
+pub returns-in-Passed-clause-answers : goal.returns-in-Passed-clause-answers
+returns-in-Passed-clause-answers g c = certified_passed _ _ _ c.args.file.now c.args.symbols.now c.args.problem.now c.test_certificate.new.symbols c.in-Passed.certificate c.certified_answer.result (rw c.in-Passed.is at c.in_ok-answer.ensures.tested) c.certified_answer.ensures
 
-pub returns-in-Err-GoalTooLarge-clause-answers : goal.returns-in-Err-GoalTooLarge-clause-answers
-returns-in-Err-GoalTooLarge-clause-answers g c = large_answers c.args.symbols.now c.encode.new.symbols _ _ _ c.args.problem.now c.args.file.now c.in-Err-GoalTooLarge.number c.index-clauses-number.result c.large_answer.result (rw (c.in-Err-GoalTooLarge.is, c.in-Err-GoalTooLarge.field-0-is) at c.encode.ensures.encoded) (rw c.as_slice-clauses.ensures at c.index-clauses-number.is) c.large_answer.ensures
-
-pub returns-in-Err-GoalTooLarge-clause-faulted : goal.returns-in-Err-GoalTooLarge-clause-faulted
-returns-in-Err-GoalTooLarge-clause-faulted g c = none_failed (g.L.Library.faults c.args.library.now) (g.L.Library.faults c.args.library.now) (g.L.Library.failed_at c.args.library.now) (g.L.Library.failed_at c.args.library.now) [] c.large_answer.result (refl, refl)
+pub returns-in-Passed-clause-faulted : goal.returns-in-Passed-clause-faulted
+returns-in-Passed-clause-faulted g c = none_failed (g.L.Library.faults c.args.library.now) (g.L.Library.faults c.test_certificate.new.library) (g.L.Library.failed_at c.args.library.now) (g.L.Library.failed_at c.test_certificate.new.library) [] c.certified_answer.result (rw c.in-Passed.is at c.in_ok-answer.ensures.faulted)

@@ -7,6 +7,7 @@ use Rattle.uc_top.proofs.ModelCompleting.{keeps_model_word}
 use Rattle.uc_top.proofs.CertifyCompleting.{keeps_certify_word}
 use Rattle.uc_top.proofs.ProveCompleting.{keeps_word}
 use Rattle.uc_top.proofs.DecidePromises.{keeps_decide_word}
+use Rattle.uc_top.proofs.SystemPromises.{keeps_system_word}
 use Rattle.uc_top.proofs.Faulted.{wants, tells, named, never_five}
 use Rattle.uc_top.proofs.GenCompleting.{keeps_gen_word}
 use Rattle.uc_top.proofs.program.run.Goals as goal
@@ -27,12 +28,14 @@ pub returns-in-Err-clause-headline : goal.returns-in-Err-clause-headline
 returns-in-Err-clause-headline g c files told = record {
   prove = keeps_word files _ _ _ _ _ _ _ _ c.tell_memory_out.ensures.told (λ few command reads is_prove. absurd (omega (arith, few)));
   decide = keeps_decide_word files _ _ _ _ _ _ _ _ c.tell_memory_out.ensures.told (λ few command reads is_decide. absurd (omega (arith, few)));
+  system = keeps_system_word _ 0 0 _ _ _ _ _ _ (record { status = 7; text = _; answer = wants_memory; told = c.tell_memory_out.ensures.told }) files told;
 }
 
 pub returns-in-Ok-clause-headline : goal.returns-in-Ok-clause-headline
 returns-in-Ok-clause-headline g c files told = record {
   prove = keeps_word files _ _ _ _ _ _ _ _ c.tell.ensures.told (λ few. c.in-Ok.ensures.promise few files told);
   decide = keeps_decide_word files _ _ _ _ _ _ _ _ c.tell.ensures.told (λ few. c.in-Ok.ensures.decided few files told);
+  system = keeps_system_word _ _ _ _ _ _ _ _ _ (record { status = _; text = _; answer = c.in-Ok.ensures.answers; told = c.tell.ensures.told }) files told;
 }
 
 pub returns-in-Ok-clause-faulted : goal.returns-in-Ok-clause-faulted

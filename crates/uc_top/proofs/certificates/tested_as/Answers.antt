@@ -1,0 +1,1 @@
+use Rattle.uc_top.proofs.certificates.tested_as.Goals as goal

@@ -1,0 +1,18 @@
+use Rattle.std.proofs.Common.{[]}
+use Rattle.uc_top.specs.SystemAnswers.{IsAskedCertificate}
+use Rattle.uc_top.proofs.Answering.{refused_answers}
+use Rattle.uc_top.proofs.CertifiedAnswers.{loaded_certificate}
+use Rattle.uc_top.proofs.Faulted.{load_failed, later_failed}
+use Rattle.uc_top.proofs.deciding_by_certificate.load_and_ask.Goals as goal
+
+pub returns-in-Ok-clause-answers : goal.returns-in-Ok-clause-answers
+returns-in-Ok-clause-answers g c = loaded_certificate (λ problem. IsAskedCertificate c.args.command.now.steps c.args.words.now problem) c.args.symbols.now c.load.new.symbols _ _ _ _ _ _ c.args.name.now c.args.file.now c.in-Ok.problem c.problem_answer.result c.requires.empty c.load.ensures.same c.load.ensures.later (rw c.in-Ok.is at c.load.ensures.distinct) (rw (c.in-Ok.is, c.bytes_of.ensures, c.as_ref.ensures.value) at c.load.ensures.filled) (rw (c.in-Ok.is, c.bytes_of.ensures, c.as_ref.ensures.value) at c.load.ensures.problem) c.problem_answer.ensures.answers
+
+pub returns-in-Err-clause-answers : goal.returns-in-Err-clause-answers
+returns-in-Err-clause-answers g c = refused_answers c.args.symbols.now c.load.new.symbols c.requires.empty _ _ _ _ c.args.name.now _ c.in-Err.fault c.load_answer.result (rw (c.in-Err.is, c.bytes_of.ensures, c.as_ref.ensures.value) at c.load.ensures.refused) (rw (c.in-Err.is, c.bytes_of.ensures, c.as_ref.ensures.value) at c.load.ensures.stopped) c.load_answer.ensures.answer c.load_answer.ensures.not_memory
+
+pub returns-in-Ok-clause-faulted : goal.returns-in-Ok-clause-faulted
+returns-in-Ok-clause-faulted g c = later_failed _ _ [] c.problem_answer.result (rw c.in-Ok.is at c.load.ensures.counted) c.problem_answer.ensures.faulted
+
+pub returns-in-Err-clause-faulted : goal.returns-in-Err-clause-faulted
+returns-in-Err-clause-faulted g c = load_failed (g.L.Library.faults c.args.library.now) (g.L.Library.faults c.load.new.library) (g.L.Library.failed_at c.args.library.now) (g.L.Library.failed_at c.load.new.library) c.in-Err.fault c.load_answer.result c.load_answer.ensures.answer c.load_answer.ensures.not_memory (rw c.in-Err.is at c.load.ensures.counted)
