@@ -4,25 +4,17 @@
 --   % end
 --
 -- An equation stands as it is printed, with its variables numbered by first occurrence and symbols of the symbols' lines alone.
-use Rattle.std.specs.Prelude.{◌≡◌, ◌≢◌, ℕ, ◌+◌, ◌≤◌, true, List, [], ◌∷◌, ◌++◌, length, codes, decimal, slice_get, Some, None}
+use Rattle.std.specs.Prelude.{◌≡◌, ◌≢◌, ℕ, ◌+◌, ◌≤◌, ◌<◌, true, List, [], ◌∷◌, ◌++◌, length, codes, decimal, Some, None}
 use Rattle.uc_term.specs.declared.node.Sym.{Sym}
 use Rattle.uc_term.specs.declared.equation.Equation.{Equation}
 use Rattle.uc_term.specs.Tree.{Tree, nodes}
 use Rattle.uc_term.specs.Over.{IsTerm}
 use Rattle.uc_term.specs.Table.{Table, arity_of}
 use Rattle.uc_term.specs.Variables.{variables, firsts, renumbered_by}
-use Rattle.uc_clause.specs.declared.token.Token.{Token}
-use Rattle.uc_clause.specs.declared.terminal.Terminal.TheVariants.{Equal}
-use Rattle.uc_clause.specs.declared.grammar.stop.Why.TheVariants.{Nodes}
-use Rattle.uc_clause.specs.Tokens.{AreTokens}
-use Rattle.uc_clause.specs.Terminals.{terminal_at}
-use Rattle.uc_clause.specs.Rules.{read, stop}
-use Rattle.uc_clause.specs.Parse.{Parse}
-use Rattle.uc_clause.specs.Terms.{Term}
-use Rattle.uc_clause.specs.Printing.{equation_text}
+use Rattle.uc_clause.specs.Printing.{term_text, sign_text, equation_text}
+use Rattle.uc_clause.specs.Printable.{AreNumbered}
 use Rattle.uc_order.specs.Members.{In}
 use Rattle.uc_system.specs.declared.fault.SystemFault.TheVariants.{Limit}
-use Rattle.uc_system.specs.Spelled.{IsSpelled}
 use Rattle.uc_system.specs.Lines.{Cut, first_line, place_in, departs, Outcome, gets, fails, Rule}
 
 abbrev pub end_line : List ℕ
@@ -63,22 +55,22 @@ pub record IsFactLine (table : Table) (precedence : List Sym) (k : ℕ) (line : 
   pub is : line ≡ fact_line table k e
   pub fact : IsFact table precedence e
 
--- Token by token, the text begins with a term that passes 4,096 nodes, or with a term, `=` and such a term; that term begins at
--- this byte of it.
-pub data HasLargeTerm (text : List ℕ) : ℕ → Type 0 where
-  left_is_large : {tokens : List Token} {token : Token} {k : ℕ} → AreTokens text tokens → Term text tokens 0 0 (stop Nodes k) → slice_get tokens 0 ≡ Some token → HasLargeTerm text token.from
-  right_is_large : {tokens : List Token} {token : Token} {left : Parse} {sign k : ℕ} → AreTokens text tokens → Term text tokens 0 0 (read left sign) → terminal_at text tokens sign ≡ Equal → Term text tokens 0 (sign + 1) (stop Nodes k) → slice_get tokens (sign + 1) ≡ Some token → HasLargeTerm text token.from
+-- an equation that is a fact but for its size; its variables' numbers have 32 bits, as those of every term have
+pub record IsFactOfAnySize (table : Table) (precedence : List Sym) (e : Equation) : Type 0 where
+  pub left : IsTerm (In precedence) (arity_of table) e.left
+  pub right : IsTerm (In precedence) (arity_of table) e.right
+  pub in_order : IsInOrder e
+  pub numbered : AreNumbered (variables e.left ++ variables e.right)
+
+-- a term of the equation has more than 4,096 nodes, and the first that has begins at this byte of its text
+pub data HasLargeTerm (table : Table) (e : Equation) : ℕ → Type 0 where
+  left_is_large : 4096 < nodes e.left → HasLargeTerm table e 0
+  right_is_large : nodes e.left ≤ 4096 → 4096 < nodes e.right → HasLargeTerm table e (length (term_text table e.left ++ sign_text true))
 
 module _ (table : Table) (precedence : List Sym) where
-  -- The text has such a term, and is spelled as an equation of these symbols is printed. What is spelled otherwise departs, since
-  -- its line begins before the term.
-  pub record IsLargeText (text : List ℕ) (from : ℕ) : Type 0 where
-    pub large : HasLargeTerm text from
-    pub spelled : IsSpelled table precedence text
-
-  -- the line has such a text in an equation's place, and the term begins at this byte of the line
+  -- The line would be that of the fact of this number if that had no such term, and this byte of it is the term's first.
   pub data IsLargeLine (k : ℕ) (line : List ℕ) : ℕ → Type 0 where
-    is_large : {text : List ℕ} {from : ℕ} → line ≡ fact_front k ++ text ++ fact_end → IsLargeText text from → IsLargeLine k line (length (fact_front k) + from)
+    is_large : {e : Equation} {from : ℕ} → line ≡ fact_line table k e → IsFactOfAnySize table precedence e → HasLargeTerm table e from → IsLargeLine k line (length (fact_front k) + from)
 
   -- the facts behind these, and the last line
   pub data FactsAt : List Equation → ℕ → List ℕ → Outcome (List Equation) → Type 0 where

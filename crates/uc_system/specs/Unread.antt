@@ -1,5 +1,5 @@
 -- Why a text or a line is no fact, and what the readers of one answer.
-use Rattle.std.specs.Prelude.{◌≡◌, ◌+◌, ◌<◌, ◌≤◌, ◌^◌, ℕ, Bool, true, List, Result, Ok, Err}
+use Rattle.std.specs.Prelude.{◌≡◌, ◌+◌, ◌<◌, ◌≤◌, ◌^◌, ℕ, Bool, true, false, List, Option, Some, None, Result, Ok, Err}
 use Rattle.uc_term.specs.declared.node.Sym.{Sym}
 use Rattle.uc_term.specs.declared.node.Node.{Node}
 use Rattle.uc_term.specs.declared.node.Node.TheVariants.{Var, App}
@@ -7,32 +7,29 @@ use Rattle.uc_term.specs.declared.equation.Equation.{Equation}
 use Rattle.uc_term.specs.Tree.{Tree, nodes}
 use Rattle.uc_term.specs.Variables.{variables}
 use Rattle.uc_term.specs.Table.{Table, Grows}
-use Rattle.uc_clause.specs.declared.token.Token.{Token}
-use Rattle.uc_clause.specs.declared.grammar.stop.Why.TheVariants.{Nodes}
-use Rattle.uc_clause.specs.Tokens.{AreTokens}
-use Rattle.uc_clause.specs.Rules.{stop}
-use Rattle.uc_clause.specs.Items.{equals_alone}
 use Rattle.uc_clause.specs.Printing.{equation_text}
 use Rattle.uc_clause.specs.Printable.{AreNumbered}
 use Rattle.uc_system.specs.declared.fault.SystemFault.{SystemFault}
 use Rattle.uc_system.specs.declared.fault.SystemFault.TheVariants.{Limit, NoMemory}
-use Rattle.uc_clause.specs.declared.fault.What.{What}
-use Rattle.uc_clause.specs.declared.fault.What.TheVariants as what
 use Rattle.uc_clause.specs.declared.fault.ClauseFault.{ClauseFault}
 use Rattle.uc_clause.specs.declared.fault.ClauseFault.TheVariants as clause
-use Rattle.uc_system.specs.declared.facts.Cause.{Cause}
-use Rattle.uc_system.specs.declared.facts.Cause.TheVariants.{TooManyNodes, NoRoom, OtherCause}
 use Rattle.uc_system.specs.declared.facts.Unread.{Unread}
 use Rattle.uc_system.specs.declared.facts.Unread.TheVariants as unread
 use Rattle.uc_system.specs.Lines.{place_in, departs}
 use Rattle.uc_system.specs.Symbols.{is_one_of}
-use Rattle.uc_system.specs.Spelled.{IsSpelled}
-use Rattle.uc_system.specs.Facts.{IsFact, HasLargeTerm, IsFactLine, IsLargeText, IsLargeLine}
+use Rattle.uc_system.specs.Facts.{IsFact, IsFactOfAnySize, HasLargeTerm, IsFactLine, IsLargeLine}
 
 -- the text is printed so of this equation, which may be a fact
 pub record IsFactText (table : Table) (precedence : List Sym) (text : List ℕ) (e : Equation) : Type 0 where
   pub is : text ≡ equation_text table true e.left e.right
   pub fact : IsFact table precedence e
+
+-- the text is printed so of this equation, which is a fact but for its size, and its first term that is too large begins there
+pub record IsLargeText (table : Table) (precedence : List Sym) (text : List ℕ) (from : ℕ) : Type 0 where
+  pub equation : Equation
+  pub is : text ≡ equation_text table true equation.left equation.right
+  pub fact : IsFactOfAnySize table precedence equation
+  pub large : HasLargeTerm table equation from
 
 -- nothing is so, and no term that is too large begins so far on; or one does; or memory is wanted
 abbrev pub IsNoneOf : (Equation → Type 0) → (ℕ → Type 0) → Unread → Type 0
@@ -60,18 +57,21 @@ module _ (table : Table) (precedence : List Sym) where
   abbrev pub ReadsFactLine : ℕ → List ℕ → Result Equation Unread → Type 0
   ReadsFactLine k line = IsOneOf (λ t. IsFactLine t precedence k line) (IsLargeLine table precedence k line) table
 
-  -- whether an equation that is read is a fact
-  abbrev pub IsChecked : List ℕ → Result Equation Unread → Type 0
-  IsChecked text (Ok e) = IsFactText table precedence text e
-  IsChecked text (Err unread.Departs) = (e : Equation) → IsFactText table precedence text e → ⊥
-  IsChecked text (Err (unread.Large from)) = ⊥
-  IsChecked text (Err unread.NoMemory) = Unit {0}
+  -- the fact that a text is, if it is one
+  abbrev pub IsFactIn : List ℕ → Option Equation → Type 0
+  IsFactIn text None = (e : Equation) → IsFactText table precedence text e → ⊥
+  IsFactIn text (Some e) = IsFactText table precedence text e
 
--- a term that is too large begins there, or memory is wanted
-abbrev pub IsLargeIn : List ℕ → Unread → Type 0
-IsLargeIn text unread.Departs = ⊥
-IsLargeIn text (unread.Large from) = HasLargeTerm text from
-IsLargeIn text unread.NoMemory = Unit {0}
+  -- where the first term begins that is too large, if it has one
+  abbrev pub IsLargeIn : List ℕ → Option ℕ → Type 0
+  IsLargeIn text None = (from : ℕ) → IsLargeText table precedence text from → ⊥
+  IsLargeIn text (Some from) = IsLargeText table precedence text from
+
+  -- the same, or want of memory
+  abbrev pub IsLargeOr : List ℕ → Unread → Type 0
+  IsLargeOr text unread.Departs = IsLargeIn text None
+  IsLargeOr text (unread.Large from) = IsLargeIn text (Some from)
+  IsLargeOr text unread.NoMemory = Unit {0}
 
 -- the symbol of a node is one of these
 abbrev pub is_known : List Sym → Node → Bool
@@ -100,32 +100,7 @@ line_fault n unread.NoMemory = NoMemory
 abbrev pub IsBounded : Tree → Type 0
 IsBounded t = (nodes t ≤ 4096) × AreNumbered (variables t)
 
--- the text is read as an equation up to a term's 4,097th node
-pub record HasTooManyNodes (text : List ℕ) : Type 0 where
-  pub tokens : List Token
-  pub k : ℕ
-  pub are_tokens : AreTokens text tokens
-  pub stops : equals_alone text tokens 0 (stop Nodes k)
-
--- what kind of refusal of an equation a fault is
-abbrev pub cause_of_limit : What → Cause
-cause_of_limit what.Nodes = TooManyNodes
-cause_of_limit other = OtherCause
-
-abbrev pub cause_of : ClauseFault → Cause
-cause_of (clause.Limit place w) = cause_of_limit w
-cause_of clause.NoMemory = NoRoom
-cause_of other = OtherCause
-
-module _ (table : Table) (precedence : List Sym) where
-  -- a text with a term that is too large is spelled otherwise; or the term begins there; or memory is wanted
-  abbrev pub IsLargeOr : List ℕ → Unread → Type 0
-  IsLargeOr text unread.Departs = IsSpelled table precedence text → ⊥
-  IsLargeOr text (unread.Large from) = IsLargeText table precedence text from
-  IsLargeOr text unread.NoMemory = Unit {0}
-
-  -- what a cause makes of it
-  abbrev pub IsCausedBy : List ℕ → Cause → Unread → Type 0
-  IsCausedBy text TooManyNodes u = IsLargeOr text u
-  IsCausedBy text NoRoom u = u ≡ unread.NoMemory
-  IsCausedBy text OtherCause u = u ≡ unread.Departs
+-- a reader of equations wanted memory
+abbrev pub wants_memory : ClauseFault → Bool
+wants_memory clause.NoMemory = true
+wants_memory other = false
