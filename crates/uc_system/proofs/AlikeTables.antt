@@ -6,7 +6,6 @@ use Rattle.std.proofs.lemmas.List.{length-map}
 use Rattle.uc_term.specs.declared.node.Sym.{Sym}
 use Rattle.uc_term.specs.declared.equation.Equation.{Equation}
 use Rattle.uc_term.specs.Table.{Table, Entry, IsSymbol, IsDistinct, name_of, arity_of}
-use Rattle.uc_clause.specs.Names.{spelling}
 use Rattle.uc_clause.specs.Printable.{IsPrintableSymbol}
 use Rattle.uc_order.specs.Members.{In, in_front, in_rest, Each}
 use Rattle.uc_system.specs.declared.fault.SystemFault.{SystemFault}
@@ -17,7 +16,6 @@ use Rattle.uc_system.specs.declared.system.SystemText.{SystemText}
 use Rattle.uc_system.specs.Numerals.{value_of}
 use Rattle.uc_system.specs.Lines.{Cut, place_in, departs, Outcome, gets, fails, Rule, goes_on, fails_first, ◌>>=◌, gives, passed_or}
 use Rattle.uc_system.specs.Symbols.{Parts, symbol_front, is_one_of, weighs_nothing, symbol_fault, ranked_or, symbols_in, IsFollowed, SymbolAt, is_no_whole_line, is_no_symbol, has_too_many, is_symbol, SymbolsAt, no_more_symbols, one_more_symbol, fails_in_symbol, has_light, has_constant, symbols_fault, are_complete}
-use Rattle.uc_system.specs.Spelled.{spellings}
 use Rattle.uc_system.specs.Facts.{fact_lines}
 use Rattle.uc_system.specs.Reading.{text_of, system_body, system_lines, ReadsSystem, reads, goes_further, fails_within}
 use Rattle.uc_system.proofs.HeaderOnce.{header_once}
@@ -57,10 +55,6 @@ entries_back : (one other : Table) {fs gs : List Sym} → HaveEntries one other 
 entries_back one other no_entries = no_entries
 entries_back one other (more_entries {f = f} {g = g} h t) = more_entries (entry_back one other f g h) (entries_back one other t)
 
-same_spellings : (one other : Table) {fs gs : List Sym} → HaveEntries one other fs gs → spellings one fs ≡ spellings other gs
-same_spellings one other no_entries = refl
-same_spellings one other (more_entries {f = f} {g = g} h t) = ap₂ (λ name names. spelling name ∷ names) (same_names one other f g h) (same_spellings one other t)
-
 -- the symbol that stands where this one does
 abbrev partner : List Sym → List Sym → Sym → Sym
 partner (f ∷ fs) (g ∷ gs) h = if h.0 == f.0 then g else partner fs gs h
@@ -94,7 +88,7 @@ module _ (one other : Table) where
   }
 
 are_alike : (one other : Table) {fs gs : List Sym} → HaveEntries one other fs gs → AreAlike one other fs gs
-are_alike one other s = record { there = renames one other s; back = renames other one (entries_back one other s); spelled = same_spellings one other s }
+are_alike one other s = record { there = renames one other s; back = renames other one (entries_back one other s) }
 
 -- what the symbols' lines give in two tables
 pub data AreRanked (one other : Table) : List Ranked → List Ranked → Type 0 where

@@ -5,7 +5,7 @@ use Rattle.std.specs.Str.Parse.{AllDigits}
 use Rattle.std.proofs.lemmas.Str.Parse.{digit_from_value}
 use Rattle.std.proofs.lemmas.Fmt.{decimal_is_IsNumeral, first_decimal, decimal_digit}
 use Rattle.std.proofs.lemmas.Bool.Decides.{nat_tests}
-use Rattle.uc_clause.specs.Bytes.{is_digit, in_line}
+use Rattle.uc_clause.specs.Bytes.{is_digit, is_digits, in_line}
 use Rattle.uc_system.specs.Numerals.{is_numeral, value_of}
 use Rattle.uc_system.proofs.Splits.{and_left, and_right, and_both}
 
@@ -50,3 +50,10 @@ digits_in_line (d ∷ ds) h = and_both (in_line d) _ (digit_in_line d (and_left 
 
 pub decimal_in_line : (n : ℕ) → n < 2 ^ 64 → list_all in_line (decimal n) ≡ true
 decimal_in_line n h = digits_in_line (decimal n) (digits_are (decimal n) (decimal_is_IsNumeral n h).0.1)
+
+pub decimal_digits : (n : ℕ) → n < 2 ^ 64 → is_digits (decimal n) ≡ true
+decimal_digits n h = digits_by (decimal n) (decimal_is_IsNumeral n h).0.0 (digits_are (decimal n) (decimal_is_IsNumeral n h).0.1)
+  where
+    digits_by : (ds : List ℕ) → 0 < length ds → list_all is_digit ds ≡ true → is_digits ds ≡ true
+    digits_by [] some all = absurd (omega (arith, some))
+    digits_by (b ∷ bs) some all = all

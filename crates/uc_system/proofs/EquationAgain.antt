@@ -21,20 +21,20 @@ use Rattle.uc_clause.proofs.Renumbering.{term_numbered, names_of_both, known_fir
 use Rattle.uc_system.specs.Facts.{fact_variables}
 
 module _ (table : Table) where
-  abbrev pieces : Equation → List Piece
+  abbrev pub pieces : Equation → List Piece
   pieces e = term_pieces table e.left (sign_pieces true (term_pieces table e.right []))
 
-  joined_equation : (e : Equation) → joined (pieces e) ≡ equation_text table true e.left e.right
+  pub joined_equation : (e : Equation) → joined (pieces e) ≡ equation_text table true e.left e.right
   joined_equation e =
       joined_term table e.left (sign_pieces true (term_pieces table e.right []))
       ∙ ap (λ x. term_text table e.left ++ x) (joined_sign true (term_pieces table e.right []) ∙ ap (λ x. sign_text true ++ x) (joined_term table e.right [] ∙ append-nil (term_text table e.right)))
       ∙ sym (append_assoc (term_text table e.left) (sign_text true) (term_text table e.right))
 
-  equal_sign : (t : Terminal) → sign_of t ≡ Some true → t ≡ terminal.Equal
+  pub equal_sign : (t : Terminal) → sign_of t ≡ Some true → t ≡ terminal.Equal
   equal_sign terminal.Equal e = refl
   equal_sign v e = absurd cc
 
-  end_or_open : (t : Terminal) → t ≡ terminal.End → t ≢ terminal.Open
+  pub end_or_open : (t : Terminal) → t ≡ terminal.End → t ≢ terminal.Open
   end_or_open t e h = cc
 
   joined_again : (e : Equation) → IsReadable table e.left → IsReadable table e.right → nodes e.left ≤ 4096 → nodes e.right ≤ 4096 → ReadsEquation (joined (pieces e)) table (renumbered_by (fact_variables e) e.left, renumbered_by (fact_variables e) e.right)

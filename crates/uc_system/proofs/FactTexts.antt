@@ -1,6 +1,6 @@
--- Printed equations that are facts: they are read as they are, and none is printed so that has a term which is too large.
-use Rattle.std.proofs.Common.{◌≡◌, ℕ, ◌+◌, ◌<◌, ◌≤◌, ◌^◌, ◌==◌, Bool, true, false, List, [], ◌∷◌, ◌++◌, length, length-append, refl, sym, ap, ap₂, ◌∙◌, subst, arith, Some, inl, inr}
-use Rattle.std.specs.Prelude.{slice_get, Ok, Err}
+-- Printed equations that are facts: they are read as they are.
+use Rattle.std.proofs.Common.{◌≡◌, ℕ, ◌<◌, ◌≤◌, ◌^◌, ◌==◌, Bool, true, false, List, [], ◌∷◌, ◌++◌, length, length-append, refl, sym, ap, subst, arith, inl, inr}
+use Rattle.std.specs.Prelude.{Ok}
 use Rattle.std.proofs.lemmas.List.{append_cancel_left, append_cancel_right}
 use Rattle.uc_term.specs.declared.node.Sym.{Sym}
 use Rattle.uc_term.specs.declared.equation.Equation.{Equation}
@@ -8,26 +8,16 @@ use Rattle.uc_term.specs.Tree.{Tree, var, app, Trees, none, more, nodes, nodes_a
 use Rattle.uc_term.specs.Over.{AreOver}
 use Rattle.uc_term.specs.Table.{Table, IsDistinct, arity_of}
 use Rattle.uc_term.specs.Variables.{variables, variables_all, is_among, firsts_after, place_of, renumbered_by}
-use Rattle.uc_clause.specs.declared.token.Token.{Token}
-use Rattle.uc_clause.specs.declared.grammar.stop.Why.TheVariants.{Nodes as ManyNodes}
-use Rattle.uc_clause.specs.declared.fault.ClauseFault.TheVariants as fault
-use Rattle.uc_clause.specs.declared.fault.What.TheVariants as what
-use Rattle.uc_clause.specs.Terminals.{place_at}
-use Rattle.uc_clause.specs.Rules.{Outcome, read, stop, goes_on, stops_first}
-use Rattle.uc_clause.specs.Parse.{Parse}
-use Rattle.uc_clause.specs.Terms.{Term}
 use Rattle.uc_clause.specs.Items.{equals_alone}
 use Rattle.uc_clause.specs.Printable.{IsPrintable, IsPrintableSymbol, AreNumbered}
-use Rattle.uc_clause.specs.Reading.{ReadsEquation, Refuses, isnt_read, SaysSides, IsUnlessMemory}
+use Rattle.uc_clause.specs.Reading.{ReadsEquation, SaysSides, IsUnlessMemory}
 use Rattle.uc_clause.proofs.Printed.{IsReadable, readable}
 use Rattle.uc_clause.proofs.Printing.{numbered_both}
-use Rattle.uc_clause.proofs.Once.{tokens_once}
-use Rattle.uc_clause.proofs.ReadOnce.{term_once}
 use Rattle.uc_clause.proofs.Alone.{equals_alone_once, says_sides_once}
-use Rattle.uc_clause.proofs.Whole.{complete, refuses}
+use Rattle.uc_clause.proofs.Whole.{complete}
 use Rattle.uc_order.specs.Members.{In, Each}
-use Rattle.uc_system.specs.Facts.{fact_front, fact_end, fact_variables, IsFact, HasLargeTerm, left_is_large, right_is_large}
-use Rattle.uc_system.specs.Unread.{IsFactText, HasTooManyNodes}
+use Rattle.uc_system.specs.Facts.{fact_front, fact_end, fact_variables, IsFact, IsFactOfAnySize}
+use Rattle.uc_system.specs.Unread.{IsFactText}
 use Rattle.uc_system.proofs.EquationAgain.{equation_again}
 use Rattle.uc_system.proofs.Precedence.{each_in}
 
@@ -80,12 +70,20 @@ module _ (table : Table) (precedence : List Sym) (printable : Each (IsPrintableS
     pub left : IsReadable table e.left
     pub right : IsReadable table e.right
 
-  pub fact_readable : (e : Equation) → IsFact table precedence e → IsReadableFact e
-  fact_readable e fact =
-      let few : length (fact_variables e) < 2 ^ 32 = omega (arith, firsts_few [] (variables e.left ++ variables e.right), length-append (variables e.left) (variables e.right), variables_few e.left, variables_few e.right, fact.left.small, fact.right.small) in
-      let left : AreNumbered (variables e.left) = subst (λ t. AreNumbered (variables t)) fact.in_order.left (renumbered_numbers (fact_variables e) few e.left) in
-      let right : AreNumbered (variables e.right) = subst (λ t. AreNumbered (variables t)) fact.in_order.right (renumbered_numbers (fact_variables e) few e.right) in
-      record { left = readable table e.left (side_printable e.left (fact.left.over, tt)) left; right = readable table e.right (side_printable e.right (fact.right.over, tt)) right }
+  module _ (e : Equation) (fact : IsFact table precedence e) where
+    numbered_side : (t : Tree) → renumbered_by (fact_variables e) t ≡ t → AreNumbered (variables t)
+    numbered_side t in_order =
+        let few : length (fact_variables e) < 2 ^ 32 = omega (arith, firsts_few [] (variables e.left ++ variables e.right), length-append (variables e.left) (variables e.right), variables_few e.left, variables_few e.right, fact.left.small, fact.right.small) in
+        subst (λ x. AreNumbered (variables x)) in_order (renumbered_numbers (fact_variables e) few t)
+
+    pub fact_readable : IsReadableFact e
+    fact_readable = record {
+      left = readable table e.left (side_printable e.left (fact.left.over, tt)) (numbered_side e.left fact.in_order.left);
+      right = readable table e.right (side_printable e.right (fact.right.over, tt)) (numbered_side e.right fact.in_order.right);
+    }
+
+    pub fact_sized : IsFactOfAnySize table precedence e
+    fact_sized = record { left = fact.left.over; right = fact.right.over; in_order = fact.in_order; numbered = numbered_both (variables e.left) (variables e.right) (numbered_side e.left fact.in_order.left) (numbered_side e.right fact.in_order.right) }
 
   -- a printed fact is read as it is
   pub fact_again : (text : List ℕ) (e : Equation) → IsFactText table precedence text e → ReadsEquation text table (e.left, e.right)
@@ -111,44 +109,6 @@ module _ (table : Table) (precedence : List Sym) (printable : Each (IsPrintableS
         let lefts : g.left ≡ e.left = ap (λ (p : Tree × Tree). p.0) pairs in
         let rights : g.right ≡ e.right = ap (λ (p : Tree × Tree). p.1) pairs in
         (λ i. record { left = sym lefts i; right = sym rights i })
-
--- a text with a term that is too large is read up to it
-pub large_stops : (text : List ℕ) (from : ℕ) → HasLargeTerm text from → HasTooManyNodes text
-large_stops text _ (left_is_large {tokens = ts} {k = k} are stops get) = record { tokens = ts; k = k; are_tokens = are; stops = stops_first (goes_on refl (stops_first stops)) }
-large_stops text _ (right_is_large {tokens = ts} {k = k} are reads sign stops get) = record { tokens = ts; k = k; are_tokens = are; stops = stops_first (goes_on refl (goes_on reads (goes_on (sign, refl) (stops_first stops)))) }
-
-pub stops_refused : (text : List ℕ) (h : HasTooManyNodes text) → Refuses equals_alone text (fault.Limit (place_at text h.tokens h.k) what.Nodes)
-stops_refused text h = isnt_read h.are_tokens h.stops
-
--- nothing that is read has one
-pub read_or_large : (table : Table) (text : List ℕ) (pair : Tree × Tree) → ReadsEquation text table pair → HasTooManyNodes text → ⊥
-read_or_large table text pair r h = go (refuses equals_alone (SaysSides table) text (equals_alone_once text) (Ok pair) r _ (stops_refused text h))
-  where
-    go : IsUnlessMemory (Err (fault.Limit (place_at text h.tokens h.k) what.Nodes)) (Ok pair) → ⊥
-    go (inl q) = cc
-    go (inr q) = cc
-
-same_token : (ts us : List Token) (i j : ℕ) (t u : Token) → ts ≡ us → i ≡ j → slice_get ts i ≡ Some t → slice_get us j ≡ Some u → t.from ≡ u.from
-same_token ts us i j t u e f g h =
-    let both : Some t ≡ Some u = sym g ∙ ap₂ (λ (xs : List Token) (n : ℕ). slice_get xs n) e f ∙ h in
-    let same : t ≡ u = cc in
-    ap (λ (x : Token). x.from) same
-
-moved : (text : List ℕ) (ts us : List Token) → ts ≡ us → (from : ℕ) (o : Outcome Parse) → Term text ts 0 from o → Term text us 0 from o
-moved text ts us e from o h = subst (λ xs. Term text xs 0 from o) e h
-
-pub large_once : (text : List ℕ) (f g : ℕ) → HasLargeTerm text f → HasLargeTerm text g → f ≡ g
-large_once text _ _ (left_is_large {tokens = ts} {token = t} are stops get) (left_is_large {tokens = us} {token = u} ares others gets) =
-    same_token ts us 0 0 t u (tokens_once are ares) refl get gets
-large_once text _ _ (left_is_large {tokens = ts} {k = k} are stops get) (right_is_large {tokens = us} {left = p} {sign = s} ares reads sign others gets) =
-    absurd (let e = term_once text us (moved text ts us (tokens_once are ares) 0 (stop ManyNodes k) stops) reads in cc)
-large_once text _ _ (right_is_large {tokens = ts} {left = p} {sign = s} are reads sign stops get) (left_is_large {tokens = us} {k = k} ares others gets) =
-    absurd (let e = term_once text us (moved text ts us (tokens_once are ares) 0 (read p s) reads) others in cc)
-large_once text _ _ (right_is_large {tokens = ts} {token = t} {left = p} {sign = s} are reads sign stops get) (right_is_large {tokens = us} {token = u} {left = q} {sign = r} ares others mark ends gets) =
-    let tokens : ts ≡ us = tokens_once are ares in
-    let e : read p s ≡ read q r = term_once text us (moved text ts us tokens 0 (read p s) reads) others in
-    let signs : s ≡ r = cc in
-    same_token ts us (s + 1) (r + 1) t u tokens (ap (λ n. n + 1) signs) get gets
 
 -- the text in an equation's place
 pub between_once : (k : ℕ) (x y : List ℕ) → fact_front k ++ x ++ fact_end ≡ fact_front k ++ y ++ fact_end → x ≡ y

@@ -1,6 +1,7 @@
 -- The table of symbols that reading a system leaves.
 use Rattle.std.proofs.Common.{◌≡◌, ℕ, ◌≤◌, List, drop, refl, sym, ap, ◌∙◌, subst, arith, Bool, true, Option, Some, None}
-use Rattle.std.specs.Prelude.{Result, Ok, Err, IfOk}
+use Rattle.std.specs.Prelude.{Result, Ok, Err, IfOk, IfSome}
+use Rattle.std.specs.declared.alloc.AllocError.{AllocError}
 use Rattle.uc_term.specs.declared.node.Sym.{Sym}
 use Rattle.uc_term.specs.declared.equation.Equation.{Equation}
 use Rattle.uc_term.specs.Table.{Table, Has, Grows, IsInterned, arity_of}
@@ -15,7 +16,6 @@ use Rattle.uc_system.specs.declared.header.Kind.{Kind}
 use Rattle.uc_system.specs.declared.header.Header.{Header}
 use Rattle.uc_system.specs.declared.header.Heading.{Heading}
 use Rattle.uc_system.specs.declared.header.Heading.TheVariants.{Heavy, Light}
-use Rattle.uc_system.specs.declared.facts.Unread.{Unread}
 use Rattle.uc_system.specs.declared.lines.Cursor.{Cursor}
 use Rattle.uc_system.specs.declared.system.SystemText.{SystemText}
 use Rattle.uc_system.specs.Numerals.{value_of}
@@ -23,7 +23,7 @@ use Rattle.uc_system.specs.Lines.{Cut, first_line, gets, goes_on, passed_or, val
 use Rattle.uc_system.specs.Header.{version_by, version_of, heading_of, kind_of, kind_fault, header_lines}
 use Rattle.uc_system.specs.Places.{IsNext}
 use Rattle.uc_system.specs.Symbols.{begins_symbol, Parts, IsSymbolLine}
-use Rattle.uc_system.specs.Unread.{IsFactText, IsChecked}
+use Rattle.uc_system.specs.Unread.{IsFactText, IsFactIn}
 use Rattle.uc_system.specs.Written.{IsWritten, IsWordOf}
 use Rattle.uc_system.specs.Reads.{Gives, InternsLine}
 use Rattle.uc_system.specs.Interning.{with_parts, InternsSymbols, interns_none, interns_one, InternsSystem}
@@ -62,8 +62,9 @@ module _ (old new : Table) (grows : Grows old new) (keys : List Sym) (printable 
       let same : InternsEquation text old old = record { tokens = r.tokens; are_tokens = r.are_tokens; parse = r.parse; end = r.end; reads = r.reads; new_is = sym kept } in
       equation_interns_once i same
 
-  pub checked_keeps : (text : List ℕ) (result : Result Equation Unread) → Each (IsPrintableSymbol new) keys → IsChecked new keys text result → InternsEquation text old new → IfOk result (λ _. new ≡ old)
-  checked_keeps text (Ok e) later t i = fact_keeps text e later t i
+  pub checked_keeps : (text : List ℕ) (result : Result (Option Equation) AllocError) → Each (IsPrintableSymbol new) keys → IfOk result (IsFactIn new keys text) → InternsEquation text old new → IfOk result (λ found. IfSome found (λ _. new ≡ old))
+  checked_keeps text (Ok None) later t i = tt
+  checked_keeps text (Ok (Some e)) later t i = fact_keeps text e later t i
   checked_keeps text (Err u) later t i = tt
 
 -- the first two lines, each with what stands behind it

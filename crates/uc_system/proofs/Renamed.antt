@@ -9,10 +9,10 @@ use Rattle.uc_term.specs.Table.{Table, name_of, arity_of}
 use Rattle.uc_term.specs.Variables.{variables, variables_all, firsts, place_of, renumbered_by}
 use Rattle.uc_clause.specs.Names.{spelling}
 use Rattle.uc_clause.specs.Printing.{term_text, args_text, rest_text, sign_text}
+use Rattle.uc_clause.specs.Printable.{AreNumbered}
 use Rattle.uc_order.specs.Members.{In}
 use Rattle.uc_system.specs.Lines.{Outcome, gets, fails}
-use Rattle.uc_system.specs.Spelled.{spellings, AreSpelled}
-use Rattle.uc_system.specs.Facts.{fact_front, fact_end, fact_variables, IsInOrder, IsSide, IsFactLine, IsLargeLine, is_large, FactsAt, no_more_facts, one_more_fact, has_large_term, is_no_fact, is_no_whole_line}
+use Rattle.uc_system.specs.Facts.{fact_front, fact_end, fact_variables, IsInOrder, IsSide, IsFactOfAnySize, HasLargeTerm, left_is_large, right_is_large, IsFactLine, IsLargeLine, is_large, FactsAt, no_more_facts, one_more_fact, has_large_term, is_no_fact, is_no_whole_line}
 
 -- TERMS WITH OTHER SYMBOLS
 
@@ -117,14 +117,21 @@ module _ (one other : Table) (from to : List Sym) (rs : Renames one other from t
     fact = record { left = side_renamed e.left l.fact.left; right = side_renamed e.right l.fact.right; in_order = in_order_renamed rs.r e l.fact.in_order };
   }
 
+  large_renamed : (e : Equation) → IsFactOfAnySize one from e → (at : ℕ) → HasLargeTerm one e at → HasLargeTerm other (renamed_sides rs.r e) at
+  large_renamed e f _ (left_is_large h) = left_is_large (rw (nodes_renamed rs.r e.left) h)
+  large_renamed e f _ (right_is_large h k) = subst (HasLargeTerm other (renamed_sides rs.r e)) (ap (λ x. length (x ++ sign_text true)) (sym (text_renamed e.left f.left))) (right_is_large (rw (nodes_renamed rs.r e.left) h) (rw (nodes_renamed rs.r e.right) k))
+
+  sized_renamed : (e : Equation) → IsFactOfAnySize one from e → IsFactOfAnySize other to (renamed_sides rs.r e)
+  sized_renamed e f = record { left = over_renamed e.left f.left; right = over_renamed e.right f.right; in_order = in_order_renamed rs.r e f.in_order; numbered = subst AreNumbered (ap₂ (λ xs ys. xs ++ ys) (sym (variables_renamed rs.r e.left)) (sym (variables_renamed rs.r e.right))) f.numbered }
+
+  large_line_renamed : (k : ℕ) (line : List ℕ) (at : ℕ) → IsLargeLine one from k line at → IsLargeLine other to k line at
+  large_line_renamed k line _ (is_large {e = e} {from = at} is f large) =
+      is_large (is ∙ ap₂ (λ p q. fact_front k ++ (p ++ sign_text true ++ q) ++ fact_end) (text_renamed e.left f.left) (text_renamed e.right f.right)) (sized_renamed e f) (large_renamed e f at large)
+
 -- both ways
 pub record AreAlike (one other : Table) (from to : List Sym) : Type 0 where
   pub there : Renames one other from to
   pub back : Renames other one to from
-  pub spelled : spellings one from ≡ spellings other to
-
-large_line_renamed : (one other : Table) (from to : List Sym) → spellings one from ≡ spellings other to → (k : ℕ) (line : List ℕ) (at : ℕ) → IsLargeLine one from k line at → IsLargeLine other to k line at
-large_line_renamed one other from to same k line _ (is_large {text = x} e h) = is_large e (record { large = h.large; spelled = record { tokens = h.spelled.tokens; are_tokens = h.spelled.are_tokens; spelled = subst (λ names. AreSpelled names x h.spelled.tokens) same h.spelled.spelled } })
 
 -- what the lines come to, with the other symbols
 abbrev pub with_others : (Equation → Equation) → Outcome (List Equation) → Outcome (List Equation)
@@ -143,8 +150,8 @@ module _ (one other : Table) (from to : List Sym) (alike : AreAlike one other fr
   facts_renamed {earlier} {n} (one_more_fact {c = c} {e = q} {outcome = o} e l x) =
       let line : IsFactLine other to (length (map sides earlier) + 1) c.line (sides q) = subst (λ k. IsFactLine other to (k + 1) c.line (sides q)) (sym (length-map earlier sides)) (fact_line_renamed one other from to alike.there (length earlier + 1) c.line q l) in
       one_more_fact e line (subst (λ es. FactsAt other to es (n + 1) c.rest (with_others sides o)) (map-append sides earlier (q ∷ [])) (facts_renamed x))
-  facts_renamed {earlier} (has_large_term {from = at} {c = c} e l) = has_large_term e (subst (λ k. IsLargeLine other to (k + 1) c.line at) (sym (length-map earlier sides)) (large_line_renamed one other from to alike.spelled (length earlier + 1) c.line at l))
+  facts_renamed {earlier} (has_large_term {from = at} {c = c} e l) = has_large_term e (subst (λ k. IsLargeLine other to (k + 1) c.line at) (sym (length-map earlier sides)) (large_line_renamed one other from to alike.there (length earlier + 1) c.line at l))
   facts_renamed {earlier} (is_no_fact {c = c} e l x y) = is_no_fact e l
       (λ g m. x (renamed_sides alike.back.r g) (fact_line_renamed other one to from alike.back (length earlier + 1) c.line g (subst (λ k. IsFactLine other to (k + 1) c.line g) (length-map earlier sides) m)))
-      (λ at m. y at (large_line_renamed other one to from (sym alike.spelled) (length earlier + 1) c.line at (subst (λ k. IsLargeLine other to (k + 1) c.line at) (length-map earlier sides) m)))
+      (λ at m. y at (large_line_renamed other one to from alike.back (length earlier + 1) c.line at (subst (λ k. IsLargeLine other to (k + 1) c.line at) (length-map earlier sides) m)))
   facts_renamed (is_no_whole_line e) = is_no_whole_line e

@@ -11,15 +11,14 @@ use Rattle.uc_clause.specs.Names.{spelling, IsSpellable}
 use Rattle.uc_clause.specs.Printing.{term_text, args_text, rest_text, sign_text}
 use Rattle.uc_clause.specs.Printable.{IsPrintableSymbol}
 use Rattle.uc_clause.proofs.Tables.{symbol_grows}
-use Rattle.uc_order.specs.Members.{In, in_front, in_rest, Each}
+use Rattle.uc_order.specs.Members.{In, Each}
 use Rattle.uc_system.specs.declared.fault.SystemFault.{SystemFault}
 use Rattle.uc_system.specs.declared.header.Header.{Header}
 use Rattle.uc_system.specs.declared.symbols.Ranked.{Ranked}
 use Rattle.uc_system.specs.declared.system.SystemText.{SystemText}
 use Rattle.uc_system.specs.Lines.{departs, Outcome, passed_or, goes_on, fails_first}
 use Rattle.uc_system.specs.Symbols.{symbols_in, SymbolAt, is_no_whole_line, is_no_symbol, has_too_many, is_symbol, SymbolsAt, no_more_symbols, one_more_symbol, fails_in_symbol, has_light, has_constant, are_complete}
-use Rattle.uc_system.specs.Spelled.{spellings, AreSpelled, IsSpelled}
-use Rattle.uc_system.specs.Facts.{fact_front, fact_end, IsSide, IsFact, IsFactLine, IsLargeLine, is_large, FactsAt, no_more_facts, one_more_fact, has_large_term, is_no_fact}
+use Rattle.uc_system.specs.Facts.{fact_front, fact_end, IsSide, IsFact, IsFactOfAnySize, HasLargeTerm, left_is_large, right_is_large, IsFactLine, IsLargeLine, is_large, FactsAt, no_more_facts, one_more_fact, has_large_term, is_no_fact}
 use Rattle.uc_system.specs.Facts as facts
 use Rattle.uc_system.specs.Unread.{IsFactText}
 use Rattle.uc_system.specs.Reading.{system_body, system_lines, ReadsSystem, reads, goes_further, fails_within}
@@ -71,15 +70,16 @@ module _ (t u : Table) (precedence : List Sym) (a : Agree t u precedence) where
     fact = fact_moves e l.fact;
   }
 
-  spellings_same : (fs : List Sym) → ((f : Sym) → In fs f → name_of t f ≡ name_of u f) → spellings t fs ≡ spellings u fs
-  spellings_same [] h = refl
-  spellings_same (f ∷ fs) h = ap₂ (λ name names. spelling name ∷ names) (h f in_front) (spellings_same fs (λ g i. h g (in_rest i)))
+  sized_moves : (e : Equation) → IsFactOfAnySize t precedence e → IsFactOfAnySize u precedence e
+  sized_moves e f = record { left = side_moves e.left f.left; right = side_moves e.right f.right; in_order = f.in_order; numbered = f.numbered }
 
-  spelled_moves : (text : List ℕ) → IsSpelled t precedence text → IsSpelled u precedence text
-  spelled_moves text s = record { tokens = s.tokens; are_tokens = s.are_tokens; spelled = subst (λ names. AreSpelled names text s.tokens) (spellings_same precedence a.names) s.spelled }
+  large_moves : (e : Equation) → IsFactOfAnySize t precedence e → (from : ℕ) → HasLargeTerm t e from → HasLargeTerm u e from
+  large_moves e f _ (left_is_large h) = left_is_large h
+  large_moves e f _ (right_is_large h k) = subst (HasLargeTerm u e) (ap (λ x. length (x ++ sign_text true)) (sym (text_moves e.left f.left))) (right_is_large h k)
 
   pub large_line_moves : (k : ℕ) (line : List ℕ) (from : ℕ) → IsLargeLine t precedence k line from → IsLargeLine u precedence k line from
-  large_line_moves k line _ (is_large {text = x} e h) = is_large e (record { large = h.large; spelled = spelled_moves x h.spelled })
+  large_line_moves k line _ (is_large {e = e} {from = from} is f large) =
+      is_large (is ∙ ap₂ (λ p q. fact_front k ++ (p ++ sign_text true ++ q) ++ fact_end) (text_moves e.left f.left) (text_moves e.right f.right)) (sized_moves e f) (large_moves e f from large)
 
 facts_move : (t u : Table) (precedence : List Sym) → Agree t u precedence → {earlier : List Equation} {n : ℕ} {text : List ℕ} {o : Outcome (List Equation)} → FactsAt t precedence earlier n text o → FactsAt u precedence earlier n text o
 facts_move t u precedence a (no_more_facts e l) = no_more_facts e l

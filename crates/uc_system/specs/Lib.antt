@@ -2,7 +2,6 @@ pub mod Numerals
 pub mod Lines
 pub mod Header
 pub mod Symbols
-pub mod Spelled
 pub mod Facts
 pub mod Reading
 pub mod Printing
@@ -12,3 +11,4 @@ pub mod Written
 pub mod Unread
 pub mod Interning
 pub mod Reads
+pub mod Passing

@@ -1,31 +1,25 @@
 //! The lines of the facts, and the last line.
 
-ghost use Rattle.std.specs.Prelude.{◌≡◌, ◌<◌, ◌^◌, ◌++◌, ℕ, List, Ok, length, IfOk, MatchOption, Some, slice_get};
+ghost use Rattle.std.specs.Prelude.{◌≡◌, ◌<◌, ◌^◌, ◌++◌, ℕ, List, false, None, length, IfOk, IfSome, MatchOption};
 ghost use Rattle.std.specs.List.{list_all};
 ghost use Rattle.uc_term.specs.Table.{Table, Grows};
 ghost use Rattle.uc_clause.specs.Printable.{IsPrintableSymbol, IsNumberedNode};
-ghost use Rattle.uc_clause.specs.Items.{equals_alone};
-ghost use Rattle.uc_clause.specs.Reading.{ReadsEquation, Refuses, IsFault};
-ghost use Rattle.uc_clause.specs.Tokens.{AreTokens};
-ghost use Rattle.uc_clause.specs.declared.token.Token.{Token as AnyToken};
+ghost use Rattle.uc_clause.specs.Reading.{ReadsEquation};
 ghost use Rattle.uc_order.specs.Members.{Each};
-ghost use Rattle.uc_system.specs.declared.facts.Cause.TheVariants.{TooManyNodes};
 ghost use Rattle.uc_system.specs.declared.facts.Unread.TheVariants.{NoMemory};
 ghost use Rattle.uc_system.specs.Places.{IsAt};
 ghost use Rattle.uc_system.specs.Facts.{fact_front, fact_end, fact_lines};
 ghost use Rattle.uc_system.specs.Reads.{GivesIn};
-ghost use Rattle.uc_system.specs.Unread.{HasTooManyNodes, cause_of, cause_of_limit, IsUnread, ReadsFact, ReadsFactLine, IsChecked, IsLargeIn, IsLargeOr, IsCausedBy, is_known, line_fault, further, IsShort, IsBounded};
+ghost use Rattle.uc_system.specs.Unread.{wants_memory, ReadsFact, ReadsFactLine, IsFactIn, IsLargeOr, is_known, line_fault, further, IsShort, IsBounded};
 
 use crate::SystemFault;
 use crate::lines::{Cursor, departs, line_at, place_in};
 use crate::pieces::{before, behind};
-use crate::spelled::is_spelled;
+use crate::sides::large_term;
 use indexmap::IndexSet;
 use itoa::Buffer;
 use std::alloc::{AllocError, AllocFailed, Global};
-use uc_clause::{
-    ClauseFault, Stop, Token, Variables, What, print_equation, read_equation, term_at, tokens,
-};
+use uc_clause::{ClauseFault, print_equation, read_equation};
 use uc_term::{Equation, Node, Seq, Sym, Symbols, Term, Text};
 
 /// Why a text isn't the equation of a fact: it isn't so spelled; a term of more than 4,096 nodes begins at this byte of it; or
@@ -108,9 +102,38 @@ fn fact_of(
     ensures grows { Grows symbols.old symbols.new }
     ensures keeps { IfOk result (λ _. symbols.new ≡ symbols.old) }
 {
+    match fact_at(alloc, text, known, symbols)? {
+        Some(fact) => Ok(fact),
+        None => Err(large_or_departs(alloc, text, known, symbols)),
+    }
+}
+
+// The fact that a text is, if it is one.
+fn fact_at(
+    alloc: Global,
+    text: &[u8],
+    known: &IndexSet<Sym>,
+    symbols: &mut Symbols,
+) -> Result<Option<Equation>, AllocError>
+    requires small { length text.now < 2 ^ 31 }
+    requires known { Each (IsPrintableSymbol symbols.old) known.now.keys }
+    ensures reads { IfOk result (IsFactIn symbols.new known.now.keys text.now) }
+    ensures grows { Grows symbols.old symbols.new }
+    ensures keeps { IfOk result (λ found. IfSome found (λ _. symbols.new ≡ symbols.old)) }
+{
     match read_equation(alloc, text, symbols) {
         Ok((left, right)) => checked(alloc, text, left, right, known, symbols),
-        Err(fault) => Err(why_unread(alloc, text, known, fault, symbols)),
+        Err(fault) => none_for(&fault),
+    }
+}
+
+// None, or want of memory, for a text that isn't read as an equation.
+fn none_for(fault: &ClauseFault) -> Result<Option<Equation>, AllocError>
+    ensures { IfOk result (λ found. (found ≡ None) × (wants_memory fault.now ≡ false)) }
+{
+    match fault {
+        ClauseFault::NoMemory => Err(AllocError),
+        _ => Ok(None),
     }
 }
 
@@ -141,152 +164,40 @@ fn checked(
     right: Term,
     known: &IndexSet<Sym>,
     symbols: &Symbols,
-) -> Result<Equation, Unread>
+) -> Result<Option<Equation>, AllocError>
     requires known { Each (IsPrintableSymbol symbols.now) known.now.keys }
     requires read { ReadsEquation text.now symbols.now (left, right) }
-    ensures { IsChecked symbols.now known.now.keys text.now result }
+    ensures { IfOk result (IsFactIn symbols.now known.now.keys text.now) }
 {
     see_term(&left);
     see_term(&right);
     // The entries of the table are all different, so what was read is the only reading.
     let _ = symbols.len();
     if !are_known(left.as_nodes(), known) {
-        return Err(Unread::Departs);
+        return Ok(None);
     }
     if !are_known(right.as_nodes(), known) {
-        return Err(Unread::Departs);
+        return Ok(None);
     }
     let again = print_equation(alloc, true, &left, &right, symbols)?;
     if again.as_bytes() == text {
-        Ok(Equation { left, right })
+        Ok(Some(Equation { left, right }))
     } else {
-        Err(Unread::Departs)
+        Ok(None)
     }
 }
 
-/// What kind of refusal of an equation a fault is.
-#[derive(Clone, Copy, PartialEq, Eq, Debug)]
-pub(crate) enum Cause {
-    TooManyNodes,
-    NoRoom,
-    OtherCause,
-}
-
-fn cause_of(fault: &ClauseFault) -> Cause
-    ensures { result ≡ cause_of fault.now }
-{
-    match fault {
-        ClauseFault::Limit(_, what) => cause_of_limit(*what),
-        ClauseFault::NoMemory => Cause::NoRoom,
-        _ => Cause::OtherCause,
-    }
-}
-
-fn cause_of_limit(what: What) -> Cause
-    ensures { result ≡ cause_of_limit what }
-{
-    match what {
-        What::Nodes => Cause::TooManyNodes,
-        _ => Cause::OtherCause,
-    }
-}
-
-// Why a text with this fault isn't the equation of a fact.
-fn why_unread(
-    alloc: Global,
-    text: &[u8],
-    known: &IndexSet<Sym>,
-    fault: ClauseFault,
-    symbols: &mut Symbols,
-) -> Unread
-    requires small { length text.now < 2 ^ 31 }
-    requires known { Each (IsPrintableSymbol symbols.old) known.now.keys }
-    requires refused { IsFault (Refuses equals_alone text.now) fault }
-    ensures unread { IsUnread symbols.new known.now.keys text.now result }
-    ensures grows { Grows symbols.old symbols.new }
-{
-    unread_by(alloc, text, known, cause_of(&fault), symbols)
-}
-
-// Why a text that is refused for this cause isn't one.
-fn unread_by(
-    alloc: Global,
-    text: &[u8],
-    known: &IndexSet<Sym>,
-    cause: Cause,
-    symbols: &mut Symbols,
-) -> Unread
-    requires small { length text.now < 2 ^ 31 }
-    requires known { Each (IsPrintableSymbol symbols.old) known.now.keys }
-    requires refused { cause ≡ TooManyNodes → HasTooManyNodes text.now }
-    ensures caused { IsCausedBy symbols.new known.now.keys text.now cause result }
-    ensures grows { Grows symbols.old symbols.new }
-{
-    match cause {
-        Cause::TooManyNodes => {
-            let unread = large_in(alloc, text, symbols);
-            large_or_departs(alloc, text, known, unread, symbols)
-        }
-        Cause::NoRoom => Unread::NoMemory,
-        Cause::OtherCause => Unread::Departs,
-    }
-}
-
-// Why a text isn't one in which a term is too large: that, or that it is spelled otherwise than an equation is printed.
-fn large_or_departs(
-    alloc: Global,
-    text: &[u8],
-    known: &IndexSet<Sym>,
-    unread: Unread,
-    symbols: &Symbols,
-) -> Unread
+// Why a text isn't a fact's: a term of it is too large, or it departs.
+fn large_or_departs(alloc: Global, text: &[u8], known: &IndexSet<Sym>, symbols: &Symbols) -> Unread
     requires small { length text.now < 2 ^ 31 }
     requires known { Each (IsPrintableSymbol symbols.now) known.now.keys }
-    requires large { IsLargeIn text.now unread }
     ensures { IsLargeOr symbols.now known.now.keys text.now result }
 {
-    match is_spelled(alloc, text, known.as_slice(), symbols) {
-        Ok(true) => unread,
-        Ok(false) => Unread::Departs,
-        Err(_) => Unread::NoMemory,
+    match large_term(alloc, text, known, symbols) {
+        Ok(Some(from)) => Unread::Large(from),
+        Ok(None) => Unread::Departs,
+        Err(AllocError) => Unread::NoMemory,
     }
-}
-
-// Where the term begins that is too large, in a text with one.
-fn large_in(alloc: Global, text: &[u8], symbols: &mut Symbols) -> Unread
-    requires small { length text.now < 2 ^ 31 }
-    requires refused { HasTooManyNodes text.now }
-    ensures large { IsLargeIn text.now result }
-    ensures grows { Grows symbols.old symbols.new }
-{
-    match tokens(alloc, text) {
-        Ok(list) => large_among(alloc, text, list.as_slice(), symbols),
-        Err(_) => Unread::NoMemory,
-    }
-}
-
-fn large_among(alloc: Global, text: &[u8], tokens: &[Token], symbols: &mut Symbols) -> Unread
-    requires tokens { AreTokens text.now tokens.now }
-    requires refused { HasTooManyNodes text.now }
-    ensures large { IsLargeIn text.now result }
-    ensures grows { Grows symbols.old symbols.new }
-{
-    // The tokens leave room for the number of one more.
-    let _ = tokens.len();
-    let mut variables = Variables::new(alloc);
-    match term_at(alloc, text, tokens, 0, &mut variables, symbols) {
-        Ok((_, sign)) => large_from(tokens, sign + 1),
-        Err(Stop::At(..)) => large_from(tokens, 0),
-        Err(Stop::NoMemory) => Unread::NoMemory,
-    }
-}
-
-// A large term that begins at the token of this number.
-fn large_from(tokens: &[Token], at: usize) -> Unread
-    requires { at < length tokens.now }
-    ensures { (token : AnyToken) → slice_get tokens.now at ≡ Some token → result ≡ Unread.Large token.from }
-{
-    Unread::Large(tokens[at].from as usize)
 }
 
 // The same of a text with so many bytes in front.

@@ -13,10 +13,11 @@ mod header;
 mod laws;
 mod lines;
 mod numerals;
+mod pass;
 mod pieces;
 mod printing;
 mod reading;
-mod spelled;
+mod sides;
 mod symbols;
 mod system;
 

@@ -37,8 +37,8 @@ use uc_term::{Seq, Symbols};
 /// 1,000,000, and a weight that is over 1,000,000, or a constant's and below the variable's, or 0 where the symbol isn't both
 /// unary and last. A text without a constant is refused behind the symbols' lines. That the first line doesn't say what the
 /// weights are is `Syntax` there, behind what is wrong with the lines up to where that is known; another number in it is
-/// `Version`, at the number. `Limit` stands at an arity over 255, and at the first byte of a term that passes 4,096 nodes
-/// before another token departs, where the line's tokens are spelled as they are printed and name symbols that have a line.
+/// `Version`, at the number. `Limit` stands at an arity over 255, and at the first byte of the first term of more than 4,096
+/// nodes in a line that departs in nothing else.
 ///
 /// The symbols' lines are interned in order, and the facts add no symbol; after a refusal the table may have grown, and only grown.
 pub fn read_system(
