@@ -411,13 +411,13 @@ fn cut_off(rt: HostRuntime) -> Result<(), Fail> {
     Ok(())
 }
 
-// `f` so often round `least`, in brackets.
-fn tower(alloc: Global, height: usize) -> Result<Text, AllocError> {
+// `f` so often round a term, in brackets.
+fn tower(alloc: Global, height: usize, base: &[u8]) -> Result<Text, AllocError> {
     let mut text = Text::new(alloc);
     for _ in 0..height {
         text.extend(b"f(")?;
     }
-    text.extend(b"least")?;
+    text.extend(base)?;
     for _ in 0..height {
         text.push(b')')?;
     }
@@ -460,13 +460,13 @@ fn fault_of_towers(
     left: usize,
     right: usize,
 ) -> Result<Option<SystemFault>, AllocError> {
-    let left = tower(alloc, left)?;
-    let right = tower(alloc, right)?;
+    let left = tower(alloc, left, b"least")?;
+    let right = tower(alloc, right, b"least")?;
     fault_between(alloc, left.as_bytes(), right.as_bytes())
 }
 
-// What stands before and behind a term that is too large, the equation's right side, and the fault: the line's, where some token
-// is spelled otherwise than it would be printed or has the name of no symbol, before the 4,097th node, behind it or in the other term.
+// What stands before and behind a term that is too large, the equation's right side, and the fault: the line's, where it departs in
+// anything else, in front of the 4,097th node, behind it or in the other term.
 type Around = (
     &'static [u8],
     &'static [u8],
@@ -492,14 +492,26 @@ const LARGE: &[Around] = &[
     (b"", b"", b"f(X01)", FIFTH),
     (b"", b"", b"f(X0)", FIFTH),
     (b"", b"", b"X", FIFTH),
+    (b"f(", b",least)", b"least", FIFTH),
+    (b"least(", b")", b"least", FIFTH),
+    (b"f(", b"", b"least", FIFTH),
+    (b"", b")", b"least", FIFTH),
+    (b"f = ", b"", b"least", FIFTH),
+    (b"", b"", b"f", FIFTH),
+    (b"", b"", b"f()", FIFTH),
+    (b"", b"", b"f(X1", FIFTH),
+    (b"", b"", b"f(X1))", FIFTH),
+    (b"", b"", b"f(X2)", FIFTH),
+    (b"", b"", b"f(least,X10)", FIFTH),
+    (b"", b"", b"", FIFTH),
     (b"", b"", b"X1", LEFT),
-    (b"", b"", b"f(X2)", LEFT),
-    (b"", b"", b"f(least,X10)", LEFT),
+    (b"", b"", b"f(X1)", LEFT),
+    (b"f(", b")", b"f(f(X1))", LEFT),
 ];
 
 #[test]
 fn large_and_spelled_otherwise(rt: HostRuntime) -> Result<(), Fail> {
-    let large = tower(rt.alloc(), 4096)?;
+    let large = tower(rt.alloc(), 4096, b"least")?;
     for row in LARGE {
         assert!(rt; fault_around(rt.alloc(), large.as_bytes(), row)? == row.3);
     }
@@ -515,4 +527,48 @@ fn fault_around(
     left.extend(large)?;
     left.extend(row.1)?;
     fault_between(alloc, left.as_bytes(), row.2)
+}
+
+// The left side before one that is too large, what stands within that, and the fault.
+type Behind = (&'static [u8], &'static [u8], Option<SystemFault>);
+
+const BEHIND: &[Behind] = &[
+    (b"f(X1)", b"least", RIGHT),
+    (b"f(X1)", b"X1", RIGHT),
+    (b"f(X1)", b"X2", RIGHT),
+    (b"least", b"X1", RIGHT),
+    (b"f(X1)", b"X3", FIFTH),
+    (b"least", b"X2", FIFTH),
+    (b"f(X2)", b"X1", FIFTH),
+    (b"f(X1,X1)", b"least", FIFTH),
+    (b"f(least,least)", b"least", FIFTH),
+    (b"least(X1)", b"least", FIFTH),
+    (b"f", b"least", FIFTH),
+    (b"f()", b"least", FIFTH),
+    (b"f(X1", b"least", FIFTH),
+    (b"f(X1))", b"least", FIFTH),
+    (b"f(X1) = X1", b"least", FIFTH),
+    (b"", b"least", FIFTH),
+    (b"f(X1)", b"f", FIFTH),
+    (b"f(X1)", b"f()", FIFTH),
+    (b"f(X1)", b"f(X1,X1)", FIFTH),
+    (b"f(X1)", b"least(X1)", FIFTH),
+    (b"f(X1)", b"f(X1", FIFTH),
+    (b"f(X1)", b"X1)", FIFTH),
+    (b"f(X1)", b"X1,X1", FIFTH),
+    (b"f(X1)", b"X1 = X1", FIFTH),
+    (b"f(X1)", b"", FIFTH),
+];
+
+#[test]
+fn large_behind_another(rt: HostRuntime) -> Result<(), Fail> {
+    for row in BEHIND {
+        assert!(rt; fault_behind(rt.alloc(), row)? == row.2);
+    }
+    Ok(())
+}
+
+fn fault_behind(alloc: Global, row: &Behind) -> Result<Option<SystemFault>, AllocError> {
+    let large = tower(alloc, 4096, row.1)?;
+    fault_between(alloc, row.0, large.as_bytes())
 }
