@@ -16,7 +16,7 @@ use Rattle.uc_fact.specs.Live.{Rule, RiseFrom, AreRising, fact_at}
 use Rattle.uc_fact.specs.Retrieval.{found_by, Generalises, is_instance, is_no_instance, no_rules, FirstThat, FindsNothing}
 use Rattle.uc_fact.proofs.Occurring.{among}
 use Rattle.uc_disc.specs.declared.search.Answer.{Answer}
-use Rattle.uc_disc.specs.Numbered.{lives}
+use Rattle.uc_disc.specs.Numbered.{lives, IsSeated}
 use Rattle.uc_disc.specs.Retrieving.{GivesNone, IsFirstFrom}
 use Rattle.uc_disc.proofs.Retrieved.{none_gives, first_from_start, not_nothing}
 use Rattle.uc_disc.proofs.Walks.{get-drop, get-there}
@@ -158,6 +158,13 @@ not_below_more fs middle fact m r g h j f k e = go (let z : (middle < j) ⊎ (j 
     go : (middle < j) ⊎ (j ≡ middle) → fact ≤ f.0
     go (inl l) = omega (arith, rise_at 0 fs middle j m f r l g e)
     go (inr q) = (let e' : slice_get fs middle ≡ Some f = subst (λ (z : ℕ). slice_get fs z ≡ Some f) q e in let same : f ≡ m = cc in omega (arith, ap (λ (z : ℕ × Equation). z.0) same))
+
+-- on both sides of a fact's seat
+pub below_seat : (fs : List (ℕ × Equation)) (place fact : ℕ) → AreRising (lives fs) → IsSeated fs fact place → (j : ℕ) (f : ℕ × Equation) → j < place → slice_get fs j ≡ Some f → f.0 < fact
+below_seat fs place fact r s j f l e = omega (arith, rise_at 0 fs j place f s.fact r l e s.is, s.number_is)
+
+pub not_below_seat : (fs : List (ℕ × Equation)) (place fact : ℕ) → AreRising (lives fs) → IsSeated fs fact place → (j : ℕ) (f : ℕ × Equation) → place ≤ j → slice_get fs j ≡ Some f → fact ≤ f.0
+not_below_seat fs place fact r s = not_below_more fs place fact s.fact r s.is (omega (arith, s.number_is))
 
 -- no fact has the number
 pub fact_past : (fs : List (ℕ × Equation)) (place fact : ℕ) → length fs ≤ place → ((j : ℕ) (f : ℕ × Equation) → j < place → slice_get fs j ≡ Some f → f.0 < fact) → fact_at (lives fs) fact ≡ None

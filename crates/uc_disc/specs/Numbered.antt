@@ -25,3 +25,9 @@ rule_number place Right = 2 * place + 1
 -- the rule of this number is read from this side of this fact
 pub record IsRule (facts : List (ℕ × Equation)) (number : ℕ) (fact : ℕ × Equation) (side : Side) : Type 0 where
   pub is : slice_get (rules_of (lives facts)) number ≡ Some (rule_of side (live_of fact))
+
+-- the fact of this number stands at a place
+pub record IsSeated (facts : List (ℕ × Equation)) (number place : ℕ) : Type 0 where
+  pub fact : ℕ × Equation
+  pub is : slice_get facts place ≡ Some fact
+  pub number_is : fact.0 ≡ number

@@ -14,6 +14,7 @@ mod ends;
 mod facts;
 mod place;
 mod search;
+mod seats;
 mod spelling;
 mod tree;
 mod walk;

@@ -1,7 +1,6 @@
 //! The tree, and how it answers as an index.
 
-ghost use Rattle.std.specs.Prelude.{◌≡◌, ◌+◌, ◌<◌, ◌≤◌, ◌^◌, ℕ, IfOk, length, slice_get, Some};
-ghost use Rattle.uc_term.specs.declared.equation.Equation.{Equation as AnyEquation};
+ghost use Rattle.std.specs.Prelude.{◌≡◌, ◌<◌, ◌≤◌, ◌^◌, ℕ, IfOk, length};
 ghost use Rattle.uc_fact.specs.Live.{AreRising};
 ghost use Rattle.uc_disc.specs.Numbered.{lives};
 
@@ -9,6 +8,7 @@ use crate::build::{depth_of, marks_of, places_of, spell_all};
 use crate::facts::copy_facts;
 use crate::place::{Mark, Place};
 use crate::search::{Any, first_from};
+use crate::seats::{place_of, seats_of};
 use std::alloc::{AllocError, Global};
 use std::marker::Model;
 use uc_fact::{Equation, Found, Index, Test};
@@ -19,6 +19,8 @@ use uc_term::{Node, Seq, Term};
 #[derive(Drop)]
 pub struct Tree {
     facts: Vec<(u32, Equation)>,
+    /// Where to look for the fact of a number.
+    seats: Vec<u32>,
     places: Vec<Place>,
     marks: Vec<Mark>,
     deep: usize,
@@ -63,8 +65,10 @@ impl Tree {
         let places = places_of(alloc, list.as_slice())?;
         let marks = marks_of(alloc, places.as_slice())?;
         let deep = depth_of(places.as_slice());
+        let seats = seats_of(alloc, facts.as_slice())?;
         Ok(Tree {
             facts,
+            seats,
             places,
             marks,
             deep,
@@ -128,7 +132,7 @@ impl Index for Tree {
 
     fn pair(&self, fact: u32) -> Option<(&Term, &Term)> {
         let facts = self.facts.as_slice();
-        let place = first_not_below(facts, fact);
+        let place = place_of(facts, self.seats.as_slice(), fact);
         if place >= facts.len() {
             return None;
         }
@@ -140,24 +144,4 @@ impl Index for Tree {
     }
 
     ghost rising = { risen_rises 0 };
-}
-
-/// Finds the first fact with this number or a greater one, by halving, among facts with rising numbers.
-fn first_not_below(facts: &[(u32, Equation)], fact: u32) -> usize
-    requires rising { AreRising (lives facts.now) }
-    ensures within { result ≤ length facts.now }
-    ensures below { (j : ℕ) (f : ℕ × AnyEquation) → j < result → slice_get facts.now j ≡ Some f → f.0 < fact }
-    ensures not_below { (j : ℕ) (f : ℕ × AnyEquation) → result ≤ j → slice_get facts.now j ≡ Some f → fact ≤ f.0 }
-{
-    let mut low = 0;
-    let mut high = facts.len();
-    while low < high {
-        let middle = low + (high - low) / 2;
-        if facts[middle].0 < fact {
-            low = middle + 1;
-        } else {
-            high = middle;
-        }
-    }
-    low
 }

@@ -1,18 +1,26 @@
 -- What the closure keeps: the values that the classes and the pairs ask for make the two places equal, and the instances of
 -- each unifier are such values.
-use Rattle.std.proofs.Common.{◌≡◌, ℕ, ◌<◌, List, [], ◌∷◌, ◌++◌, length, slice_get, Some, sym, ap, ◌∙◌, subst, arith, ◌⊎◌, inl, inr}
+use Rattle.std.proofs.Common.{◌≡◌, ℕ, ◌<◌, ◌≤◌, true, List, [], ◌∷◌, ◌++◌, length, slice_get, Some, sym, ap, ◌∙◌, subst, arith, ◌⊎◌, inl, inr}
 use Rattle.std.proofs.lemmas.Option.{slice_get_within}
 use Rattle.uc_term.specs.declared.node.Node.{Node}
 use Rattle.uc_term.specs.declared.node.Node.TheVariants.{Var, App}
 use Rattle.uc_term.specs.Tree.{Tree, apply}
 use Rattle.uc_unify.specs.Closure.{IsMadeAt, class, Respects, AreMade, AllSame, AllBelow, instances, AreClasses, Advances, IsClosed, IsFirstPlace, AreFirst, HasNoInstances}
+use Rattle.uc_unify.specs.Forest.{AreParents, IsForest, IsUnited}
 use Rattle.uc_unify.proofs.Fitting.{below_parts, variable_at}
+use Rattle.uc_unify.proofs.Linking.{forest_starts}
 
 pub record Closing (ns : List Node) (second : ℕ) (classes : List ℕ) (pairs : List (ℕ × ℕ)) : Type 0 where
   pub are_classes : AreClasses ns classes
   pub below : AllBelow (length ns) pairs
   pub sound : (V : ℕ → Tree) → Respects classes V → AllSame pairs V → AreMade ns classes V → ((p : ℕ) → p < length ns → IsMadeAt ns V p) × (V 0 ≡ V second)
   pub complete : (τ : ℕ → Tree) → instances ns τ 0 ≡ instances ns τ second → Respects classes (instances ns τ) × AllSame pairs (instances ns τ)
+
+-- the same of classes that are trees
+pub record Joining (ns : List Node) (second : ℕ) (parents heads : List ℕ) (pairs : List (ℕ × ℕ)) : Type 0 where
+  pub classes : List ℕ
+  pub forest : IsForest parents heads classes
+  pub closing : Closing ns second classes pairs
 
 pub closing_goes_on : (ns : List Node) (second : ℕ) (classes new_classes : List ℕ) (pairs all new_pairs : List (ℕ × ℕ)) (p q : ℕ) → all ≡ pairs ++ (p, q) ∷ [] → Closing ns second classes all → Advances ns classes (pairs ++ (p, q) ∷ []) new_classes new_pairs → Closing ns second new_classes new_pairs
 closing_goes_on ns second classes new_classes pairs all new_pairs p q e c a =
@@ -73,8 +81,15 @@ module _ (ns : List Node) (classes : List ℕ) (f : AreFirst ns classes) where
   stands p h (inl a) = ap (class classes) a.0
   stands p h (inr b) = once (class classes p) p b.1.0 b.1.2 b.1.1
 
-  first_classes : AreClasses ns classes
+  pub first_classes : AreClasses ns classes
   first_classes = record { long = f.long; within = λ p h. within p h (f.first p h); stands = λ p h. stands p h (f.first p h); one = once }
+
+  pub parents_before : AreParents classes
+  parents_before p h = go (f.first p (let l = f.long in omega arith))
+    where
+      go : IsFirstPlace ns p (class classes p) → class classes p ≤ p
+      go (inl a) = let e = a.0 in omega arith
+      go (inr b) = let l = b.0 in omega arith
 
   -- the values of a variable's places are the same
   pub closing_starts : (second : ℕ) → second < length ns → Closing ns second classes ((0, second) ∷ [])
@@ -92,3 +107,20 @@ module _ (ns : List Node) (classes : List ℕ) (f : AreFirst ns classes) where
       same : (τ : ℕ → Tree) (p : ℕ) → IsFirstPlace ns p (class classes p) → instances ns τ p ≡ instances ns τ (class classes p)
       same τ p (inl a) = ap (instances ns τ) (sym a.0)
       same τ p (inr b) = ap (apply τ) (variable_at ns p b.1.0 b.1.1 ∙ sym (variable_at ns (class classes p) b.1.0 b.1.2))
+
+  pub joining_starts : (second : ℕ) (heads : List ℕ) (pairs : List (ℕ × ℕ)) → second < length ns → heads ≡ classes → pairs ≡ (0, second) ∷ [] → Joining ns second classes heads pairs
+  joining_starts second heads pairs h e q = rw (e, q) (record {
+    classes = classes;
+    forest = forest_starts ns classes first_classes parents_before;
+    closing = closing_starts second h;
+  })
+
+pub joining_goes_on : (ns : List Node) (second : ℕ) (parents heads new_parents new_heads : List ℕ) (pairs all new_pairs : List (ℕ × ℕ)) (p q : ℕ) → all ≡ pairs ++ (p, q) ∷ [] → (j : Joining ns second parents heads all) → IsUnited ns j.classes (pairs ++ (p, q) ∷ []) new_parents new_heads new_pairs true → Joining ns second new_parents new_heads new_pairs
+joining_goes_on ns second parents heads new_parents new_heads pairs all new_pairs p q e j u = record {
+  classes = u.0;
+  forest = u.1;
+  closing = closing_goes_on ns second j.classes u.0 pairs all new_pairs p q e j.closing u.2;
+}
+
+pub joining_ends : (ns : List Node) (second : ℕ) (parents heads new_heads : List ℕ) (pairs : List (ℕ × ℕ)) → pairs ≡ [] → (j : Joining ns second parents heads pairs) → new_heads ≡ j.classes → IsClosed ns second new_heads
+joining_ends ns second parents heads new_heads pairs e j h = subst (IsClosed ns second) (sym h) (closing_ends ns second j.classes pairs e j.closing)

@@ -35,6 +35,9 @@ module _ (ns : List Node) (w : AreWhole ns) where
   pub fits_place : (p n : ℕ) → Fits ns p (suc n) → p < length ns
   fits_place p n h = place_within ns p (count (trees_of (drop p ns))) refl (omega arith)
 
+  pub fits_some : (p n : ℕ) → Fits ns p n → 0 < n → p < length ns
+  fits_some p n h k = place_within ns p (count (trees_of (drop p ns))) refl (omega arith)
+
   -- the terms at a place are the first and those behind it
   pub trees_at : (p : ℕ) → p < length ns → trees_of (drop p ns) ≡ more (at ns p) (trees_of (drop (next ns p) ns))
   trees_at p h =

@@ -1,7 +1,11 @@
 pub mod Walk
 pub mod Both
 pub mod Fitting
+pub mod Linking
+pub mod Ending
+pub mod Noting
 pub mod Relabel
+pub mod Uniting
 pub mod Closing
 pub mod Sizing
 pub mod Passing

@@ -28,4 +28,4 @@ module _ (ns : List Node) (classes : List ℕ) where
 
   pub pass_ends : (old new : List ℕ) (any : Bool) (place : ℕ) → place ≡ 0 → Passing old new any place → AreSizing ns classes old new any
   pass_ends old new true place e g = g
-  pass_ends old new false place e g = λ p i r z. g.1 p (omega arith) i r z
+  pass_ends old new false place e g = (g.0, λ p i r z. g.1 p (omega arith) i r z)

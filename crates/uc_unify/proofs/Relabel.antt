@@ -1,6 +1,6 @@
 -- What it comes to that another place stands for a class.
-use Rattle.std.proofs.Common.{◌≡◌, ℕ, zero, suc, ◌+◌, ◌<◌, ◌≤◌, ◌==◌, Bool, true, false, List, [], ◌∷◌, ◌++◌, length, map, get_or, set, take, drop, slice_get, Some, if◌then◌else◌, refl, sym, ap, ap₂, ◌∙◌, subst, arith, ◌⊎◌, inl, inr, length-append}
-use Rattle.std.proofs.lemmas.List.{get_or-map, length-map, get_or_default}
+use Rattle.std.proofs.Common.{◌≡◌, ℕ, ◌+◌, ◌<◌, ◌==◌, Bool, true, false, List, [], ◌∷◌, ◌++◌, length, map, get_or, slice_get, Some, if◌then◌else◌, refl, sym, ap, ap₂, ◌∙◌, subst, arith, ◌⊎◌, inl, inr}
+use Rattle.std.proofs.lemmas.List.{get_or-map, length-map}
 use Rattle.std.proofs.lemmas.Bool.{eqb-true, eq-eqb}
 use Rattle.std.proofs.lemmas.Option.{slice_get_within, slice_get-get_or}
 use Rattle.uc_term.specs.declared.node.Sym.{Sym}
@@ -8,8 +8,8 @@ use Rattle.uc_term.specs.declared.node.Node.{Node}
 use Rattle.uc_term.specs.declared.node.Node.TheVariants.{Var, App}
 use Rattle.uc_term.specs.Tree.{Tree, app}
 use Rattle.uc_term.specs.Flat.{AreWhole}
-use Rattle.uc_unify.specs.Closure.{at, values, IsMadeAt, class, Respects, AreMade, AllSame, AllBelow, instances, pairs_from, AreClasses, count_from, Advances, HasNoInstances, HasArguments}
-use Rattle.uc_unify.proofs.Fitting.{same_append, same_parts, same_values, values_same, instance_made, made_alike, below_append, pairs_below, fits_args, fits_few, length-pairs_from}
+use Rattle.uc_unify.specs.Closure.{at, values, IsMadeAt, class, Respects, AreMade, AllSame, AllBelow, instances, pairs_from, AreClasses, Advances, HasNoInstances, HasArguments}
+use Rattle.uc_unify.proofs.Fitting.{same_append, same_parts, same_values, values_same, instance_made, made_alike, below_append, pairs_below, fits_args}
 
 abbrev pub relabel : ℕ → ℕ → ℕ → ℕ
 relabel a b c = if c == a then b else c
@@ -36,43 +36,6 @@ either a b c = go (c == a) refl
     go : (t : Bool) → (c == a) ≡ t → Either a b c
     go true q = inl (eqb-true c a q, relabel_same a b c (eqb-true c a q))
     go false q = inr (not q, relabel_other a b c (not q))
-
--- no more places stand for themselves
-count_le : (a b : ℕ) (cs : List ℕ) (i : ℕ) → ((k : ℕ) → k < length cs → get_or cs k 0 ≡ a → i + k ≡ b → ⊥) → count_from i (map (relabel a b) cs) ≤ count_from i cs
-count_le a b [] i h = omega arith
-count_le a b (c ∷ cs) i h = omega (arith, head (either a b c), count_le a b cs (i + 1) (λ k l e q. h (suc k) (omega arith) e (omega arith)))
-  where
-    same : (t u : Bool) → (t ≡ true → u ≡ true) → (if t then 1 else 0) ≤ (if u then 1 else 0)
-    same true true k = omega arith
-    same true false k = absurd (let e = k refl in cc)
-    same false u k = zero_le u
-      where
-        zero_le : (u : Bool) → 0 ≤ (if u then 1 else 0)
-        zero_le true = omega arith
-        zero_le false = omega arith
-
-    head : Either a b c → (if relabel a b c == i then 1 else 0) ≤ (if c == i then 1 else 0)
-    head (inl e) = same (relabel a b c == i) (c == i) (λ q. absurd (h zero (omega arith) e.0 (let n : relabel a b c ≡ i = eqb-true (relabel a b c) i q in let z : i + 0 ≡ i = omega arith in z ∙ sym n ∙ e.1)))
-    head (inr e) = same (relabel a b c == i) (c == i) (λ q. eq-eqb c i (sym e.1 ∙ eqb-true (relabel a b c) i q))
-
--- and one less where one did
-count_less : (a b : ℕ) (cs : List ℕ) (i j : ℕ) → (a ≡ b → ⊥) → j < length cs → i + j ≡ a → get_or cs j 0 ≡ a → ((k : ℕ) → k < length cs → get_or cs k 0 ≡ a → i + k ≡ b → ⊥) → count_from i (map (relabel a b) cs) < count_from i cs
-count_less a b [] i j ne l at e h = absurd (omega arith)
-count_less a b (c ∷ cs) i zero ne l at e h =
-    let here : c ≡ a = e in
-    let place : i ≡ a = omega arith in
-    let was : (c == i) ≡ true = eq-eqb c i (here ∙ sym place) in
-    let now : (relabel a b c == i) ≡ false = go (relabel a b c == i) refl (relabel_same a b c here) place in
-    let old : count_from i (c ∷ cs) ≡ 1 + count_from (i + 1) cs = ap (λ t. (if t then 1 else 0) + count_from (i + 1) cs) was in
-    let new : count_from i (map (relabel a b) (c ∷ cs)) ≡ 0 + count_from (i + 1) (map (relabel a b) cs) = ap (λ t. (if t then 1 else 0) + count_from (i + 1) (map (relabel a b) cs)) now in
-    omega (arith, old, new, count_le a b cs (i + 1) (λ k l e q. h (suc k) (omega arith) e (omega arith)))
-  where
-    go : (t : Bool) → (relabel a b c == i) ≡ t → relabel a b c ≡ b → i ≡ a → (relabel a b c == i) ≡ false
-    go true q r p = absurd (ne (sym p ∙ sym (eqb-true (relabel a b c) i q) ∙ r))
-    go false q r p = q
-count_less a b (c ∷ cs) i (suc j) ne l at e h =
-    let front = count_le a b (c ∷ []) i (λ k l' e' q. (let z : k ≡ 0 = omega arith in h zero (omega arith) (ap (λ n. get_or (c ∷ []) n 0) (sym z) ∙ e') (omega arith))) in
-    omega (arith, front, count_less a b cs (i + 1) j ne (omega arith) (omega arith) e (λ k l e q. h (suc k) (omega arith) e (omega arith)))
 
 module _ (ns : List Node) (classes : List ℕ) (k : AreClasses ns classes) (a b : ℕ) (a_in : a < length ns) (b_in : b < length ns) (a_rep : class classes a ≡ a) (b_rep : class classes b ≡ b) (differ : a ≡ b → ⊥) where
   abbrev pub merged : List ℕ
@@ -151,9 +114,6 @@ module _ (ns : List Node) (classes : List ℕ) (k : AreClasses ns classes) (a b 
         go (inl e) = subst (IsMadeAt ns V) (sym e.0) here
         go (inr e) = m p (omega (arith, long)) (class_merged p in_ns ∙ ap (relabel a b) rep ∙ e.1)
 
-  pub fewer : count_from 0 merged < count_from 0 classes
-  fewer = count_less a b classes 0 a differ (let l = k.long in omega arith) (omega arith) a_rep (λ j h e q. differ (sym e ∙ ap (class classes) (let z : j ≡ b = omega arith in z) ∙ b_rep))
-
 -- The two places of a pair have one class already.
 pub advances_same : (ns : List Node) (classes : List ℕ) (pairs : List (ℕ × ℕ)) (p q : ℕ) → AreClasses ns classes → AllBelow (length ns) pairs → p < length ns → q < length ns → class classes p ≡ class classes q → Advances ns classes (pairs ++ (p, q) ∷ []) classes pairs
 advances_same ns classes pairs p q k below hp hq e = record {
@@ -161,7 +121,6 @@ advances_same ns classes pairs p q k below hp hq e = record {
   below = below;
   sound = λ V r s m. (r, same_append V pairs ((p, q) ∷ []) s (r p (let l = k.long in omega arith) ∙ ap V e ∙ sym (r q (let l = k.long in omega arith)), tt), m);
   complete = λ τ r s. (r, (same_parts (instances ns τ) pairs ((p, q) ∷ []) s).0);
-  less = omega (arith, length-append pairs ((p, q) ∷ []));
 }
 
 -- the values of the places that stand for the two of a pair
@@ -187,7 +146,6 @@ module _ (ns : List Node) (classes : List ℕ) (pairs : List (ℕ × ℕ)) (p q 
         (let back = respects_back ns classes k A B (k.within p hp) (k.within q hq) (k.stands p hp) (k.stands q hq) ne V r in
         (back, same_append V pairs ((p, q) ∷ []) s (pair_value V back (joined_value ns classes k A B (k.within p hp) (k.within q hq) (k.stands p hp) (k.stands q hq) ne V r), tt), made_back ns classes k A B (k.within p hp) (k.within q hq) (k.stands p hp) (k.stands q hq) ne V m (λ f n h. absurd (let both : Some (Var x) ≡ Some (App f n) = sym e ∙ h in cc))));
     complete = λ τ r s. (respects_on ns classes k A B (k.within p hp) (k.within q hq) (k.stands p hp) (k.stands q hq) ne (instances ns τ) r (rep_value ns classes (instances ns τ) pairs p q k hp hq r s), (same_parts (instances ns τ) pairs ((p, q) ∷ []) s).0);
-    less = omega (arith, length-append pairs ((p, q) ∷ []), fewer ns classes k A B (k.within p hp) (k.within q hq) (k.stands p hp) (k.stands q hq) ne);
   }
 
   pub advances_right : (x : ℕ) → slice_get ns B ≡ Some (Var x) → (A ≡ B → ⊥) → Advances ns classes (pairs ++ (p, q) ∷ []) (map (relabel B A) classes) pairs
@@ -198,13 +156,12 @@ module _ (ns : List Node) (classes : List ℕ) (pairs : List (ℕ × ℕ)) (p q 
         (let back = respects_back ns classes k B A (k.within q hq) (k.within p hp) (k.stands q hq) (k.stands p hp) ne V r in
         (back, same_append V pairs ((p, q) ∷ []) s (pair_value V back (sym (joined_value ns classes k B A (k.within q hq) (k.within p hp) (k.stands q hq) (k.stands p hp) ne V r)), tt), made_back ns classes k B A (k.within q hq) (k.within p hp) (k.stands q hq) (k.stands p hp) ne V m (λ f n h. absurd (let both : Some (Var x) ≡ Some (App f n) = sym e ∙ h in cc))));
     complete = λ τ r s. (respects_on ns classes k B A (k.within q hq) (k.within p hp) (k.stands q hq) (k.stands p hp) ne (instances ns τ) r (sym (rep_value ns classes (instances ns τ) pairs p q k hp hq r s)), (same_parts (instances ns τ) pairs ((p, q) ∷ []) s).0);
-    less = omega (arith, length-append pairs ((p, q) ∷ []), fewer ns classes k B A (k.within q hq) (k.within p hp) (k.stands q hq) (k.stands p hp) ne);
   }
     where
       ne : class classes q ≡ class classes p → ⊥
       ne e = ne' (sym e)
 
-  module _ (w : AreWhole ns) (few : length ns ≤ 8192) (f : Sym) (n : ℕ) (at_a : slice_get ns A ≡ Some (App f n)) where
+  module _ (w : AreWhole ns) (f : Sym) (n : ℕ) (at_a : slice_get ns A ≡ Some (App f n)) where
     -- two terms with one symbol are joined with their arguments
     pub advances_both : slice_get ns B ≡ Some (App f n) → (A ≡ B → ⊥) → Advances ns classes (pairs ++ (p, q) ∷ []) (map (relabel A B) classes) (pairs ++ pairs_from ns (A + 1) (B + 1) n)
     advances_both at_b ne = record {
@@ -214,7 +171,6 @@ module _ (ns : List Node) (classes : List ℕ) (pairs : List (ℕ × ℕ)) (p q 
       complete = λ τ r s.
           (let e = rep_value ns classes (instances ns τ) pairs p q k hp hq r s in
           (respects_on ns classes k A B (k.within p hp) (k.within q hq) (k.stands p hp) (k.stands q hq) ne (instances ns τ) r e, same_append (instances ns τ) pairs (pairs_from ns (A + 1) (B + 1) n) (same_parts (instances ns τ) pairs ((p, q) ∷ []) s).0 (values_same (instances ns τ) ns n (A + 1) (B + 1) (arguments τ e))));
-      less = omega (arith, length-append pairs ((p, q) ∷ []), length-append pairs (pairs_from ns (A + 1) (B + 1) n), length-pairs_from ns n (A + 1) (B + 1), fits_few ns w (A + 1) n (fits_args ns w A n (f, at_a)), fewer ns classes k A B (k.within p hp) (k.within q hq) (k.stands p hp) (k.stands q hq) ne);
     }
       where
         arguments : (τ : ℕ → Tree) → instances ns τ (class classes p) ≡ instances ns τ (class classes q) → values (instances ns τ) ns (class classes p + 1) n ≡ values (instances ns τ) ns (class classes q + 1) n
@@ -243,30 +199,13 @@ module _ (ns : List Node) (classes : List ℕ) (pairs : List (ℕ × ℕ)) (p q 
         let e = rep_value ns classes (instances ns τ) pairs p q k hp hq r s in
         ne (made_alike (instances ns τ) ns (A + 1) (B + 1) f g n m (sym (instance_made ns w τ A f n at_a) ∙ e ∙ instance_made ns w τ B g m at_b))
 
--- the classes are relabelled one after another
-pub merge_step : (g : ℕ → ℕ) (xs : List ℕ) (i : ℕ) → i < length xs → set (map g (take i xs) ++ drop i xs) i (g (get_or (map g (take i xs) ++ drop i xs) i 0)) ≡ map g (take (i + 1) xs) ++ drop (i + 1) xs
-merge_step g [] i h = absurd (omega arith)
-merge_step g (x ∷ xs) zero h = refl
-merge_step g (x ∷ xs) (suc i) h =
-    let e : suc i + 1 ≡ suc (i + 1) = omega arith in
-    rw e (ap (λ l. g x ∷ l) (merge_step g xs i (omega arith)))
-
--- the places as they are read in code
-module _ (ns : List Node) (classes : List ℕ) (pairs : List (ℕ × ℕ)) (p q : ℕ) (k : AreClasses ns classes) (below : AllBelow (length ns) pairs) (hp : p < length ns) (hq : q < length ns) (a b : ℕ) (a_read : a ≡ get_or classes p a) (b_read : b ≡ get_or classes q b) where
-  pub a_is : a ≡ class classes p
-  a_is = a_read ∙ get_or_default classes p a 0 (let l = k.long in omega arith)
-
-  pub b_is : b ≡ class classes q
-  b_is = b_read ∙ get_or_default classes q b 0 (let l = k.long in omega arith)
-
+-- the same where the places that stand for the two are known
+module _ (ns : List Node) (classes : List ℕ) (pairs : List (ℕ × ℕ)) (p q : ℕ) (k : AreClasses ns classes) (below : AllBelow (length ns) pairs) (hp : p < length ns) (hq : q < length ns) (a b : ℕ) (a_is : a ≡ class classes p) (b_is : b ≡ class classes q) where
   pub a_in : a < length ns
   a_in = subst (λ (c : ℕ). c < length ns) (sym a_is) (k.within p hp)
 
   pub b_in : b < length ns
   b_in = subst (λ (c : ℕ). c < length ns) (sym b_is) (k.within q hq)
-
-  pub same_at : a ≡ b → Advances ns classes (pairs ++ (p, q) ∷ []) classes pairs
-  same_at e = advances_same ns classes pairs p q k below hp hq (sym a_is ∙ e ∙ b_is)
 
   pub left_at : (a ≡ b → ⊥) → (x : ℕ) (d : Node) → get_or ns a d ≡ Var x → (new : List ℕ) → new ≡ map (relabel a b) classes → Advances ns classes (pairs ++ (p, q) ∷ []) new pairs
   left_at ne x d at new e = rw (e, a_is, b_is) (advances_left ns classes pairs p q k below hp hq x (ap (slice_get ns) (sym a_is) ∙ slice_get-get_or ns a d a_in ∙ ap Some at) (λ s. ne (a_is ∙ s ∙ sym b_is)))
@@ -280,16 +219,16 @@ module _ (ns : List Node) (classes : List ℕ) (pairs : List (ℕ × ℕ)) (p q 
   pub arguments_b : (f : Sym) (n : ℕ) (d : Node) → get_or ns b d ≡ App f n → HasArguments ns b n
   arguments_b f n d at = (f, slice_get-get_or ns b d b_in ∙ ap Some at)
 
-  module _ (w : AreWhole ns) (few : length ns ≤ 8192) (f : Sym) (n : ℕ) (d : Node) (at : get_or ns a d ≡ App f n) where
+  module _ (w : AreWhole ns) (f : Sym) (n : ℕ) (d : Node) (at : get_or ns a d ≡ App f n) where
     at_a : slice_get ns (class classes p) ≡ Some (App f n)
     at_a = ap (slice_get ns) (sym a_is) ∙ slice_get-get_or ns a d a_in ∙ ap Some at
 
     pub both_at : (a ≡ b → ⊥) → get_or ns b d ≡ App f n → (new : List ℕ) (new_pairs : List (ℕ × ℕ)) → new ≡ map (relabel a b) classes → new_pairs ≡ pairs ++ pairs_from ns (a + 1) (b + 1) n → Advances ns classes (pairs ++ (p, q) ∷ []) new new_pairs
-    both_at ne at' new new_pairs e e' = rw (e, e', a_is, b_is) (advances_both ns classes pairs p q k below hp hq w few f n at_a (ap (slice_get ns) (sym b_is) ∙ slice_get-get_or ns b d b_in ∙ ap Some at') (λ s. ne (a_is ∙ s ∙ sym b_is)))
+    both_at ne at' new new_pairs e e' = rw (e, e', a_is, b_is) (advances_both ns classes pairs p q k below hp hq w f n at_a (ap (slice_get ns) (sym b_is) ∙ slice_get-get_or ns b d b_in ∙ ap Some at') (λ s. ne (a_is ∙ s ∙ sym b_is)))
 
     pub clash_at : ((x : ℕ) → get_or ns b d ≡ Var x → ⊥) → (get_or ns b d ≡ App f n → ⊥) → HasNoInstances ns classes (pairs ++ (p, q) ∷ [])
     clash_at not_var not_app = go (get_or ns b d) refl
       where
         go : (m : Node) → get_or ns b d ≡ m → HasNoInstances ns classes (pairs ++ (p, q) ∷ [])
         go (Var x) e = absurd (not_var x e)
-        go (App g m) e = no_instances ns classes pairs p q k below hp hq w few f n at_a g m (ap (slice_get ns) (sym b_is) ∙ slice_get-get_or ns b d b_in ∙ ap Some e) (λ s. not_app (e ∙ ap₂ App (sym s.0) (sym s.1)))
+        go (App g m) e = no_instances ns classes pairs p q k below hp hq w f n at_a g m (ap (slice_get ns) (sym b_is) ∙ slice_get-get_or ns b d b_in ∙ ap Some e) (λ s. not_app (e ∙ ap₂ App (sym s.0) (sym s.1)))

@@ -1,6 +1,6 @@
 -- Classes of places of flat lists: the places whose subterms must have one instance. (Unification closure: Huet; Baader and
 -- Snyder, Unification Theory, section 2.3.)
-use Rattle.std.specs.Prelude.{ℕ, zero, suc, ◌≡◌, ◌+◌, ◌*◌, ◌<◌, ◌==◌, ◌⊎◌, Bool, true, false, List, [], ◌∷◌, length, drop, slice_get, slice_index, Some, if◌then◌else◌}
+use Rattle.std.specs.Prelude.{ℕ, zero, suc, ◌≡◌, ◌+◌, ◌*◌, ◌<◌, ◌≤◌, ◌==◌, ◌⊎◌, List, [], ◌∷◌, length, drop, slice_get, slice_index, Some, if◌then◌else◌}
 use Rattle.uc_term.specs.declared.node.Node.{Node}
 use Rattle.uc_term.specs.declared.node.Node.TheVariants.{Var, App}
 use Rattle.uc_term.specs.declared.node.Sym.{Sym}
@@ -62,30 +62,25 @@ pub record AreClasses (ns : List Node) (classes : List ℕ) : Type 0 where
   pub stands : (p : ℕ) → p < length ns → class classes (class classes p) ≡ class classes p
   pub one : (p q x : ℕ) → slice_get ns p ≡ Some (Var x) → slice_get ns q ≡ Some (Var x) → class classes p ≡ class classes q
 
--- how many classes there are, of places from i on
+-- how many places from i on have themselves
 abbrev pub count_from : ℕ → List ℕ → ℕ
 count_from i [] = 0
 count_from i (c ∷ cs) = (if c == i then 1 else 0) + count_from (i + 1) cs
 
--- how much is left to do
+-- how much is left to do, where each place has one above it, itself at a root
 abbrev pub left_of : List ℕ → List (ℕ × ℕ) → ℕ
-left_of classes pairs = 16384 * count_from 0 classes + length pairs
+left_of parents pairs = 16384 * count_from 0 parents + length pairs
 
--- The values that the new classes and pairs ask for are those that the old ones did, and less is left to do.
+-- The values that the new classes and pairs ask for are those that the old ones did.
 pub record Advances (ns : List Node) (classes : List ℕ) (pairs : List (ℕ × ℕ)) (new_classes : List ℕ) (new_pairs : List (ℕ × ℕ)) : Type 0 where
   pub are_classes : AreClasses ns new_classes
   pub below : AllBelow (length ns) new_pairs
   pub sound : (V : ℕ → Tree) → Respects new_classes V → AllSame new_pairs V → AreMade ns new_classes V → Respects classes V × AllSame pairs V × AreMade ns classes V
   pub complete : (τ : ℕ → Tree) → Respects classes (instances ns τ) → AllSame pairs (instances ns τ) → Respects new_classes (instances ns τ) × AllSame new_pairs (instances ns τ)
-  pub less : left_of new_classes new_pairs < left_of classes pairs
 
 -- no instances are the same throughout the classes and at each pair
 abbrev pub HasNoInstances : List Node → List ℕ → List (ℕ × ℕ) → Type 0
 HasNoInstances ns classes pairs = (τ : ℕ → Tree) → Respects classes (instances ns τ) → AllSame pairs (instances ns τ) → ⊥
-
-abbrev pub IsUnited : List Node → List ℕ → List (ℕ × ℕ) → List ℕ → List (ℕ × ℕ) → Bool → Type 0
-IsUnited ns classes pairs new_classes new_pairs true = Advances ns classes pairs new_classes new_pairs
-IsUnited ns classes pairs new_classes new_pairs false = HasNoInstances ns classes pairs
 
 -- The classes are closed: values that are the same throughout them, and made of arguments at the places that stand for them,
 -- are made so everywhere, and are the same at the two places; and the instances of each unifier are the same throughout them.
@@ -93,6 +88,14 @@ pub record IsClosed (ns : List Node) (second : ℕ) (classes : List ℕ) : Type 
   pub are_classes : AreClasses ns classes
   pub sound : (V : ℕ → Tree) → Respects classes V → AreMade ns classes V → ((p : ℕ) → p < length ns → IsMadeAt ns V p) × (V 0 ≡ V second)
   pub complete : (τ : ℕ → Tree) → instances ns τ 0 ≡ instances ns τ second → Respects classes (instances ns τ)
+
+-- the places behind the terms from a place on
+pub record AreEndsFrom (ns : List Node) (from : ℕ) (ends : List ℕ) : Type 0 where
+  pub long : length ends ≡ length ns
+  pub ends_are : (p : ℕ) → from ≤ p → p < length ns → slice_index ends p ≡ next ns p
+
+abbrev pub AreEnds : List Node → List ℕ → Type 0
+AreEnds ns ends = AreEndsFrom ns 0 ends
 
 -- a symbol with this number of arguments stands at the place
 abbrev pub HasArguments : List Node → ℕ → ℕ → Type 0
@@ -106,3 +109,10 @@ IsFirstPlace ns p first = ((first ≡ p) × ((x : ℕ) → slice_get ns p ≡ So
 pub record AreFirst (ns : List Node) (classes : List ℕ) : Type 0 where
   pub long : length classes ≡ length ns
   pub first : (p : ℕ) → p < length ns → IsFirstPlace ns p (class classes p)
+
+-- a variable's first place, if there is one before the place
+abbrev pub IsNoted : List Node → ℕ → ℕ → ℕ → Type 0
+IsNoted ns p x first = ((first < p) × (slice_get ns first ≡ Some (Var x)) × ((q : ℕ) → q < first → slice_get ns q ≡ Some (Var x) → ⊥)) ⊎ ((first ≡ length ns) × ((q : ℕ) → q < p → slice_get ns q ≡ Some (Var x) → ⊥))
+
+abbrev pub AreNoted : List Node → ℕ → List ℕ → Type 0
+AreNoted ns p noted = (x : ℕ) → x < length noted → IsNoted ns p x (slice_index noted x)

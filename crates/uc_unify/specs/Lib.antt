@@ -2,4 +2,5 @@ pub mod Matching
 pub mod Extension
 pub mod Unifiers
 pub mod Closure
+pub mod Forest
 pub mod Solutions

@@ -72,7 +72,7 @@ module _ (ns : List Node) (classes : List ℕ) where
   -- the same of all places
   abbrev pub AreSizing : List ℕ → List ℕ → Bool → Type 0
   AreSizing old new true = count_by (λ size. size == 0) new < count_by (λ size. size == 0) old
-  AreSizing old new false = AreStuck new
+  AreSizing old new false = (new ≡ old) × AreStuck new
 
   -- terms stand at these places, so many from each on, that are to be written from the last place to the first
   abbrev pub Opens : List (ℕ × ℕ) → Trees → Type 0
@@ -95,11 +95,23 @@ module _ (ns : List Node) (classes : List ℕ) where
     pub here : (p x : ℕ) (t : Tree) → slice_get ns p ≡ Some (Var x) → Solves p t → σ x ≡ t
     pub others : (x : ℕ) → ((p : ℕ) → slice_get ns p ≡ Some (Var x) → ⊥) → σ x ≡ var x
 
-  -- the variable has a term, or is given the place's one
+  -- the place's term is the variable, which has a term, or is given the place's one
   abbrev pub AddsSolution : ℕ → ℕ → List (ℕ × Tree) → List (ℕ × Tree) → Type 0
-  AddsSolution p x old new = (((t : Tree) × (found old x ≡ Some t)) × (new ≡ old)) ⊎ ((found old x ≡ None) × ((t : Tree) × Solves p t × (new ≡ old ++ (x, t) ∷ [])))
+  AddsSolution p x old new = (Solves p (var x) × (new ≡ old)) ⊎ (((t : Tree) × (found old x ≡ Some t)) × (new ≡ old)) ⊎ ((found old x ≡ None) × ((t : Tree) × Solves p t × (new ≡ old ++ (x, t) ∷ [])))
 
 -- the class of each place has a size; or one of them has none
 abbrev pub AllSized : List ℕ → List ℕ → Bool → Type 0
 AllSized classes sizes true = (p : ℕ) → p < length classes → slice_index sizes (class classes p) ≡ 0 → ⊥
 AllSized classes sizes false = (p : ℕ) × (p < length classes) × (slice_index sizes (class classes p) ≡ 0)
+
+-- the class of each place has the size of its term
+pub record HaveSizes (ns : List Node) (classes sizes : List ℕ) : Type 0 where
+  pub sized : AreSized ns classes sizes
+  pub all_are : AllSized classes sizes true
+
+-- the class of a place has no size where each without one is stuck
+pub record HaveNoSizes (ns : List Node) (classes : List ℕ) : Type 0 where
+  pub sizes : List ℕ
+  pub sized : AreSized ns classes sizes
+  pub stuck : AreStuck ns classes sizes
+  pub one_has_none : AllSized classes sizes false

@@ -3,6 +3,9 @@
 #![tactic(auto)]
 
 mod closure;
+mod ends;
+mod firsts;
+mod forest;
 mod matching;
 mod sizes;
 mod solution;

@@ -1,17 +1,19 @@
 //! The sizes of the terms that closed classes stand for.
 
-ghost use Rattle.std.specs.Prelude.{◌≡◌, ℕ, ◌+◌, ◌<◌, ◌≤◌, length, IfOk};
+ghost use Rattle.std.specs.Prelude.{◌≡◌, ℕ, ◌+◌, ◌<◌, ◌≤◌, length, IfOk, MatchOption};
 ghost use Rattle.uc_term.specs.Flat.{AreWhole};
-ghost use Rattle.uc_unify.specs.Closure.{AreClasses, HasArguments, class};
-ghost use Rattle.uc_unify.specs.Solutions.{AreSized, IsSizeAt, IsSizing, AreSizing, AreStuck};
+ghost use Rattle.uc_unify.specs.Closure.{AreClasses, AreEnds, HasArguments, class};
+ghost use Rattle.uc_unify.specs.Solutions.{AreSized, IsSizeAt, IsSizing, AreSizing, AllSized, HaveSizes, HaveNoSizes};
 
 use crate::closure::MAX_BOTH;
+use crate::ends::filled;
 use std::alloc::{AllocError, Global};
-use uc_term::{MAX_NODES, Node, end_of};
+use uc_term::{MAX_NODES, Node};
 
 /// The size at a place that stands for itself, cut behind that of the largest term; 0 where an argument has no size yet.
-fn size_at(nodes: &[Node], classes: &[usize], sizes: &[u32], place: usize) -> u32
+fn size_at(nodes: &[Node], ends: &[usize], classes: &[usize], sizes: &[u32], place: usize) -> u32
     requires whole { AreWhole nodes.now }
+    requires ends { AreEnds nodes.now ends.now }
     requires small { length nodes.now ≤ MAX_BOTH }
     requires classes { AreClasses nodes.now classes.now }
     requires sized { AreSized nodes.now classes.now sizes.now }
@@ -21,13 +23,21 @@ fn size_at(nodes: &[Node], classes: &[usize], sizes: &[u32], place: usize) -> u3
 {
     match nodes[place] {
         Node::Var(_) => 1,
-        Node::App(_, count) => sum_of_sizes(nodes, classes, sizes, place, count),
+        Node::App(_, count) => sum_of_sizes(nodes, ends, classes, sizes, place, count),
     }
 }
 
 /// One more than the sizes of the arguments.
-fn sum_of_sizes(nodes: &[Node], classes: &[usize], sizes: &[u32], place: usize, count: u32) -> u32
+fn sum_of_sizes(
+    nodes: &[Node],
+    ends: &[usize],
+    classes: &[usize],
+    sizes: &[u32],
+    place: usize,
+    count: u32,
+) -> u32
     requires whole { AreWhole nodes.now }
+    requires ends { AreEnds nodes.now ends.now }
     requires small { length nodes.now ≤ MAX_BOTH }
     requires classes { AreClasses nodes.now classes.now }
     requires sized { AreSized nodes.now classes.now sizes.now }
@@ -43,14 +53,21 @@ fn sum_of_sizes(nodes: &[Node], classes: &[usize], sizes: &[u32], place: usize, 
             return 0;
         }
         size += part;
-        place = end_of(nodes, place);
+        place = ends[place];
     }
     size.min(MAX_NODES as u32 + 1)
 }
 
 /// Sizes a place, where it stands for its class, has no size yet and can have one; whether it was sized.
-fn size_place(nodes: &[Node], classes: &[usize], sizes: &mut Vec<u32>, place: usize) -> bool
+fn size_place(
+    nodes: &[Node],
+    ends: &[usize],
+    classes: &[usize],
+    sizes: &mut Vec<u32>,
+    place: usize,
+) -> bool
     requires whole { AreWhole nodes.now }
+    requires ends { AreEnds nodes.now ends.now }
     requires small { length nodes.now ≤ MAX_BOTH }
     requires classes { AreClasses nodes.now classes.now }
     requires sized { AreSized nodes.now classes.now sizes.old.items }
@@ -61,7 +78,7 @@ fn size_place(nodes: &[Node], classes: &[usize], sizes: &mut Vec<u32>, place: us
     if classes[place] != place || sizes[place] != 0 {
         return false;
     }
-    let size = size_at(nodes, classes, sizes.as_slice(), place);
+    let size = size_at(nodes, ends, classes, sizes.as_slice(), place);
     if size == 0 {
         return false;
     }
@@ -70,8 +87,9 @@ fn size_place(nodes: &[Node], classes: &[usize], sizes: &mut Vec<u32>, place: us
 }
 
 /// Sizes what can be sized, from the last place to the first; whether a place was sized.
-fn size_places(nodes: &[Node], classes: &[usize], sizes: &mut Vec<u32>) -> bool
+fn size_places(nodes: &[Node], ends: &[usize], classes: &[usize], sizes: &mut Vec<u32>) -> bool
     requires whole { AreWhole nodes.now }
+    requires ends { AreEnds nodes.now ends.now }
     requires small { length nodes.now ≤ MAX_BOTH }
     requires classes { AreClasses nodes.now classes.now }
     requires sized { AreSized nodes.now classes.now sizes.old.items }
@@ -82,23 +100,44 @@ fn size_places(nodes: &[Node], classes: &[usize], sizes: &mut Vec<u32>) -> bool
     let mut place = nodes.len();
     while place > 0 {
         place -= 1;
-        any = size_place(nodes, classes, sizes, place) || any;
+        any = size_place(nodes, ends, classes, sizes, place) || any;
     }
     any
 }
 
-/// The size of each place that stands for a class; none for those whose terms would hold themselves.
-pub fn sizes_of(alloc: Global, nodes: &[Node], classes: &[usize]) -> Result<Vec<u32>, AllocError>
+/// The size of each place that stands for a class. None where a class's term would hold itself.
+pub fn sizes_of(
+    alloc: Global,
+    nodes: &[Node],
+    ends: &[usize],
+    classes: &[usize],
+) -> Result<Option<Vec<u32>>, AllocError>
     requires whole { AreWhole nodes.now }
+    requires ends { AreEnds nodes.now ends.now }
     requires small { length nodes.now ≤ MAX_BOTH }
+    requires some { 0 < length nodes.now }
     requires classes { AreClasses nodes.now classes.now }
-    ensures sized { IfOk result (λ sizes. AreSized nodes.now classes.now sizes.items) }
-    ensures stuck { IfOk result (λ sizes. AreStuck nodes.now classes.now sizes.items) }
+    ensures { IfOk result (λ found. MatchOption found (HaveNoSizes nodes.now classes.now) (λ sizes. HaveSizes nodes.now classes.now sizes.items)) }
 {
-    let mut sizes = Vec::new(alloc);
-    for _ in 0..nodes.len() {
-        sizes.push(0u32)?;
+    let mut sizes = filled(alloc, nodes.len(), 0u32)?;
+    while size_places(nodes, ends, classes, &mut sizes) {
+        if all_sized(classes, sizes.as_slice()) {
+            return Ok(Some(sizes));
+        }
     }
-    while size_places(nodes, classes, &mut sizes) {}
-    Ok(sizes)
+    Ok(None)
+}
+
+/// Whether the class of each place has a size.
+fn all_sized(classes: &[usize], sizes: &[u32]) -> bool
+    requires long { length sizes.now ≡ length classes.now }
+    requires within { (p : ℕ) → p < length classes.now → class classes.now p < length classes.now }
+    ensures { AllSized classes.now sizes.now result }
+{
+    for class in classes {
+        if sizes[*class] == 0 {
+            return false;
+        }
+    }
+    true
 }

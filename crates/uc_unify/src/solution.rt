@@ -3,33 +3,36 @@
 ghost use Rattle.std.specs.Prelude.{◌≡◌, ℕ, ◌+◌, ◌<◌, ◌≤◌, length, drop, IfOk, OnOk};
 ghost use Rattle.uc_term.specs.Tree.{Tree, count};
 ghost use Rattle.uc_term.specs.Flat.{flat, trees_of, AreWhole};
-ghost use Rattle.uc_unify.specs.Closure.{AreClasses};
+ghost use Rattle.uc_unify.specs.Closure.{AreClasses, AreEnds};
 ghost use Rattle.uc_unify.specs.Solutions.{IsOpened, IsWritten, IsWritable, Solves};
 
 use crate::closure::MAX_BOTH;
 use std::alloc::{AllocError, Global};
-use uc_term::{Node, end_of};
+use uc_term::Node;
 
 /// The nodes of a place's term.
 pub fn solved(
     alloc: Global,
     nodes: &[Node],
+    ends: &[usize],
     classes: &[usize],
     start: usize,
 ) -> Result<Vec<Node>, AllocError>
     requires whole { AreWhole nodes.now }
+    requires ends { AreEnds nodes.now ends.now }
     requires few { length nodes.now ≤ MAX_BOTH }
     requires classes { AreClasses nodes.now classes.now }
     requires within { start < length nodes.now }
     requires writable { IsWritable nodes.now classes.now start }
     ensures { IfOk result (λ list. (t : Tree) → Solves nodes.now classes.now start t → list.items ≡ flat t) }
 {
-    let mut list = Vec::new(alloc);
+    let class = classes[start];
+    let mut list = Vec::with_capacity(alloc, ends[class] - class)?;
     // places with the number of terms that are to be written from each on, the next one last
     let mut pending = Vec::new(alloc);
     pending.push((start, 1))?;
     while let Some((place, terms)) = pending.pop() {
-        write_node(nodes, classes, &mut list, &mut pending, place, terms)?;
+        write_node(nodes, ends, classes, &mut list, &mut pending, place, terms)?;
     }
     Ok(list)
 }
@@ -37,6 +40,7 @@ pub fn solved(
 /// Writes the first node of the first of so many terms from a place on, and leaves the others and its arguments open.
 fn write_node(
     nodes: &[Node],
+    ends: &[usize],
     classes: &[usize],
     list: &mut Vec<Node>,
     pending: &mut Vec<(usize, u32)>,
@@ -44,13 +48,14 @@ fn write_node(
     terms: u32,
 ) -> Result<(), AllocError>
     requires whole { AreWhole nodes.now }
+    requires ends { AreEnds nodes.now ends.now }
     requires few { length nodes.now ≤ MAX_BOTH }
     requires classes { AreClasses nodes.now classes.now }
     requires fits { terms ≤ count (trees_of (drop place nodes.now)) }
     requires some { 0 < terms }
     ensures { OnOk result (IsWritten nodes.now classes.now place terms list.old.items pending.old.items list.new.items pending.new.items) }
 {
-    push_terms(pending, end_of(nodes, place), terms - 1)?;
+    push_terms(pending, ends[place], terms - 1)?;
     let class = classes[place];
     list.push(nodes[class])?;
     match nodes[class] {

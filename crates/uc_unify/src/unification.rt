@@ -2,19 +2,22 @@
 //!
 //! Places of the two flat lists that must have one instance are brought into one class; the arguments of joined terms
 //! follow. Then the classes are sized from the leaves on; where that stops, a class holds a term of itself. No term is
-//! built before its size is known, so nothing grows exponentially. (Huet's unification closure; Baader and Snyder,
-//! Unification Theory, section 2.3.)
+//! built before its size is known, so nothing grows exponentially. Where each term ends and each variable first stands is
+//! found in one walk, and a place's class by union and find. (Huet's unification closure; Baader and Snyder, Unification
+//! Theory, section 2.3.)
 
-ghost use Rattle.std.specs.Prelude.{◌≡◌, ℕ, ◌+◌, ◌<◌, ◌≤◌, length, slice_get, slice_index, Some, IfOk, OnOk};
+ghost use Rattle.std.specs.Prelude.{◌≡◌, ℕ, ◌+◌, ◌<◌, ◌≤◌, ◌++◌, length, slice_get, slice_index, Some, IfOk, OnOk};
 ghost use Rattle.uc_term.specs.declared.node.Node.TheVariants.{Var};
 ghost use Rattle.uc_term.specs.Tree.{nodes};
 ghost use Rattle.uc_term.specs.Subst.{image};
 ghost use Rattle.uc_term.specs.Flat.{IsWhole, AreWhole, tree_of};
 ghost use Rattle.uc_unify.specs.Unifiers.{IsUnified};
-ghost use Rattle.uc_unify.specs.Closure.{at, next, class, AreClasses, IsClosed};
-ghost use Rattle.uc_unify.specs.Solutions.{IsWritable, IsSolution, AllSized, AddsSolution};
+ghost use Rattle.uc_unify.specs.Closure.{at, next, class, AreClasses, AreEnds, IsClosed};
+ghost use Rattle.uc_unify.specs.Solutions.{IsWritable, IsSolution, AddsSolution};
 
 use crate::closure::{MAX_BOTH, closure};
+use crate::ends::ends_of;
+use crate::firsts::is_var;
 use crate::sizes::sizes_of;
 use crate::solution::solved;
 use std::alloc::{AllocError, Global};
@@ -40,23 +43,37 @@ pub fn unify(alloc: Global, s: &[Node], t: &[Node]) -> Result<Unified, AllocErro
     requires small_t { length t.now ≤ MAX_NODES }
     ensures { IfOk result (IsUnified (tree_of s.now) (tree_of t.now)) }
 {
-    let mut both = Vec::from_slice(alloc, s)?;
-    both.extend_from_slice(t)?;
+    let both = joined(alloc, s, t)?;
     let nodes = both.as_slice();
-    match closure(alloc, nodes, s.len())? {
-        Some(classes) => read_off(alloc, nodes, s.len(), classes.as_slice()),
+    let ends = ends_of(alloc, nodes)?;
+    match closure(alloc, nodes, ends.as_slice(), s.len())? {
+        Some(classes) => read_off(alloc, nodes, ends.as_slice(), s.len(), classes.as_slice()),
         None => Ok(Unified::Apart),
     }
+}
+
+/// The nodes of both terms.
+fn joined(alloc: Global, s: &[Node], t: &[Node]) -> Result<Vec<Node>, AllocError>
+    requires small_s { length s.now ≤ MAX_NODES }
+    requires small_t { length t.now ≤ MAX_NODES }
+    ensures { IfOk result (λ both. both.items ≡ s.now ++ t.now) }
+{
+    let mut both = Vec::with_capacity(alloc, s.len() + t.len())?;
+    both.extend_from_slice(s)?;
+    both.extend_from_slice(t)?;
+    Ok(both)
 }
 
 /// What two terms come to whose classes are closed: the first one at place 0, and the second one behind it.
 fn read_off(
     alloc: Global,
     nodes: &[Node],
+    ends: &[usize],
     second: usize,
     classes: &[usize],
 ) -> Result<Unified, AllocError>
     requires whole { AreWhole nodes.now }
+    requires ends { AreEnds nodes.now ends.now }
     requires few { length nodes.now ≤ MAX_BOTH }
     requires first { next nodes.now 0 ≡ second }
     requires last { next nodes.now second ≡ length nodes.now }
@@ -64,33 +81,24 @@ fn read_off(
     requires closed { IsClosed nodes.now second classes.now }
     ensures { IfOk result (IsUnified (at nodes.now 0) (at nodes.now second)) }
 {
-    let sizes = sizes_of(alloc, nodes, classes)?;
-    if !all_sized(classes, sizes.as_slice()) {
+    let Some(sizes) = sizes_of(alloc, nodes, ends, classes)? else {
         return Ok(Unified::Apart);
-    }
+    };
     if sizes[classes[0]] > MAX_NODES as u32 {
         return Ok(Unified::TooLarge);
     }
-    Ok(Unified::Unifier(solution(alloc, nodes, classes)?))
-}
-
-/// Whether the class of each place has a size.
-fn all_sized(classes: &[usize], sizes: &[u32]) -> bool
-    requires long { length sizes.now ≡ length classes.now }
-    requires within { (p : ℕ) → p < length classes.now → class classes.now p < length classes.now }
-    ensures { AllSized classes.now sizes.now result }
-{
-    for class in classes {
-        if sizes[*class] == 0 {
-            return false;
-        }
-    }
-    true
+    Ok(Unified::Unifier(solution(alloc, nodes, ends, classes)?))
 }
 
 /// The substitution that gives each variable the term of its place.
-fn solution(alloc: Global, nodes: &[Node], classes: &[usize]) -> Result<Subst, AllocError>
+fn solution(
+    alloc: Global,
+    nodes: &[Node],
+    ends: &[usize],
+    classes: &[usize],
+) -> Result<Subst, AllocError>
     requires whole { AreWhole nodes.now }
+    requires ends { AreEnds nodes.now ends.now }
     requires few { length nodes.now ≤ MAX_BOTH }
     requires classes { AreClasses nodes.now classes.now }
     requires writable { (p : ℕ) → p < length nodes.now → IsWritable nodes.now classes.now p }
@@ -99,31 +107,36 @@ fn solution(alloc: Global, nodes: &[Node], classes: &[usize]) -> Result<Subst, A
     let mut subst = Subst::new(alloc);
     for place in 0..nodes.len() {
         match nodes[place] {
-            Node::Var(x) => add_variable(alloc, nodes, classes, &mut subst, place, x)?,
+            Node::Var(x) => add_variable(alloc, nodes, ends, classes, &mut subst, place, x)?,
             Node::App(_, _) => {}
         }
     }
     Ok(subst)
 }
 
-/// Gives the variable at a place the place's term, where it has none yet.
+/// Gives the variable at a place the place's term, where that is another one and it has none yet.
 fn add_variable(
     alloc: Global,
     nodes: &[Node],
+    ends: &[usize],
     classes: &[usize],
     subst: &mut Subst,
     place: usize,
     x: u32,
 ) -> Result<(), AllocError>
     requires whole { AreWhole nodes.now }
+    requires ends { AreEnds nodes.now ends.now }
     requires few { length nodes.now ≤ MAX_BOTH }
     requires classes { AreClasses nodes.now classes.now }
     requires within { place < length nodes.now }
     requires writable { IsWritable nodes.now classes.now place }
     ensures { OnOk result (AddsSolution nodes.now classes.now place x subst.old subst.new) }
 {
+    if is_var(nodes[classes[place]], x) {
+        return Ok(());
+    }
     if subst.get(x).is_none() {
-        let list = solved(alloc, nodes, classes, place)?;
+        let list = solved(alloc, nodes, ends, classes, place)?;
         subst.add(x, Term::from_nodes(list))?;
     }
     Ok(())

@@ -1,7 +1,7 @@
-use Rattle.std.proofs.Common.{◌≡◌, ℕ, suc, ◌+◌, ◌-◌, ◌<◌, List, [], ◌∷◌, ◌++◌, refl, sym, ap, ◌∙◌, subst, arith, append_assoc}
+use Rattle.std.proofs.Common.{◌≡◌, ℕ, suc, ◌+◌, ◌-◌, ◌<◌, List, [], ◌∷◌, ◌++◌, refl, sym, ap, ◌∙◌, subst, arith, append_assoc, length, get_or}
 use Rattle.uc_term.specs.declared.node.Node.{Node}
 use Rattle.uc_term.specs.Flat.{AreWhole}
-use Rattle.uc_unify.specs.Closure.{next, pairs_from}
+use Rattle.uc_unify.specs.Closure.{next, pairs_from, AreEnds}
 use Rattle.uc_unify.proofs.Fitting.{Fits, fits_place, fits_next, fits_args}
 use Rattle.uc_unify.proofs.closure.push_arguments.Goals as goal
 
@@ -27,15 +27,22 @@ loop-init c =
       so_far = rw n refl;
     }
 
-pub end_of-p-requires-clause-within : goal.end_of-p-requires-clause-within
-end_of-p-requires-clause-within c = fits_place c.args.nodes.now c.requires.whole c.loop.p (c.args.count - (c.loop.counter + 1)) (here c.args.nodes.now c.requires.whole c.loop.p c.args.count c.loop.counter c.loop-test.true c.loop.invariant.left)
+-- both ends are read within the list
+inside : (ns : List Node) (w : AreWhole ns) (ends : List ℕ) → AreEnds ns ends → (p n i : ℕ) → i < n → Fits ns p (n - i) → p < length ns
+inside ns w ends e p n i h f = fits_place ns w p (n - (i + 1)) (here ns w p n i h f)
 
-pub end_of-q-requires-clause-within : goal.end_of-q-requires-clause-within
-end_of-q-requires-clause-within c = fits_place c.args.nodes.now c.requires.whole c.loop.q (c.args.count - (c.loop.counter + 1)) (here c.args.nodes.now c.requires.whole c.loop.q c.args.count c.loop.counter c.loop-test.true c.loop.invariant.right)
+pub bounds-ends-p : goal.bounds-ends-p
+bounds-ends-p c = let h = inside c.args.nodes.now c.requires.whole c.args.ends.now c.requires.ends c.loop.p c.args.count c.loop.counter c.loop-test.true c.loop.invariant.left in omega (arith, c.requires.ends.long)
+
+pub bounds-ends-q : goal.bounds-ends-q
+bounds-ends-q c = let h = inside c.args.nodes.now c.requires.whole c.args.ends.now c.requires.ends c.loop.q c.args.count c.loop.counter c.loop-test.true c.loop.invariant.right in omega (arith, c.requires.ends.long)
 
 pub loop-preserved : goal.loop-preserved
-loop-preserved c = record {
-  left = on c.args.nodes.now c.requires.whole c.loop.p c.end_of-p.result c.args.count c.loop.counter c.loop-test.true c.loop.invariant.left c.end_of-p.ensures.end;
-  right = on c.args.nodes.now c.requires.whole c.loop.q c.end_of-q.result c.args.count c.loop.counter c.loop-test.true c.loop.invariant.right c.end_of-q.ensures.end;
-  so_far = so_far c.args.nodes.now c.loop.p c.loop.q c.end_of-p.result c.end_of-q.result c.args.count c.loop.counter c.loop.pairs.items c.push.new.self.items _ c.loop-test.true c.loop.invariant.so_far c.in_ok-push.ensures.items c.end_of-p.ensures.end c.end_of-q.ensures.end;
-}
+loop-preserved c =
+    let p_end = c.requires.ends.ends_are c.loop.p (omega arith) (inside c.args.nodes.now c.requires.whole c.args.ends.now c.requires.ends c.loop.p c.args.count c.loop.counter c.loop-test.true c.loop.invariant.left) in
+    let q_end = c.requires.ends.ends_are c.loop.q (omega arith) (inside c.args.nodes.now c.requires.whole c.args.ends.now c.requires.ends c.loop.q c.args.count c.loop.counter c.loop-test.true c.loop.invariant.right) in
+    record {
+      left = on c.args.nodes.now c.requires.whole c.loop.p (get_or c.args.ends.now c.loop.p 0) c.args.count c.loop.counter c.loop-test.true c.loop.invariant.left p_end;
+      right = on c.args.nodes.now c.requires.whole c.loop.q (get_or c.args.ends.now c.loop.q 0) c.args.count c.loop.counter c.loop-test.true c.loop.invariant.right q_end;
+      so_far = so_far c.args.nodes.now c.loop.p c.loop.q (get_or c.args.ends.now c.loop.p 0) (get_or c.args.ends.now c.loop.q 0) c.args.count c.loop.counter c.loop.pairs.items c.push.new.self.items _ c.loop-test.true c.loop.invariant.so_far c.in_ok-push.ensures.items p_end q_end;
+    }

@@ -17,13 +17,13 @@ overflow_add-size c =
     let m = many c.args.nodes.now c.args.classes.now c.requires.whole c.requires.small c.requires.classes c.args.sizes.now c.requires.sized c.args.place c.args.count c.requires.symbol c.requires.stands in
     omega (arith, c.loop.invariant.small.1)
 
-pub end_of-place-requires-clause-within : goal.end_of-place-requires-clause-within
-end_of-place-requires-clause-within c = place_in c.args.nodes.now c.args.classes.now c.requires.whole c.requires.small c.requires.classes c.args.sizes.now c.requires.sized c.args.place c.args.count c.requires.symbol c.requires.stands c.loop.counter c.loop.size c.loop.place c.loop.invariant c.loop-test.true
+pub bounds-ends-place : goal.bounds-ends-place
+bounds-ends-place c = let h = place_in c.args.nodes.now c.args.classes.now c.requires.whole c.requires.small c.requires.classes c.args.sizes.now c.requires.sized c.args.place c.args.count c.requires.symbol c.requires.stands c.loop.counter c.loop.size c.loop.place c.loop.invariant c.loop-test.true in omega (arith, c.requires.ends.long)
 
 pub loop-preserved : goal.loop-preserved
 loop-preserved c =
     let s = known_size c.args.nodes.now c.args.classes.now c.requires.whole c.requires.small c.requires.classes c.args.sizes.now c.requires.sized c.args.place c.args.count c.requires.symbol c.requires.stands c.loop.counter c.loop.size c.loop.place c.loop.invariant c.loop-test.true (get_or c.args.sizes.now (class c.args.classes.now c.loop.place) 0) refl c.if-part-eq0.false in
-    summing_more c.args.nodes.now c.args.classes.now c.requires.whole c.requires.small c.requires.classes c.args.sizes.now c.requires.sized c.args.place c.args.count c.requires.symbol c.requires.stands c.loop.counter c.loop.size c.loop.place c.loop.invariant c.loop-test.true (get_or c.args.sizes.now (class c.args.classes.now c.loop.place) 0) c.end_of-place.result s c.end_of-place.ensures.end
+    summing_more c.args.nodes.now c.args.classes.now c.requires.whole c.requires.small c.requires.classes c.args.sizes.now c.requires.sized c.args.place c.args.count c.requires.symbol c.requires.stands c.loop.counter c.loop.size c.loop.place c.loop.invariant c.loop-test.true (get_or c.args.sizes.now (class c.args.classes.now c.loop.place) 0) (get_or c.args.ends.now c.loop.place 0) s (c.requires.ends.ends_are c.loop.place (omega arith) (place_in c.args.nodes.now c.args.classes.now c.requires.whole c.requires.small c.requires.classes c.args.sizes.now c.requires.sized c.args.place c.args.count c.requires.symbol c.requires.stands c.loop.counter c.loop.size c.loop.place c.loop.invariant c.loop-test.true))
 
 pub returns : goal.returns
 returns c = subst (IsSizeAt c.args.nodes.now c.args.classes.now c.args.sizes.now c.args.place) (sym c.min.ensures) (summing_end c.args.nodes.now c.args.classes.now c.requires.whole c.requires.small c.requires.classes c.args.sizes.now c.requires.sized c.args.place c.args.count c.requires.symbol c.requires.stands c.loop.counter c.loop.size c.loop.place c.loop.invariant c.loop-test.false)

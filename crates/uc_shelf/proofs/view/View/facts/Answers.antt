@@ -1,6 +1,5 @@
-use Rattle.std.proofs.Common.{◌≡◌, map, ◌++◌, sym, ap, ◌∙◌, arith, take, length}
-use Rattle.uc_fact.specs.Live.{AreRising}
-use Rattle.uc_disc.specs.Numbered.{lives, risen}
+use Rattle.std.proofs.Common.{◌≡◌, map, ◌++◌, sym, ap, ◌∙◌, arith}
+use Rattle.uc_disc.specs.Numbered.{lives}
 use Rattle.uc_disc.specs.Rising.{risen_same}
 use Rattle.uc_shelf.specs.Entries.{living, live}
 use Rattle.uc_shelf.specs.Lending.{lent_of}

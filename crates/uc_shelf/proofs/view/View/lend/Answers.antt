@@ -1,4 +1,4 @@
-use Rattle.std.proofs.Common.{◌≡◌, map, ◌∷◌, [], sym, ap, ◌∙◌, true, false}
+use Rattle.std.proofs.Common.{◌≡◌, map, sym, ap, ◌∙◌, true, false}
 use Rattle.std.proofs.lemmas.List.{map-append}
 use Rattle.uc_shelf.specs.Entries.{is_dead}
 use Rattle.uc_shelf.specs.Lending.{lent_of}
