@@ -21,7 +21,7 @@ use Rattle.uc_ordering.proofs.Totals.{total, total_with}
 use Rattle.uc_ordering.proofs.Marks.{apart, marks_have, yes_arity, no_arity, eq_arity}
 use Rattle.uc_ordering.proofs.GoodWeights.{FineIn, fine, none_bad, none_bad_with, heaviest_least, heaviest_most}
 
-both_none : (o p : Option (List ℕ)) → first_or o p ≡ None → (o ≡ None) × (p ≡ None)
+pub both_none : (o p : Option (List ℕ)) → first_or o p ≡ None → (o ≡ None) × (p ≡ None)
 both_none None p e = (refl, e)
 both_none (Some x) p e = absurd cc
 

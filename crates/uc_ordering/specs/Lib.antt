@@ -5,5 +5,6 @@ pub mod Premises
 pub mod Meaning
 pub mod Fits
 pub mod Numbers
+pub mod Options
 pub mod Chosen
 pub mod Restricting

@@ -5,7 +5,6 @@ use Rattle.std.specs.declared.alloc.Global.{Global}
 use Rattle.uc_term.specs.declared.node.Sym.{Sym}
 use Rattle.uc_ordering.specs.declared.fault.ChoiceFault.{ChoiceFault}
 use Rattle.uc_ordering.specs.declared.fault.ChoiceFault.TheVariants.{UnknownSymbol, NotTotal, BadWeight, NoMemory}
-use Rattle.uc_ordering.specs.Choice.{first_again}
 use Rattle.uc_ordering.specs.Weights.{is_bad_at}
 use Rattle.uc_term.specs.Table.{Table}
 
@@ -35,9 +34,9 @@ IsBadAmong table w0 entries precedence weights (NotTotal name) = ⊥
 IsBadAmong table w0 entries precedence weights (BadWeight name weight) = find (is_bad_in table w0 entries precedence) weights ≡ Some (name, weight)
 IsBadAmong table w0 entries precedence weights NoMemory = Unit {0}
 
--- a fault is that a name among these is the first that stands again further on
-abbrev pub IsAgain : List (List ℕ) → ChoiceFault → Type 0
-IsAgain names (UnknownSymbol name) = ⊥
-IsAgain names (NotTotal name) = first_again names ≡ Some name
-IsAgain names (BadWeight name weight) = ⊥
-IsAgain names NoMemory = Unit {0}
+-- a fault is that this name stands twice; want of memory is free
+abbrev pub IsAgain : Option (List ℕ) → ChoiceFault → Type 0
+IsAgain again (UnknownSymbol name) = ⊥
+IsAgain again (NotTotal name) = again ≡ Some name
+IsAgain again (BadWeight name weight) = ⊥
+IsAgain again NoMemory = Unit {0}

@@ -2,14 +2,15 @@
 
 ghost use Rattle.std.specs.Prelude.{◌≡◌, ◌≤◌, ℕ, List, [], ◌∷◌, None, length, find, IfOk, IfErr, IfSome, OnOk};
 ghost use Rattle.uc_term.specs.Table.{Has};
-ghost use Rattle.uc_ordering.specs.Choice.{IsChosen, IsChoiceFault, all_symbols, own_symbols, spec_of, with_behind, below_marks, marks_at, ends_in_zero};
+ghost use Rattle.uc_ordering.specs.Choice.{IsChosen, IsChoiceFault, all_symbols, chosen, first_bad, own_precedence, spec_of, with_behind, below_marks, marks_at, ends_in_zero};
 ghost use Rattle.uc_ordering.specs.Numbers.{symbol_in, is_bad_in, IsBadAmong};
 ghost use Rattle.uc_ordering.specs.Fits.{Fits};
+ghost use Rattle.uc_ordering.specs.Options.{AreRead};
 ghost use Rattle.uc_ordering.specs.Premises.{IsSignature, AreMarks};
 
 use crate::ChoiceFault;
 use crate::numbers::Numbers;
-use crate::options::{check_known, set_of, symbols_by_name, symbols_named, weights_by_name};
+use crate::options::{Options, read_options};
 use crate::precedence::precedence_of;
 use crate::weights::{heaviest, is_bad, weights_of};
 use std::alloc::{AllocError, Global};
@@ -45,34 +46,79 @@ pub fn choose(
     ensures err { IfErr result (IsChoiceFault symbols.now signature.now words.now) }
     ensures fits { IfOk result (Fits symbols.now (all_symbols signature.now fresh)) }
 {
-    let own = own_symbols(signature);
+    let options = read_options(alloc, words, symbols, signature)?;
+    choose_by(alloc, words, symbols, signature, &options, fresh)
+}
+
+// Chooses the order once the names are looked up.
+fn choose_by(
+    alloc: Global,
+    words: &OrderWords,
+    symbols: &Symbols,
+    signature: &Signature,
+    options: &Options,
+    fresh: Option<Fresh>,
+) -> Result<OrderSpec, ChoiceFault>
+    requires signature { IsSignature symbols.now signature.now }
+    requires options { AreRead symbols.now signature.now words.now options.now }
+    ensures ok { IfOk result (IsChosen symbols.now signature.now words.now fresh) }
+    ensures err { IfErr result (IsChoiceFault symbols.now signature.now words.now) }
+{
+    let precedence = tested_precedence(alloc, words, symbols, signature, options)?;
+    Ok(describe(alloc, words, symbols, signature, options, precedence, fresh)?)
+}
+
+// Makes the signature's precedence, and tests the weights that are given against it.
+fn tested_precedence(
+    alloc: Global,
+    words: &OrderWords,
+    symbols: &Symbols,
+    signature: &Signature,
+    options: &Options,
+) -> Result<Vec<Sym>, ChoiceFault>
+    requires signature { IsSignature symbols.now signature.now }
+    requires options { AreRead symbols.now signature.now words.now options.now }
+    ensures ok { IfOk result (λ list. list.items ≡ own_precedence symbols.now signature.now words.now) }
+    ensures fit { OnOk result (first_bad symbols.now signature.now words.now ≡ None) }
+    ensures err { IfErr result (IsChoiceFault symbols.now signature.now words.now) }
+{
     let all = signature.symbols.as_slice();
-    let by_name = symbols_by_name(alloc, symbols, own)?;
-    let named = symbols_named(alloc, &by_name, words.precedence.as_slice())?;
-    check_known(alloc, &by_name, words.weights.as_slice())?;
-    let names = set_of(alloc, words.precedence.as_slice())?;
-    let given = weights_by_name(alloc, words.weights.as_slice())?;
-    let precedence = precedence_of(alloc, symbols, &names, all, &named)?;
-    check_weights(alloc, symbols, &by_name, words, precedence.as_slice())?;
-    let weights = weights_of(alloc, symbols, &given, words.w0, precedence.as_slice())?;
+    let named = options.named.as_slice();
+    let precedence = precedence_of(alloc, symbols, &options.names, all, named)?;
+    check_weights(
+        alloc,
+        symbols,
+        &options.by_name,
+        words,
+        precedence.as_slice(),
+    )?;
+    Ok(precedence)
+}
+
+// Puts together the order of this precedence, with the encoding's symbols where there are some.
+fn describe(
+    alloc: Global,
+    words: &OrderWords,
+    symbols: &Symbols,
+    signature: &Signature,
+    options: &Options,
+    precedence: Vec<Sym>,
+    fresh: Option<Fresh>,
+) -> Result<OrderSpec, AllocError>
+    requires signature { IsSignature symbols.now signature.now }
+    requires options { AreRead symbols.now signature.now words.now options.now }
+    requires precedence { precedence.items ≡ own_precedence symbols.now signature.now words.now }
+    ensures { IfOk result (λ spec. spec ≡ chosen symbols.now signature.now words.now fresh) }
+{
+    let w0 = words.w0;
+    let weights = weights_of(alloc, symbols, &options.given, w0, precedence.as_slice())?;
     match fresh {
         None => Ok(spec_of(words, weights, precedence)),
         Some(marks) => {
-            let heaviest = heaviest(symbols, &given, words.w0, all);
-            Ok(with_marks(alloc, words, heaviest, &weights, &precedence, marks)?)
+            let all = signature.symbols.as_slice();
+            let heaviest = heaviest(symbols, &options.given, w0, all);
+            with_marks(alloc, words, heaviest, &weights, &precedence, marks)
         }
-    }
-}
-
-// The symbols of the problem itself.
-fn own_symbols(signature: &Signature) -> &[Sym]
-    ensures { result.now ≡ own_symbols signature.now }
-{
-    let all = signature.symbols.as_slice();
-    if signature.least_is_fresh {
-        &all[..all.len().saturating_sub(1)]
-    } else {
-        all
     }
 }
 

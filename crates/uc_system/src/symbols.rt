@@ -1,6 +1,6 @@
 //! The lines of the symbols.
 
-ghost use Rattle.std.specs.Prelude.{◌≡◌, ◌<◌, ◌^◌, length, drop, false, IsTrue, ◌↔◌, IfOk, IfSome, MatchOption};
+ghost use Rattle.std.specs.Prelude.{◌≡◌, ◌<◌, ◌^◌, ◌++◌, ◌∷◌, [], length, drop, false, IsTrue, ◌↔◌, IfOk, IfSome, MatchOption};
 ghost use Rattle.uc_term.specs.Table.{Table, Grows, Has};
 ghost use Rattle.std.specs.List.{list_all};
 ghost use Rattle.uc_clause.specs.Bytes.{between};
@@ -34,6 +34,20 @@ pub(crate) struct Ranked {
 pub(crate) struct Ranks {
     pub(crate) ranked: Vec<Ranked>,
     pub(crate) known: IndexSet<Sym>,
+}
+
+impl Ranks {
+    // Puts a symbol, which is none of the others, behind them.
+    fn put(&mut self, symbol: Ranked) -> Result<(), AllocError>
+        requires same { AreSame self.old }
+        requires new { is_one_of symbol.symbol self.old.known.keys ≡ false }
+        ensures ranked { IfOk result (λ _. self.new.ranked.items ≡ self.old.ranked.items ++ symbol ∷ []) }
+        ensures same { IfOk result (λ _. AreSame self.new) }
+    {
+        self.ranked.push(symbol)?;
+        self.known.insert(symbol.symbol)?;
+        Ok(())
+    }
 }
 
 /// What stands in a symbol's line: the name as it is spelled, the arity and the weight, each at most the greatest `u32`.
@@ -283,16 +297,17 @@ pub(crate) fn symbols_at(
     ensures grows { Grows symbols.old symbols.new }
     ensures interns { IfOk result (λ _. InternsSymbols header.kind (drop at.from bytes.now) symbols.old symbols.new) }
 {
-    let mut ranked = Vec::new(alloc);
-    let mut known = IndexSet::new(alloc);
+    let mut ranks = Ranks {
+        ranked: Vec::new(alloc),
+        known: IndexSet::new(alloc),
+    };
     let mut here = at;
     'lines: while begins_symbol(bytes.split_at(here.from).1) {
-        let (symbol, next) = symbol_at(alloc, bytes, header, &known, here, symbols)?;
-        ranked.push(symbol)?;
-        known.insert(symbol.symbol)?;
+        let (symbol, next) = symbol_at(alloc, bytes, header, &ranks.known, here, symbols)?;
+        ranks.put(symbol)?;
         here = next;
     }
-    Ok((Ranks { ranked, known }, here))
+    Ok((ranks, here))
 }
 
 // What is wrong with all of them, where the line of this number stands behind the last, if anything is.

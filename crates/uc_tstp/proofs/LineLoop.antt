@@ -1,5 +1,5 @@
 -- How lines are gathered.
-use Rattle.std.proofs.Common.{◌≡◌, ℕ, Bool, true, false, List, [], ◌∷◌, ◌++◌, length, refl, sym, ap, ◌∙◌, subst, arith, append-nil}
+use Rattle.std.proofs.Common.{◌≡◌, ℕ, Bool, false, List, [], ◌∷◌, ◌++◌, length, refl, sym, ap, ◌∙◌, subst, arith, append-nil}
 use Rattle.std.specs.Prelude.{◌≢◌, ◌||◌, bytes_eq}
 use Rattle.std.specs.List.{list_any}
 use Rattle.std.proofs.lemmas.List.{map-append}
@@ -27,6 +27,7 @@ use Rattle.uc_tstp.specs.Parse.{Source, from_file, by_chain, by_reflexive, by_go
 use Rattle.uc_tstp.specs.Lines.{LineName, is_new, is_repeated, is_no_line_name, line, belongs, LinesAt, is_no_line, has_line, has_foreign_line, stops_in_line}
 use Rattle.uc_tstp.specs.Meaning.{names_of, variables_of}
 use Rattle.uc_tstp.specs.Drafts.{SaySteps, say_nothing, say_more, SaysSource, SaysLine, SayLines, say_no_line, say_line, ReadsLineAt, AreLines, belongs_draft}
+use Rattle.uc_tstp.specs.Parts.{TakesLine}
 use Rattle.uc_tstp.specs.Interning.{with_line, with_lines}
 use Rattle.uc_tstp.proofs.LineParts.{body_grows}
 
@@ -52,6 +53,15 @@ module _ (bytes : List ℕ) (tokens : List Token) where
     same_line (goes_on w (stops_first p)) = goes_on w (stops_first p)
     same_line (goes_on w (goes_on p (stops_first n))) = goes_on w (goes_on p (stops_first (same_name n)))
     same_line (goes_on w (goes_on p (goes_on n rest))) = goes_on w (goes_on p (goes_on (same_name n) rest))
+
+  have_one : (some others : List (List ℕ)) (n : List ℕ) → HaveSame some others → HaveSame (n ∷ some) (n ∷ others)
+  have_one some others n same x = ap (λ r. bytes_eq x n || r) (same x)
+
+  same_lines : {which : Scope} (some others : List (List ℕ)) → HaveSame some others → {at : ℕ} {o : Outcome (List Line)} → LinesAt bytes tokens which others at o → LinesAt bytes tokens which some at o
+  same_lines some others same (is_no_line e) = is_no_line e
+  same_lines some others same (has_line {l = l} more r b rest) = has_line more (same_line some others same r) b (same_lines (bytes_at bytes tokens l.name ∷ some) (bytes_at bytes tokens l.name ∷ others) (have_one some others (bytes_at bytes tokens l.name) same) rest)
+  same_lines some others same (has_foreign_line more r b) = has_foreign_line more (same_line some others same r) b
+  same_lines some others same (stops_in_line more s) = stops_in_line more (same_line some others same s)
 
   -- a draft belongs where its parse does
   same_scope : (table : Table) (seen : Variables) (which : Scope) (s : Source) (d : SourceDraft) → SaysSource bytes tokens table seen s d → belongs which s ≡ belongs_draft which d
@@ -113,22 +123,27 @@ module _ (bytes : List ℕ) (tokens : List Token) where
     }
 
     module _ (more : terminal_at bytes tokens at ≢ End) where
-      pub line_stops : (e : Stop) → Stops (line bytes tokens names at) e → Stops (LinesAt bytes tokens which [] 0) e
-      line_stops e h = passes (line bytes tokens names at) (LinesAt bytes tokens which [] 0) e (λ why k s. g.comes_to (stop why k) (stops_in_line more (same_line g.earlier names g.same s))) h
+      pub lines_stop : (e : Stop) → Stops (LinesAt bytes tokens which names at) e → Stops (LinesAt bytes tokens which [] 0) e
+      lines_stop e h = passes (LinesAt bytes tokens which names at) (LinesAt bytes tokens which [] 0) e (λ why k s. g.comes_to (stop why k) (same_lines g.earlier names g.same s)) h
 
-      pub foreign_stops : (new : Table) (d : LineDraft) (end : ℕ) → ReadsLineAt bytes tokens names at end table new d → belongs_draft which d.source ≡ false → LinesAt bytes tokens which [] 0 (stop NoToken at)
-      foreign_stops new d end r b = g.comes_to (stop NoToken at) (has_foreign_line more (same_line g.earlier names g.same r.reads) (same_scope new (variables_of bytes tokens r.line) which r.line.source d.source r.says.source ∙ b))
-
-      pub gathered_more : (new : Table) (d : LineDraft) (end : ℕ) (more_names : List (List ℕ)) → Grows table new → ReadsLineAt bytes tokens names at end table new d → belongs_draft which d.source ≡ true → more_names ≡ names ++ bytes_at bytes tokens d.name ∷ [] → Gathered which old new more_names (drafts ++ d ∷ []) end
-      gathered_more new d end more_names grows r b e = record {
+      pub gathered_more : (new : Table) (end : ℕ) (more_names : List (List ℕ)) (more_drafts : List LineDraft) → Grows table new → TakesLine bytes tokens which at end table new names drafts more_names more_drafts → Gathered which old new more_names more_drafts end
+      gathered_more new end more_names more_drafts grows taken = let r = taken.reads in record {
         parses = g.parses ++ r.line ∷ [];
         earlier = bytes_at bytes tokens r.line.name ∷ g.earlier;
-        same = rw (e, r.says.name) (have_more g.earlier names (bytes_at bytes tokens r.line.name) g.same);
-        names_are = e ∙ ap (λ k. names ++ bytes_at bytes tokens k ∷ []) r.says.name ∙ ap (λ ns. ns ++ bytes_at bytes tokens r.line.name ∷ []) g.names_are ∙ sym (map-append (λ (l : Line). bytes_at bytes tokens l.name) g.parses (r.line ∷ []));
-        say = lines_snoc r.line d (lines_grow table new grows g.say) r.says;
+        same = rw (taken.names_are, r.says.name) (have_more g.earlier names (bytes_at bytes tokens r.line.name) g.same);
+        names_are = taken.names_are ∙ ap (λ k. names ++ bytes_at bytes tokens k ∷ []) r.says.name ∙ ap (λ ns. ns ++ bytes_at bytes tokens r.line.name ∷ []) g.names_are ∙ sym (map-append (λ (l : Line). bytes_at bytes tokens l.name) g.parses (r.line ∷ []));
+        say = rw taken.drafts_are (lines_snoc r.line taken.draft (lines_grow table new grows g.say) r.says);
         table_is = r.table_is ∙ ap (λ t. with_line bytes tokens t r.line) g.table_is ∙ sym (added_behind old g.parses r.line);
-        comes_to = λ o rest. rw (after_one g.parses r.line o) (g.comes_to (mapped (λ ls. r.line ∷ ls) o) (has_line more (same_line g.earlier names g.same r.reads) (same_scope new (variables_of bytes tokens r.line) which r.line.source d.source r.says.source ∙ b) rest));
+        comes_to = λ o rest. rw (after_one g.parses r.line o) (g.comes_to (mapped (λ ls. r.line ∷ ls) o) (has_line more (same_line g.earlier names g.same r.reads) (same_scope new (variables_of bytes tokens r.line) which r.line.source taken.draft.source r.says.source ∙ taken.belongs) rest));
       }
+
+  -- what stops in the next line
+  module _ (which : Scope) (names : List (List ℕ)) (at : ℕ) (more : terminal_at bytes tokens at ≢ End) where
+    pub line_stops : (e : Stop) → Stops (line bytes tokens names at) e → Stops (LinesAt bytes tokens which names at) e
+    line_stops e h = passes (line bytes tokens names at) (LinesAt bytes tokens which names at) e (λ why k s. stops_in_line more s) h
+
+    pub foreign_stops : (old new : Table) (d : LineDraft) (end : ℕ) → ReadsLineAt bytes tokens names at end old new d → belongs_draft which d.source ≡ false → LinesAt bytes tokens which names at (stop NoToken at)
+    foreign_stops old new d end r b = has_foreign_line more r.reads (same_scope new (variables_of bytes tokens r.line) which r.line.source d.source r.says.source ∙ b)
 
 -- a new name makes one name more
 pub new_name : (names : List (List ℕ)) (x : List ℕ) → list_any (bytes_eq x) names ≡ false → with_name names x ≡ names ++ x ∷ []

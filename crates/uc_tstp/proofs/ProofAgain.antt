@@ -17,7 +17,7 @@ use Rattle.uc_tstp.specs.declared.framing.Frame.{Frame}
 use Rattle.uc_tstp.specs.declared.scope.Scope.{Scope}
 use Rattle.uc_tstp.specs.declared.scope.Scope.TheVariants as scope
 use Rattle.uc_tstp.specs.Parse as parse
-use Rattle.uc_tstp.specs.Framing.{Framed, start_words, end_words}
+use Rattle.uc_tstp.specs.Framing.{start_words, end_words}
 use Rattle.uc_tstp.specs.Lines.{LinesAt}
 use Rattle.uc_tstp.specs.Meaning.{names_of, MeanLines}
 use Rattle.uc_tstp.specs.Reading.{inside, first_unknown, ReadsInside, ReadsProof, in_frame, reads}

@@ -1,4 +1,5 @@
-use Rattle.std.proofs.Common.{◌≡◌, ◌∙◌, ◌++◌, ◌∷◌, ℕ, List, [], get_or, ap, sym, Some, is_none, option_map}
+use Rattle.std.proofs.Common.{◌≡◌, ◌∙◌, ◌++◌, ◌∷◌, ℕ, List, [], get_or, ap, sym, Some, is_none, option_map, arith}
+use Rattle.std.proofs.lemmas.Grind.{common_steps}
 use Rattle.uc_term.specs.declared.node.Sym.{Sym}
 use Rattle.uc_ordering.specs.Numbers.{symbol_in}
 use Rattle.uc_ordering.proofs.Steps.{found_more, find_on}
@@ -16,3 +17,12 @@ loop-name-preserved c =
       c.in_ok-push-in-Some.ensures.items ∙ ap (λ l. l ++ f ∷ []) i.0 ∙ sym (found_more (symbol_in entries) names c.loop-name.name-index [] f c.loop-name-test.true found),
       find_on (λ n. is_none (symbol_in entries n)) names c.loop-name.name-index [] c.loop-name-test.true (ap is_none found) i.1,
     )
+
+pub returns-in-None-clause-err : goal.returns-in-None-clause-err
+returns-in-None-clause-err c = grind (arith, common_steps)
+
+pub returns-clause-ok : goal.returns-clause-ok
+returns-clause-ok c = grind (arith, common_steps)
+
+pub returns-clause-known : goal.returns-clause-known
+returns-clause-known c = grind (arith, common_steps)

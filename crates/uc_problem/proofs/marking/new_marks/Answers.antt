@@ -25,3 +25,18 @@ returns-clause-adds c =
       adds_fresh c.add_fresh.new.symbols c.add_fresh-2.new.symbols (codes "true") 0 taken c.in_ok-yes.yes (rw c.as_slice-taken.ensures at c.in_ok-yes.ensures.fresh) c.in_ok-yes.ensures.only,
       adds_fresh c.add_fresh-2.new.symbols c.add_fresh-3.new.symbols (codes "false") 0 taken c.in_ok-no.no (rw c.as_slice-taken.ensures at c.in_ok-no.ensures.fresh) c.in_ok-no.ensures.only,
     )
+
+pub add_fresh-requires-2 : goal.add_fresh-requires-2
+add_fresh-requires-2 c = rw c.as_slice-taken.ensures (all_later c.args.symbols.now c.add_fresh.new.symbols c.args.problem.now.signature.symbols c.in_ok-eq.ensures.grows c.requires)
+
+pub add_fresh-requires-3 : goal.add_fresh-requires-3
+add_fresh-requires-3 c = rw c.as_slice-taken.ensures (all_later c.add_fresh.new.symbols c.add_fresh-2.new.symbols c.args.problem.now.signature.symbols c.in_ok-yes.ensures.grows (all_later c.args.symbols.now c.add_fresh.new.symbols c.args.problem.now.signature.symbols c.in_ok-eq.ensures.grows c.requires))
+
+pub returns-in_err-yes-clause-grows : goal.returns-in_err-yes-clause-grows
+returns-in_err-yes-clause-grows c = Grows-trans c.args.symbols.now c.add_fresh.new.symbols c.add_fresh-2.new.symbols c.in_ok-eq.ensures.grows c.in_err-yes.ensures.grows
+
+pub returns-in_err-no-clause-grows : goal.returns-in_err-no-clause-grows
+returns-in_err-no-clause-grows c = Grows-trans c.args.symbols.now c.add_fresh.new.symbols c.add_fresh-3.new.symbols c.in_ok-eq.ensures.grows (Grows-trans c.add_fresh.new.symbols c.add_fresh-2.new.symbols c.add_fresh-3.new.symbols c.in_ok-yes.ensures.grows c.in_err-no.ensures.grows)
+
+pub returns-clause-grows : goal.returns-clause-grows
+returns-clause-grows c = Grows-trans c.args.symbols.now c.add_fresh.new.symbols c.add_fresh-3.new.symbols c.in_ok-eq.ensures.grows (Grows-trans c.add_fresh.new.symbols c.add_fresh-2.new.symbols c.add_fresh-3.new.symbols c.in_ok-yes.ensures.grows c.in_ok-no.ensures.grows)

@@ -1,5 +1,6 @@
 use Rattle.std.proofs.Common.{drop, sym, ◌∙◌, subst}
 use Rattle.std.proofs.lemmas.Result.{err_from_is_err_and}
+use Rattle.uc_clause.proofs.Tables.{grows_twice}
 use Rattle.uc_system.specs.Interning.{InternsSymbols}
 use Rattle.uc_system.proofs.Readers.{symbols_fail, of_table, known_printable, incomplete, facts_fail, facts_give}
 use Rattle.uc_system.proofs.reading.body_at.Goals as goal
@@ -28,3 +29,12 @@ returns-clause-reads c = facts_give c.args.header c.symbols_at.new.symbols c.arg
 
 pub returns-clause-interns : goal.returns-clause-interns
 returns-clause-interns c = subst (InternsSymbols c.args.header.kind (drop c.args.at.from c.args.bytes.now) c.args.symbols.now) (sym c.in_ok-facts.ensures.keeps) c.in_ok-ranks.ensures.interns
+
+pub returns-in_err-facts-clause-grows : goal.returns-in_err-facts-clause-grows
+returns-in_err-facts-clause-grows c = grows_twice c.args.symbols.now c.symbols_at.new.symbols c.facts_at.new.symbols c.in_ok-ranks.ensures.grows c.in_err-facts.ensures.grows
+
+pub returns-in_err-spec-clause-grows : goal.returns-in_err-spec-clause-grows
+returns-in_err-spec-clause-grows c = grows_twice c.args.symbols.now c.symbols_at.new.symbols c.facts_at.new.symbols c.in_ok-ranks.ensures.grows c.in_ok-facts.ensures.grows
+
+pub returns-clause-grows : goal.returns-clause-grows
+returns-clause-grows c = grows_twice c.args.symbols.now c.symbols_at.new.symbols c.facts_at.new.symbols c.in_ok-ranks.ensures.grows c.in_ok-facts.ensures.grows

@@ -1,5 +1,6 @@
 use Rattle.std.proofs.Common.{arith}
 use Rattle.uc_term.proofs.Grown.{interned_grows}
+use Rattle.uc_clause.proofs.Tables.{grows_not}
 use Rattle.uc_system.proofs.SymbolLines.{no_line, no_symbol, no_name, near, wrong_is_so, too_many_arguments, symbol_wrong, symbol_right}
 use Rattle.uc_system.proofs.Interned.{line_interns}
 use Rattle.uc_system.proofs.symbols.symbol_at.Goals as goal
@@ -43,3 +44,18 @@ returns-clause-grows c = interned_grows c.args.symbols.now c.intern.new.self c.a
 
 pub returns-clause-interns : goal.returns-clause-interns
 returns-clause-interns c = line_interns c.args.header.kind c.args.symbols.now c.intern.new.self c.args.bytes.now c.args.at c.in-Some.next c.in-Some.line.now c.in-Some.ensures c.in-Some-written_in.written.spelled.now c.in-Some-written_in.written.arity c.in-Some-written_in.written.weight c.in-Some-written_in.ensures c.in-Some-2.name (rw c.in-Some-2.is at c.in_ok-name.ensures) c.if-arity-gt-MAX_ARITY.false c.in_ok-symbol.symbol (rw c.as_bytes.ensures at c.in_ok-symbol.ensures.interned)
+
+pub returns-in_default-clause-grows : goal.returns-in_default-clause-grows
+returns-in_default-clause-grows c = grows_not c.args.symbols.now
+
+pub returns-in_default-written_in-clause-grows : goal.returns-in_default-written_in-clause-grows
+returns-in_default-written_in-clause-grows c = grows_not c.args.symbols.now
+
+pub returns-in_err-name-clause-grows : goal.returns-in_err-name-clause-grows
+returns-in_err-name-clause-grows c = grows_not c.args.symbols.now
+
+pub returns-in_default-2-clause-grows : goal.returns-in_default-2-clause-grows
+returns-in_default-2-clause-grows c = grows_not c.args.symbols.now
+
+pub returns-then-arity-gt-MAX_ARITY-clause-grows : goal.returns-then-arity-gt-MAX_ARITY-clause-grows
+returns-then-arity-gt-MAX_ARITY-clause-grows c = grows_not c.args.symbols.now

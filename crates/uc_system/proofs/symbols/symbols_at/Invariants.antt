@@ -10,10 +10,10 @@ use Rattle.uc_system.proofs.symbols.symbols_at.Given as goal
 abbrev pub invariant-lines : goal.invariant-lines
 invariant-lines l = record {
   stands : IsAt l.bytes l.here;
-  same : l.known.keys ≡ symbols_in l.ranked.items;
+  same : l.ranks.known.keys ≡ symbols_in l.ranks.ranked.items;
   grows : Grows l.initial.symbols l.symbols;
   interns : (last : Table) → InternsSymbols l.header.kind (drop l.here.from l.bytes) l.symbols last → InternsSymbols l.header.kind (drop l.fn.at.from l.bytes) l.initial.symbols last;
-  leads : (later : Table) → Grows l.symbols later → (o : Outcome (List Ranked)) → SymbolsAt later l.header l.ranked.items l.here.number (drop l.here.from l.bytes) o → SymbolsAt later l.header [] l.fn.at.number (drop l.fn.at.from l.bytes) o;
+  leads : (later : Table) → Grows l.symbols later → (o : Outcome (List Ranked)) → SymbolsAt later l.header l.ranks.ranked.items l.here.number (drop l.here.from l.bytes) o → SymbolsAt later l.header [] l.fn.at.number (drop l.fn.at.from l.bytes) o;
 }
 
 abbrev pub decreases-lines : goal.decreases-lines

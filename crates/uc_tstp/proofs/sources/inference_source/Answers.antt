@@ -4,6 +4,7 @@ use Rattle.std.proofs.lemmas.Result.{err_from_is_err_and}
 use Rattle.uc_clause.specs.declared.terminal.Terminal.TheVariants.{Open, Comma, OpenSquare}
 use Rattle.uc_clause.specs.Rules.{read, stop, goes_on, stops_first}
 use Rattle.uc_clause.proofs.Sequences.{passes, if_ok, if_err}
+use Rattle.uc_clause.proofs.Tables.{grows_not}
 use Rattle.uc_tstp.specs.Lines as lines
 use Rattle.uc_tstp.proofs.sources.inference_source.Goals as goal
 
@@ -44,3 +45,21 @@ returns-clause-reads c =
 pub returns-clause-stops : goal.returns-clause-stops
 returns-clause-stops c =
     if_err c.source_of_rule.result (λ e h b s. passes (lines.source_of_rule c.args.bytes.now c.args.tokens.now c.in_ok-rule.rule c.in_ok-at-5.at) (lines.inference_source c.args.bytes.now c.args.tokens.now b c.args.first c.args.from) e (λ why k h. goes_on {v = tt} c.in_ok-at.ensures.ok (goes_on {v = tt} c.in_ok-at-2.ensures.ok (goes_on c.in_ok-rule.ensures.ok (goes_on {v = tt} {middle = c.in_ok-at-3.at} (subst (λ f. lines.body_fits f c.args.first c.in_ok-rule.at (read tt c.in_ok-at-3.at)) (c.fits_rule.ensures b s) c.in_ok-at-3.ensures) (goes_on {v = tt} c.in_ok-at-4.ensures.ok (goes_on {v = tt} c.in_ok-at-5.ensures.ok (h))))))) h) c.source_of_rule.ensures.stops
+
+pub returns-in_err-at-clause-grows : goal.returns-in_err-at-clause-grows
+returns-in_err-at-clause-grows c = grows_not c.args.symbols.now
+
+pub returns-in_err-at-2-clause-grows : goal.returns-in_err-at-2-clause-grows
+returns-in_err-at-2-clause-grows c = grows_not c.args.symbols.now
+
+pub returns-in_err-rule-clause-grows : goal.returns-in_err-rule-clause-grows
+returns-in_err-rule-clause-grows c = grows_not c.args.symbols.now
+
+pub returns-in_err-at-3-clause-grows : goal.returns-in_err-at-3-clause-grows
+returns-in_err-at-3-clause-grows c = grows_not c.args.symbols.now
+
+pub returns-in_err-at-4-clause-grows : goal.returns-in_err-at-4-clause-grows
+returns-in_err-at-4-clause-grows c = grows_not c.args.symbols.now
+
+pub returns-in_err-at-5-clause-grows : goal.returns-in_err-at-5-clause-grows
+returns-in_err-at-5-clause-grows c = grows_not c.args.symbols.now

@@ -1,6 +1,7 @@
 use Rattle.std.proofs.Common.{sym}
 use Rattle.std.proofs.lemmas.Result.{err_from_is_err_and}
 use Rattle.uc_clause.proofs.Sequences.{if_ok, if_err}
+use Rattle.uc_clause.proofs.Tables.{grows_not}
 use Rattle.uc_tstp.proofs.SourceReading.{inference_reads, inference_stops, file_stops, file_reads}
 use Rattle.uc_tstp.proofs.sources.source_at.Goals as goal
 
@@ -19,3 +20,12 @@ returns-in_err-name-clause-stops c =
 
 pub returns-clause-reads : goal.returns-clause-reads
 returns-clause-reads c = λ b s. file_reads c.args.bytes.now c.args.tokens.now c.args.from b c.args.first (sym c.if-not-is_word.ensures) c.in_ok-name.end c.in_ok-name.name c.args.variables.now c.args.symbols.now c.in_ok-name-2.name (c.in_ok-name.ensures.reads b s) c.in_ok-name-2.ensures
+
+pub returns-in_err-name-clause-grows : goal.returns-in_err-name-clause-grows
+returns-in_err-name-clause-grows c = grows_not c.args.symbols.now
+
+pub returns-in_err-name-2-clause-grows : goal.returns-in_err-name-2-clause-grows
+returns-in_err-name-2-clause-grows c = grows_not c.args.symbols.now
+
+pub returns-clause-grows : goal.returns-clause-grows
+returns-clause-grows c = grows_not c.args.symbols.now

@@ -34,3 +34,12 @@ members-preserved c = record {
   keeps = rw c.in_ok-push.ensures.ok (kept_more c.args.bytes.now c.args.tokens.now c.args.from c.args.variables.now c.args.symbols.now c.members.more c.members.at c.members.variables c.members.symbols c.members.list c.members.invariant.keeps c.members-test.true c.in_ok-member.member.1 c.step.new.variables c.step.new.symbols c.in_ok-member.member.0 c.in_ok-member.ensures.reads c.in_ok-more.more c.in_ok-more.ensures.next c.in_ok-member.ensures.grows);
   grows = grows_twice c.args.symbols.now c.members.symbols c.step.new.symbols c.members.invariant.grows c.in_ok-member.ensures.grows;
 }
+
+pub returns-in_err-member-clause-grows : goal.returns-in_err-member-clause-grows
+returns-in_err-member-clause-grows c = grows_twice c.args.symbols.now c.members.symbols c.step.new.symbols c.members.invariant.grows c.in_err-member.ensures.grows
+
+pub returns-in_err-push-clause-grows : goal.returns-in_err-push-clause-grows
+returns-in_err-push-clause-grows c = grows_twice c.args.symbols.now c.members.symbols c.step.new.symbols c.members.invariant.grows c.in_ok-member.ensures.grows
+
+pub returns-in_err-more-clause-grows : goal.returns-in_err-more-clause-grows
+returns-in_err-more-clause-grows c = grows_twice c.args.symbols.now c.members.symbols c.step.new.symbols c.members.invariant.grows c.in_ok-member.ensures.grows

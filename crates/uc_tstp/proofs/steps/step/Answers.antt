@@ -1,4 +1,5 @@
 use Rattle.std.proofs.lemmas.Result.{err_from_is_err_and}
+use Rattle.uc_clause.proofs.Tables.{grows_not}
 use Rattle.uc_tstp.proofs.StepReading.{head_stops, to_stops, close_stops, step_reads}
 use Rattle.uc_tstp.proofs.steps.step.Goals as goal
 
@@ -20,3 +21,6 @@ returns-in_err-end-clause-stops c =
 pub returns-clause-reads : goal.returns-clause-reads
 returns-clause-reads c =
     step_reads c.args.bytes.now c.args.tokens.now c.args.from c.in_ok-head.head.by c.in_ok-head.head.left_to_right c.in_ok-head.head.path c.in_ok-head.at c.in_ok-head.ensures.reads c.args.variables.now c.term_at.new.variables c.term_at.new.symbols c.in_ok-to.to c.in_ok-to.at c.in_ok-to.ensures.reads c.in_ok-end.end c.args.symbols.now c.in_ok-to.ensures.interns c.in_ok-end.ensures.ok
+
+pub returns-in_err-head-clause-grows : goal.returns-in_err-head-clause-grows
+returns-in_err-head-clause-grows c = grows_not c.args.symbols.now

@@ -3,6 +3,7 @@ use Rattle.std.proofs.lemmas.Result.{err_from_is_err_and}
 use Rattle.uc_clause.specs.declared.terminal.Terminal.TheVariants.{CloseSquare}
 use Rattle.uc_clause.proofs.Ends.{some_other}
 use Rattle.uc_clause.proofs.Sequences.{if_ok, if_err}
+use Rattle.uc_clause.proofs.Tables.{grows_not}
 use Rattle.uc_tstp.proofs.StepReading.{steps_none, comma_stops, members_stop, members_read}
 use Rattle.uc_tstp.proofs.steps.steps.Goals as goal
 
@@ -25,3 +26,9 @@ returns-clause-reads c =
 pub returns-clause-stops : goal.returns-clause-stops
 returns-clause-stops c =
     if_err c.more_steps.result (λ e s. members_stop c.args.bytes.now c.args.tokens.now c.args.from c.if-stands_at.ensures c.in_ok-at.at c.in_ok-at.ensures.ok e s) c.more_steps.ensures.stops
+
+pub returns-then-stands_at-clause-grows : goal.returns-then-stands_at-clause-grows
+returns-then-stands_at-clause-grows c = grows_not c.args.symbols.now
+
+pub returns-in_err-at-clause-grows : goal.returns-in_err-at-clause-grows
+returns-in_err-at-clause-grows c = grows_not c.args.symbols.now

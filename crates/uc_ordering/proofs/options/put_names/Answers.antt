@@ -1,8 +1,9 @@
 use Rattle.std.proofs.Common.{◌≡◌, ◌∙◌, ◌+◌, ◌-◌, ◌<◌, [], length, get_or, drop, bytes_eq, arith, ap}
+use Rattle.std.proofs.lemmas.Grind.{common_steps}
 use Rattle.std.specs.List.{list_any}
 use Rattle.uc_ordering.specs.Numbers.{number_in}
 use Rattle.uc_ordering.proofs.Again.{one_earlier, one_put, get_any}
-use Rattle.uc_ordering.proofs.options.set_of.Goals as goal
+use Rattle.uc_ordering.proofs.options.put_names.Goals as goal
 
 pub loop-place-preserved : goal.loop-place-preserved
 loop-place-preserved c =
@@ -16,3 +17,12 @@ loop-place-preserved c =
       one_put names place (place - 1) 0 c.as_bytes.result.now (number_in c.loop-place.set.map.entries) (number_in c.put.new.self.map.entries) next i.0 item i.1 c.in_ok-was.ensures.put,
       one_earlier names place (place - 1) c.in_ok-was.was' c.loop-place.again c.earlier-again.result next i.0 (c.in_ok-was.ensures.was ∙ i.1 c.as_bytes.result.now ∙ ap (λ n. list_any (bytes_eq n) (drop place names)) item) c.earlier-again.ensures i.2,
     )
+
+pub returns-in_ok-copy-in-Some-clause-err : goal.returns-in_ok-copy-in-Some-clause-err
+returns-in_ok-copy-in-Some-clause-err c = grind (arith, common_steps)
+
+pub returns-in-None-clause-ok : goal.returns-in-None-clause-ok
+returns-in-None-clause-ok c = grind (arith, common_steps)
+
+pub returns-in-None-clause-once : goal.returns-in-None-clause-once
+returns-in-None-clause-once c = grind (arith, common_steps)

@@ -1,10 +1,11 @@
 use Rattle.std.proofs.Common.{◌≡◌, ◌∙◌, ◌+◌, ◌-◌, ◌<◌, ◌≤◌, ℕ, List, [], length, get_or, drop, map, is_some, bytes_eq, arith, ap, sym}
+use Rattle.std.proofs.lemmas.Grind.{common_steps}
 use Rattle.std.specs.List.{list_any}
 use Rattle.std.proofs.lemmas.List.{length-map}
 use Rattle.uc_ordering.specs.Numbers.{number_in}
 use Rattle.uc_ordering.proofs.Steps.{map-drop, map-get_or}
 use Rattle.uc_ordering.proofs.Again.{one_earlier, weight_put, given_names, get_any}
-use Rattle.uc_ordering.proofs.options.weights_by_name.Goals as goal
+use Rattle.uc_ordering.proofs.options.put_weights.Goals as goal
 
 pub loop-place-preserved : goal.loop-place-preserved
 loop-place-preserved c =
@@ -25,3 +26,12 @@ loop-place-preserved c =
       weight_put weights place (place - 1) number c.as_bytes.result.now d (number_in c.loop-place.given.map.entries) (number_in c.put.new.self.map.entries) next i.0 item weight i.1 c.in_ok-was.ensures.put,
       one_earlier names place (place - 1) c.in_ok-was.was' c.loop-place.again c.earlier-again.result next inside (c.in_ok-was.ensures.was ∙ ap is_some (i.1 c.as_bytes.result.now) ∙ given_names (drop place weights) c.as_bytes.result.now ∙ ap (list_any (bytes_eq c.as_bytes.result.now)) (map-drop (λ (p : List ℕ × ℕ). p.0) weights place) ∙ ap (λ n. list_any (bytes_eq n) (drop place names)) name) c.earlier-again.ensures i.2,
     )
+
+pub returns-in_ok-copy-in-Some-clause-err : goal.returns-in_ok-copy-in-Some-clause-err
+returns-in_ok-copy-in-Some-clause-err c = grind (arith, common_steps)
+
+pub returns-in-None-clause-ok : goal.returns-in-None-clause-ok
+returns-in-None-clause-ok c = grind (arith, common_steps)
+
+pub returns-in-None-clause-once : goal.returns-in-None-clause-once
+returns-in-None-clause-once c = grind (arith, common_steps)

@@ -1,0 +1,12 @@
+use Rattle.std.proofs.Common.{arith}
+use Rattle.std.proofs.lemmas.Grind.{common_steps}
+use Rattle.uc_ordering.proofs.weights.weights_of.Goals as goal
+
+pub loop-f-preserved : goal.loop-f-preserved
+loop-f-preserved c = grind (arith, common_steps)
+
+pub weight_of-requires : goal.weight_of-requires
+weight_of-requires c = grind (arith, common_steps)
+
+pub returns : goal.returns
+returns c = grind (arith, common_steps)
