@@ -1,8 +1,8 @@
 //! Compares terms under the Knuth-Bendix and the lexicographic path order and prints the outcomes, to be timed. Of the
-//! five words the first two say how many rounds each order compares the pairs of the file `group_pairs` (made by
+//! six words the first two say how many rounds each order compares the pairs of the file `group_pairs` (made by
 //! `bench/pairs.py`), as plain Rust does it too (`bench/orders_plain`); the next two, how many levels the deep terms have
-//! that each order compares; the last, how many levels two combs have, each with a variable of its own, that the
-//! Knuth-Bendix order compares a thousand times.
+//! that each order compares; the last two, how many levels two combs have, each with a variable of its own, that each
+//! order compares a thousand times.
 #![tactic(auto)]
 
 mod counts;
@@ -27,9 +27,9 @@ use uc_term::{Symbols, Term};
 const ROUNDS: u32 = 1000;
 
 // The number that each word says, 0 where it says none.
-fn numbers(rt: &(impl Env + AllocGlobal)) -> io::Result<[u64; 5]> {
+fn numbers(rt: &(impl Env + AllocGlobal)) -> io::Result<[u64; 6]> {
     let mut words = env::args(rt)?.skip(1);
-    let mut numbers = [0; 5];
+    let mut numbers = [0; 6];
     for number in &mut numbers {
         *number = match words.next() {
             Some(word) => word.parse::<u64>().unwrap_or(0),
@@ -51,16 +51,13 @@ fn tell_deep<O: Order>(
     println!(rt; "{name} {shape:?} {outcomes:?}")
 }
 
-// What an order says of the pairs in so many rounds, and of deep terms of each shape.
-fn tell<O: Order>(
+// What an order says of deep terms of each shape.
+fn tell_shapes<O: Order>(
     rt: &(impl Print + AllocGlobal),
     name: &str,
     order: &O,
-    terms: &[Term],
-    rounds: u64,
     levels: u64,
 ) -> io::Result<()> {
-    println!(rt; "{name} {:?}", compared(order, terms, rounds))?;
     if levels == 0 {
         return Ok(());
     }
@@ -69,53 +66,60 @@ fn tell<O: Order>(
     tell_deep(rt, name, order, Shape::Right, levels)
 }
 
+// What an order says of two combs with so many variables.
+fn tell_many<O: Order>(
+    rt: &(impl Print + AllocGlobal),
+    name: &str,
+    order: &O,
+    levels: u64,
+) -> io::Result<()> {
+    if levels == 0 {
+        return Ok(());
+    }
+    let count = u32::try_from(levels).unwrap_or(u32::MAX);
+    let greater = many_variables(rt.alloc(), order, count, ROUNDS)?;
+    println!(rt; "{name} {levels} variables: greater in {greater} of {ROUNDS} rounds")
+}
+
+// What an order says of the pairs in so many rounds, of deep terms with so many levels and of combs with so many variables.
+fn tell<O: Order>(
+    rt: &(impl Print + AllocGlobal),
+    name: &str,
+    order: &O,
+    terms: &[Term],
+    rounds: u64,
+    levels: u64,
+    variables: u64,
+) -> io::Result<()> {
+    println!(rt; "{name} {:?}", compared(order, terms, rounds))?;
+    tell_shapes(rt, name, order, levels)?;
+    tell_many(rt, name, order, variables)
+}
+
 fn tell_kbo(
     rt: &(impl Print + AllocGlobal),
     symbols: &Symbols,
     terms: &[Term],
-    rounds: u64,
-    levels: u64,
+    numbers: [u64; 6],
 ) -> io::Result<()> {
     let order = kbo(rt.alloc(), symbols).ok_or(AllocError)?;
-    tell(rt, "kbo", &order, terms, rounds, levels)
+    tell(rt, "kbo", &order, terms, numbers[0], numbers[2], numbers[4])
 }
 
 fn tell_lpo(
     rt: &(impl Print + AllocGlobal),
     symbols: &Symbols,
     terms: &[Term],
-    rounds: u64,
-    levels: u64,
+    numbers: [u64; 6],
 ) -> io::Result<()> {
     let order = lpo(rt.alloc(), symbols).ok_or(AllocError)?;
-    tell(rt, "lpo", &order, terms, rounds, levels)
+    tell(rt, "lpo", &order, terms, numbers[1], numbers[3], numbers[5])
 }
 
-// What the Knuth-Bendix order says of two combs with so many variables.
-fn tell_many(rt: &(impl Print + AllocGlobal), symbols: &Symbols, levels: u64) -> io::Result<()> {
-    if levels == 0 {
-        return Ok(());
-    }
-    let order = kbo(rt.alloc(), symbols).ok_or(AllocError)?;
-    let count = u32::try_from(levels).unwrap_or(u32::MAX);
-    let greater = many_variables(rt.alloc(), &order, count, ROUNDS)?;
-    println!(rt; "kbo {levels} variables: greater in {greater} of {ROUNDS} rounds")
-}
-
-fn tell_orders(
-    rt: &(impl Print + AllocGlobal),
-    symbols: &Symbols,
-    terms: &[Term],
-    numbers: [u64; 5],
-) -> io::Result<()> {
-    tell_kbo(rt, symbols, terms, numbers[0], numbers[2])?;
-    tell_lpo(rt, symbols, terms, numbers[1], numbers[3])?;
-    tell_many(rt, symbols, numbers[4])
-}
-
-fn tell_all(rt: &(impl Print + AllocGlobal), terms: &[Term], numbers: [u64; 5]) -> io::Result<()> {
+fn tell_all(rt: &(impl Print + AllocGlobal), terms: &[Term], numbers: [u64; 6]) -> io::Result<()> {
     let symbols = symbols(rt.alloc())?;
-    tell_orders(rt, &symbols, terms, numbers)
+    tell_kbo(rt, &symbols, terms, numbers)?;
+    tell_lpo(rt, &symbols, terms, numbers)
 }
 
 // The terms of the file.

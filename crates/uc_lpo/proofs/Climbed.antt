@@ -24,6 +24,7 @@ use Rattle.uc_lpo.specs.Laws.{irreflexive}
 use Rattle.uc_lpo.specs.Higher.{higher_transitive, higher_irreflexive}
 use Rattle.uc_lpo.proofs.Passes.{join-of_list}
 use Rattle.uc_lpo.proofs.Rests.{within_more}
+use Rattle.uc_lpo.proofs.Decide.{over_later}
 use Rattle.uc_lpo.proofs.Fronts.{level_says}
 
 -- what begins at a place is a whole term
@@ -268,6 +269,21 @@ module _ (ranks : List ℕ) (classes : Classes) where
           t_tree : tree_of (drop i (read t)) ≡ app f (join (of_list c.front.trees) (more (tree_of (drop p (read t))) (of_list rt)))
           unfolding rt
           t_tree = t_around.tree ∙ ap (app f) (sym (join-of_list c.front.trees (tree_of (drop p (read t)) ∷ take (n - done - 1) (spelled (drop t_to (read t))))))
+
+          over_s : Exceeds rank above (tree_of (drop i (read s))) (of_list rs)
+          over_s = rw s_tree (over_later rank above (higher_transitive classes) (higher_irreflexive classes) f (of_list c.front.trees) (tree_of (drop p (read s))) (of_list rs))
+
+          over_t : Exceeds rank above (tree_of (drop i (read t))) (of_list rt)
+          over_t = rw t_tree (over_later rank above (higher_transitive classes) (higher_irreflexive classes) f (of_list c.front.trees) (tree_of (drop p (read t))) (of_list rt))
+
+          -- the level is greater than each of its later arguments
+          pub s_exceeds : Exceeds rank above (shown represent (tree_of (take (s_end - i) (drop i s)))) (shown_all represent (trees_of (take (s_end - s_to) (drop s_to s))))
+          unfolding rs
+          s_exceeds = rw (later_shown s s_to (n - done - 1) s_end (whole_one s ws) qs, shown_at s i s_end s_begins) over_s
+
+          pub t_exceeds : Exceeds rank above (shown represent (tree_of (take (t_end - i) (drop i t)))) (shown_all represent (trees_of (take (t_end - t_to) (drop t_to t))))
+          unfolding rt
+          t_exceeds = rw (later_shown t t_to (n - done - 1) t_end (whole_one t wt) qt, shown_at t i t_end t_begins) over_t
 
           module _ (result : Rest) (g : Goes ranks classes rest result (SomeReaches rank above (shown_all represent (trees_of (take (s_end - s_to) (drop s_to s)))) (shown represent (tree_of (take (t_end - i) (drop i t))))) (Exceeds rank above (shown represent (tree_of (take (s_end - i) (drop i s)))) (shown_all represent (trees_of (take (t_end - t_to) (drop t_to t)))))) where
             goes : Goes ranks classes rest result (SomeReaches rank above (of_list rs) (tree_of (drop i (read t)))) (Exceeds rank above (tree_of (drop i (read s))) (of_list rt))

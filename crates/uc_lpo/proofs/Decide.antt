@@ -100,6 +100,19 @@ module _ (rank : Sym → ℕ) (above : ℕ → ℕ → Type 0) (above_transitive
   cases (by_head r e) = inr (inl (r, e))
   cases (by_arguments e d) = inr (inr (refl, e, d))
 
+  -- none of the terms that a term exceeds is that term or greater
+  pub never_reached : (t : Tree) (ss : Trees) → Exceeds rank above t ss → SomeReaches rank above ss t → ⊥
+  never_reached t none e p = elim p [ ]
+  never_reached t (more s ss) (one_more l e) p = elim (reach_cases p) [
+    | inl q ↦ irreflexive rank above above_transitive above_irreflexive t (subst (λ (u : Tree). PathOrder rank above t u) q l)
+    | inr (inl k) ↦ irreflexive rank above above_transitive above_irreflexive t (transitive rank above above_transitive t s t l k)
+    | inr (inr r) ↦ never_reached t ss e r
+  ]
+
+  -- a term exceeds its own arguments behind one of them
+  pub over_later : (f : Sym) (cs : Trees) (s : Tree) (rs : Trees) → Exceeds rank above (app f (join cs (more s rs))) rs
+  over_later f cs s rs = exceeds_arguments rank above f (join cs (more s rs)) rs (λ t p. reach_join cs (more s rs) t (a_later p))
+
   -- where the head is another, and not greater, only an argument can be
   pub head_other : (f g : Sym) (ss ts : Trees) → f ≢ g → (rank g < rank f → ⊥) → PathOrder rank above (app f ss) (app g ts) ↔ SomeReaches rank above ss (app g ts)
   head_other f g ss ts ne n = (λ l. elim (cases l) [ inl p ↦ p | inr (inl q) ↦ absurd (n q.0) | inr (inr q) ↦ absurd (ne q.0) ], by_argument)

@@ -14,7 +14,7 @@ use Rattle.uc_lpo.specs.Higher.{higher_transitive, higher_irreflexive}
 use Rattle.uc_lpo.specs.Shown.{shown, shown_all}
 use Rattle.uc_order.specs.Renamed.{renamed_node}
 use Rattle.uc_lpo.specs.Heads.{SameHead}
-use Rattle.uc_lpo.proofs.Decide.{first_greater, first_not_greater, later_reaches, exceeds_later, turned, none_differ}
+use Rattle.uc_lpo.proofs.Decide.{first_greater, first_not_greater, later_reaches, exceeds_later, turned, none_differ, over_later}
 use Rattle.uc_lpo.specs.declared.compare.Rest.{Rest}
 use Rattle.uc_lpo.specs.Rests.{Says, Goes}
 use Rattle.uc_lpo.proofs.Rests.{joined}
@@ -99,6 +99,12 @@ module _ (ranks : List ℕ) (classes : Classes) where
 
       t_is : shown represent (tree_of t) ≡ app h.f (join c.front (more T (rest t t_end)))
       t_is = ap (shown represent) h.right ∙ ap (app h.f) (c.right ∙ ap (λ ts. join c.front (shown_all represent ts)) v.trees)
+
+      pub s_over : Exceeds rank above (shown represent (tree_of s)) (shown_all represent (trees_of (take (length s - s_end) (drop s_end s))))
+      s_over = rw (tail_is s s_end, s_is) (over_later rank above above_transitive above_irreflexive h.f c.front S (rest s s_end))
+
+      pub t_over : Exceeds rank above (shown represent (tree_of t)) (shown_all represent (trees_of (take (length t - t_end) (drop t_end t))))
+      t_over = rw (tail_is t t_end, t_is) (over_later rank above above_transitive above_irreflexive h.f c.front T (rest t t_end))
 
       pub answer_first : (first rest_of : Rest) → S ≢ T → Says ranks classes first (PathOrder rank above S T) → Goes ranks classes first rest_of (SomeReaches rank above (shown_all represent (trees_of (take (length s - s_end) (drop s_end s)))) (shown represent (tree_of t))) (Exceeds rank above (shown represent (tree_of s)) (shown_all represent (trees_of (take (length t - t_end) (drop t_end t))))) → Says ranks classes rest_of (PathOrder rank above (shown represent (tree_of s)) (shown represent (tree_of t)))
       answer_first first rest_of ne a g =

@@ -21,6 +21,12 @@ module _ (ranks : List ℕ) (classes : Classes) where
   says_map (Known b) P Q e a = (λ p. e.0 (a.0 p), λ q. a.1 (e.1 q))
   says_map (Pair s t) P Q e a = (λ p. e.0 (a.0 p), λ q. a.1 (e.1 q))
 
+  -- where no later argument reaches, and all are exceeded, the first arguments that differ decide
+  pub goes_on : (first : Rest) (R E : Type 0) → (R → ⊥) → E → Goes ranks classes first first R E
+  goes_on (Known true) R E n e = (λ _. e, λ _. refl)
+  goes_on (Known false) R E n e = (λ h. absurd (never h), λ r. absurd (n r))
+  goes_on (Pair s t) R E n e = (n, e, (λ l. l, λ l. l))
+
   -- V: the first arguments that differ are greater; R, E: as in `Goes`; G: the terms are greater
   pub joined : (first rest : Rest) (V R E G : Type 0) → Says ranks classes first V → Goes ranks classes first rest R E → (V → E ↔ G) → ((V → ⊥) → R ↔ G) → (R → G) → (G → E) → ((R → ⊥) → E → V ↔ G) → Says ranks classes rest G
   joined (Known true) rest V R E G a g over under reached exceeded turned = says_map rest E G (over (a.0 refl)) g

@@ -371,9 +371,15 @@ fn around<'a>(
     requires first_smaller { IsWithin (length s.now + length t.now) first }
     requires s_single { IsTrue is_single → IsWhole s_later.now }
     requires t_single { IsTrue is_single → IsWhole t_later.now }
+    requires s_over { Exceeds (rank_of ranks.now) (IsHigher classes.now) (shown (representative classes.now) (tree_of s.now)) (shown_all (representative classes.now) (trees_of s_later.now)) }
+    requires t_over { Exceeds (rank_of ranks.now) (IsHigher classes.now) (shown (representative classes.now) (tree_of t.now)) (shown_all (representative classes.now) (trees_of t_later.now)) }
     ensures goes { Goes ranks.now classes.now first.entry result (SomeReaches (rank_of ranks.now) (IsHigher classes.now) (shown_all (representative classes.now) (trees_of s_later.now)) (shown (representative classes.now) (tree_of t.now))) (Exceeds (rank_of ranks.now) (IsHigher classes.now) (shown (representative classes.now) (tree_of s.now)) (shown_all (representative classes.now) (trees_of t_later.now))) }
     ensures smaller { IsWithin (length s.now + length t.now) result }
 {
+    if are_alike(classes, s_later, t_later) {
+        // each of them is an argument of both
+        return first;
+    }
     match first {
         Rest::Known(true) => {
             let limit = if s.len() > s_limit { t_limit } else { t.len() };

@@ -1,17 +1,19 @@
 use Rattle.uc_lpo.proofs.Passes.{pass_exceeds, pass_reaches}
 use Rattle.std.proofs.Common.{◌↔◌}
 use Rattle.std.proofs.Common.{◌==◌, refl, arith, take, ◌≡◌, ℕ, ◌<◌, ◌≤◌, IsTrue, length, drop, ◌-◌, false}
-use Rattle.uc_term.specs.Flat.{tree_of}
+use Rattle.uc_term.specs.Flat.{tree_of, trees_of}
 use Rattle.uc_lpo.specs.Ranks.{rank_of}
 use Rattle.uc_term.proofs.Parts.{split, head_app, head_var}
 use Rattle.uc_term.proofs.Terms.{whole_one}
+use Rattle.uc_lpo.specs.Higher.{higher_transitive, higher_irreflexive}
+use Rattle.uc_lpo.proofs.Decide.{never_reached}
 use Rattle.uc_lpo.proofs.Steps.{exceeds_put_off, exceeds_no_later, reaches_later, reaches_put_off, tail_length, tail_whole_at, answer_variables, never_below, answer_var, answer_other, answer_greater, exceeds_turn, exceeds_stop, exceeds_end, reaches_is, reaches_above, reaches_turn, reaches_end}
-use Rattle.uc_order.specs.VarOrders.{representative}
-use Rattle.uc_lpo.specs.Shown.{shown}
-use Rattle.uc_lpo.proofs.Shown.{shown_same, same_shown}
-use Rattle.uc_lpo.proofs.Fronts.{common_none, heads, answer_first, go_on, answer_end}
-use Rattle.uc_lpo.proofs.Rests.{says_map, within_more}
-use Rattle.uc_lpo.proofs.Climbed.{climbed_init, climbed_var, climbed_app, s_enough, t_enough, s_within, t_within, s_root, t_root, later_single, level_sizes, climbed_up, climbed_end, alike_not_greater}
+use Rattle.uc_order.specs.VarOrders.{representative, IsHigher}
+use Rattle.uc_lpo.specs.Shown.{shown, shown_all}
+use Rattle.uc_lpo.proofs.Shown.{shown_same, same_shown, shown_all_same}
+use Rattle.uc_lpo.proofs.Fronts.{common_none, heads, answer_first, s_over, t_over, go_on, answer_end}
+use Rattle.uc_lpo.proofs.Rests.{says_map, within_more, goes_on}
+use Rattle.uc_lpo.proofs.Climbed.{climbed_init, climbed_var, climbed_app, s_enough, t_enough, s_within, t_within, s_root, t_root, later_single, level_sizes, s_exceeds, t_exceeds, climbed_up, climbed_end, alike_not_greater}
 use Rattle.uc_term.specs.declared.node.Node.TheVariants.{Var}
 use Rattle.uc_lpo.proofs.compare.+path.Goals as goal
 use Rattle.uc_lpo.proofs.compare.+path.Goals.{reaches-then-are_alike-via-then-are_alike, reaches-then-are_alike-via-else-are_alike+then-greater, differs-then-loop-from-test+else-from-t, differs-else-loop-from-test}
@@ -34,7 +36,7 @@ differs-around-requires t c =
     let v = split c.args.t.now c.loop-from.from c.end_of-t_end.result (whole_one c.args.t.now c.requires.t_whole) c.if-from-t.true c.end_of-t_end.ensures.end in
     let l = tail_length c.args.s.now c.end_of-s_end.result in
     let m = tail_length c.args.t.now c.end_of-t_end.result in
-    (omega arith, (c.requires.s_whole, (c.requires.t_whole, (c.requires.s_small, (c.requires.t_small, (tail_whole_at c.args.s.now _ (whole_one c.args.s.now c.requires.s_whole), (tail_whole_at c.args.t.now _ (whole_one c.args.t.now c.requires.t_whole), (omega arith, (omega arith, (within_more _ _ _ (omega arith) c.parts-first.ensures.smaller, (λ h. absurd (never h), λ h. absurd (never h))))))))))))
+    (omega arith, (c.requires.s_whole, (c.requires.t_whole, (c.requires.s_small, (c.requires.t_small, (tail_whole_at c.args.s.now _ (whole_one c.args.s.now c.requires.s_whole), (tail_whole_at c.args.t.now _ (whole_one c.args.t.now c.requires.t_whole), (omega arith, (omega arith, (within_more _ _ _ (omega arith) c.parts-first.ensures.smaller, (λ h. absurd (never h), (λ h. absurd (never h), (s_over c.args.ranks.now c.args.classes.now c.args.s.now c.args.t.now (heads c.args.s.now c.args.t.now c.requires.s_whole c.requires.t_whole c.requires.same_head) c.loop-from.from c.loop-from.invariant.common (Unit {0}) _ _ w v, t_over c.args.ranks.now c.args.classes.now c.args.s.now c.args.t.now (heads c.args.s.now c.args.t.now c.requires.s_whole c.requires.t_whole c.requires.same_head) c.loop-from.from c.loop-from.invariant.common (Unit {0}) _ _ w v)))))))))))))
 
 pub differs-end_of-s_end-requires-clause-whole : goal.differs-end_of-s_end-requires-clause-whole
 differs-end_of-s_end-requires-clause-whole t c =
@@ -346,6 +348,12 @@ climb-end_of_level-t_end-requires-clause-within t c = t_within c.args.ranks.now 
 pub climb-end_of_level-t_end-requires-clause-root : goal.climb-end_of_level-t_end-requires-clause-root
 climb-end_of_level-t_end-requires-clause-root t c = t_root c.args.ranks.now c.args.classes.now c.args.s.now c.args.t.now c.args.at c.loop-from.part c.loop-from.from c.loop-from.done c.loop-from.s_to c.loop-from.t_to c.loop-from.rest c.loop-from.invariant c.requires.s_whole c.requires.t_whole c.requires.common c.requires.in_s c.requires.in_t (c.loop-from.from - 1) (omega arith) c.in-App.field-0 c.in-App.n _ c.in-App.is c.if-arity-done.false
 
+pub around-returns-then-are_alike-clause-goes : goal.around-returns-then-are_alike-clause-goes
+around-returns-then-are_alike-clause-goes t c =
+    let same = shown_all_same (representative c.args.classes.now) c.args.s_later.now c.args.t_later.now (c.if-are_alike.ensures.0 refl) in
+    let never_it = never_reached (rank_of c.args.ranks.now) (IsHigher c.args.classes.now) (higher_transitive c.args.classes.now) (higher_irreflexive c.args.classes.now) (shown (representative c.args.classes.now) (tree_of c.args.t.now)) (shown_all (representative c.args.classes.now) (trees_of c.args.t_later.now)) c.requires.t_over in
+    goes_on c.args.ranks.now c.args.classes.now c.args.first _ _ (λ r. never_it (rw same at r)) (rw same at c.requires.s_over)
+
 pub climb-around-rest-requires : goal.climb-around-rest-requires
 climb-around-rest-requires t c =
     let z = level_sizes c.args.ranks.now c.args.classes.now c.args.s.now c.args.t.now c.args.at c.loop-from.part c.loop-from.from c.loop-from.done c.loop-from.s_to c.loop-from.t_to c.loop-from.rest c.loop-from.invariant c.requires.s_whole c.requires.t_whole c.requires.common c.requires.in_s c.requires.in_t (c.loop-from.from - 1) (omega arith) c.in-App.field-0 c.in-App.n _ c.in-App.is c.if-arity-done.false c.end_of_level-s_end.result c.end_of_level-t_end.result c.end_of_level-s_end.ensures.end c.end_of_level-t_end.ensures.end in
@@ -354,7 +362,7 @@ climb-around-rest-requires t c =
     let sk = z.s_later_long in
     let tk = z.t_later_long in
     let one : IsTrue (c.in-App.n - c.loop-from.done - 1 == 1) → c.in-App.n - c.loop-from.done - 1 ≡ 1 = λ h. eqb-true (c.in-App.n - c.loop-from.done - 1) 1 h in
-    (omega (arith, sl, tl, z.s_inside, z.t_inside), (z.s_whole, (z.t_whole, (omega (arith, sl, z.s_inside, c.requires.s_small), (omega (arith, tl, z.t_inside, c.requires.t_small), (z.s_later, (z.t_later, (omega (arith, sl, sk, z.s_part, z.s_order), (omega (arith, tl, tk, z.t_part, z.t_order), (z.ready, (λ h. later_single c.args.s.now c.loop-from.s_to _ c.end_of_level-s_end.result (whole_one c.args.s.now c.requires.s_whole) c.end_of_level-s_end.ensures.end (s_enough c.args.ranks.now c.args.classes.now c.args.s.now c.args.t.now c.args.at c.loop-from.part c.loop-from.from c.loop-from.done c.loop-from.s_to c.loop-from.t_to c.loop-from.rest c.loop-from.invariant c.requires.s_whole c.requires.t_whole c.requires.common c.requires.in_s c.requires.in_t (c.loop-from.from - 1) (omega arith) c.in-App.field-0 c.in-App.n _ c.in-App.is c.if-arity-done.false) (one h), λ h. later_single c.args.t.now c.loop-from.t_to _ c.end_of_level-t_end.result (whole_one c.args.t.now c.requires.t_whole) c.end_of_level-t_end.ensures.end (t_enough c.args.ranks.now c.args.classes.now c.args.s.now c.args.t.now c.args.at c.loop-from.part c.loop-from.from c.loop-from.done c.loop-from.s_to c.loop-from.t_to c.loop-from.rest c.loop-from.invariant c.requires.s_whole c.requires.t_whole c.requires.common c.requires.in_s c.requires.in_t (c.loop-from.from - 1) (omega arith) c.in-App.field-0 c.in-App.n _ c.in-App.is c.if-arity-done.false) (one h))))))))))))
+    (omega (arith, sl, tl, z.s_inside, z.t_inside), (z.s_whole, (z.t_whole, (omega (arith, sl, z.s_inside, c.requires.s_small), (omega (arith, tl, z.t_inside, c.requires.t_small), (z.s_later, (z.t_later, (omega (arith, sl, sk, z.s_part, z.s_order), (omega (arith, tl, tk, z.t_part, z.t_order), (z.ready, (λ h. later_single c.args.s.now c.loop-from.s_to _ c.end_of_level-s_end.result (whole_one c.args.s.now c.requires.s_whole) c.end_of_level-s_end.ensures.end (s_enough c.args.ranks.now c.args.classes.now c.args.s.now c.args.t.now c.args.at c.loop-from.part c.loop-from.from c.loop-from.done c.loop-from.s_to c.loop-from.t_to c.loop-from.rest c.loop-from.invariant c.requires.s_whole c.requires.t_whole c.requires.common c.requires.in_s c.requires.in_t (c.loop-from.from - 1) (omega arith) c.in-App.field-0 c.in-App.n _ c.in-App.is c.if-arity-done.false) (one h), (λ h. later_single c.args.t.now c.loop-from.t_to _ c.end_of_level-t_end.result (whole_one c.args.t.now c.requires.t_whole) c.end_of_level-t_end.ensures.end (t_enough c.args.ranks.now c.args.classes.now c.args.s.now c.args.t.now c.args.at c.loop-from.part c.loop-from.from c.loop-from.done c.loop-from.s_to c.loop-from.t_to c.loop-from.rest c.loop-from.invariant c.requires.s_whole c.requires.t_whole c.requires.common c.requires.in_s c.requires.in_t (c.loop-from.from - 1) (omega arith) c.in-App.field-0 c.in-App.n _ c.in-App.is c.if-arity-done.false) (one h), (s_exceeds c.args.ranks.now c.args.classes.now c.args.s.now c.args.t.now c.args.at c.loop-from.part c.loop-from.from c.loop-from.done c.loop-from.s_to c.loop-from.t_to c.loop-from.rest c.loop-from.invariant c.requires.s_whole c.requires.t_whole c.requires.common c.requires.in_s c.requires.in_t (c.loop-from.from - 1) (omega arith) c.in-App.field-0 c.in-App.n _ c.in-App.is c.if-arity-done.false c.end_of_level-s_end.result c.end_of_level-t_end.result c.end_of_level-s_end.ensures.end c.end_of_level-t_end.ensures.end, t_exceeds c.args.ranks.now c.args.classes.now c.args.s.now c.args.t.now c.args.at c.loop-from.part c.loop-from.from c.loop-from.done c.loop-from.s_to c.loop-from.t_to c.loop-from.rest c.loop-from.invariant c.requires.s_whole c.requires.t_whole c.requires.common c.requires.in_s c.requires.in_t (c.loop-from.from - 1) (omega arith) c.in-App.field-0 c.in-App.n _ c.in-App.is c.if-arity-done.false c.end_of_level-s_end.result c.end_of_level-t_end.result c.end_of_level-s_end.ensures.end c.end_of_level-t_end.ensures.end)))))))))))))
 
 pub climb-loop-from-preserved : goal.climb-loop-from-preserved
 climb-loop-from-preserved t c = climbed_up c.args.ranks.now c.args.classes.now c.args.s.now c.args.t.now c.args.at c.loop-from.part c.loop-from.from c.loop-from.done c.loop-from.s_to c.loop-from.t_to c.loop-from.rest c.loop-from.invariant c.requires.s_whole c.requires.t_whole c.requires.common c.requires.in_s c.requires.in_t (c.loop-from.from - 1) (omega arith) c.in-App.field-0 c.in-App.n _ c.in-App.is c.if-arity-done.false c.end_of_level-s_end.result c.end_of_level-t_end.result c.end_of_level-s_end.ensures.end c.end_of_level-t_end.ensures.end c.around-rest.result c.around-rest.ensures.goes c.around-rest.ensures.smaller
