@@ -39,6 +39,7 @@ beside "uc_lpo" "$ours 0 31250" "plain Rust" "$plain 0 31250"
 beside "uc_kbo, 400,000 levels" "$ours 0 0 400000 0" "half as many" "$ours 0 0 200000 0"
 beside "uc_kbo, 2,000 variables" "$ours 0 0 0 0 2000" "half as many" "$ours 0 0 0 0 1000"
 beside "uc_lpo, 400,000 levels" "$ours 0 0 0 400000" "half as many" "$ours 0 0 0 200000"
+beside "uc_lpo, 2,000 variables" "$ours 0 0 0 0 0 2000" "half as many" "$ours 0 0 0 0 0 1000"
 # the largest terms that are compared, 16,777,216 nodes, with a stack of 256 kB
 (ulimit -s 256 && "$ours" 0 0 0 8388607 >/dev/null)
 echo "uc_lpo, 8,388,607 levels, 256 kB of stack: ended"

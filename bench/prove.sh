@@ -22,6 +22,7 @@ phases() {
         else if (name ~ /uc_rewrite/) phase = "normalising"
         else if (name ~ /uc_pair|uc_task/) phase = "overlaps"
         else if (name ~ /uc_ground/) phase = "ground joinability"
+        else if (name ~ /uc_ac/) phase = "brackets and order"
         else if (name ~ /uc_shelf|uc_disc|boxcar/) phase = "fronts"
         else if (name ~ /uc_book|uc_rows|uc_queue|uc_ledger|uc_machine|uc_search/) phase = "the book"
         else if (name ~ /std_alloc|std_heap|malloc|free|realloc|libc::heap/) phase = "memory"

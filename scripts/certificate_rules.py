@@ -1,6 +1,6 @@
 """The rules of certificates of saturation, without the program: Knuth-Bendix and path orders, also under an order of variables, overlaps
-less those that are left out, normal forms, and when a replacement, a line of a derivation and a join is right. So certificates are
-made and checked.
+less those that are left out, normal forms, equality up to brackets and order, and when a replacement, a line of a derivation and a
+join is right. So certificates are made and checked.
 
 Names are lower-case words and weights are positive. A text that isn't read is beyond this, but for names of lines and their number.
 """
@@ -93,6 +93,9 @@ class JoinReader(Reader):
         self.next(")")
         return classes, left, right
 
+    def triple(self):
+        return [int(it) for it in self.list(self.next, "[", "]")]
+
     def join(self):
         for it in ("join", "("):
             self.next(it)
@@ -120,6 +123,10 @@ class JoinReader(Reader):
         elif end == "orders":
             self.next("(")
             end = end, self.list(self.case, "[", "]")
+            self.next(")")
+        elif end == "ac":
+            self.next("(")
+            end = end, self.list(self.triple, "[", "]")
             self.next(")")
         else:
             end = (end,)
@@ -355,6 +362,66 @@ def normalised(t, facts, order, classes=None):
     return t, moves
 
 
+# Equality up to brackets and order.
+
+
+def laws_of(f):
+    """That a binary symbol associates, commutes, and exchanges what stands at the right."""
+    p = lambda x, y: (f, (x, y))
+    return (p(p(0, 1), 2), p(0, p(1, 2))), (p(0, 1), p(1, 0)), (p(0, p(1, 2)), p(1, p(0, 2)))
+
+
+def is_law(fact, law):
+    """Whether they are equal up to renaming, either way round."""
+    return any(renamed(*fact) == renamed(*it) for it in (law, law[::-1]))
+
+
+def triple_of(f, facts):
+    """The least facts that are the three laws of a symbol, or None."""
+    found = [next((k for k, fact in enumerate(facts) if is_law(fact, law)), None) for law in laws_of(f)]
+    return None if None in found else found
+
+
+def symbol_of(triple, facts):
+    """The symbol of which three facts are the laws, or None."""
+    if len(triple) != 3 or max(triple) >= len(facts):
+        return None
+    names = distinct(name for t in facts[triple[1]] for name, arity in symbols_in(t) if arity == 2)
+    return next((f for f in names if all(is_law(facts[k], law) for k, law in zip(triple, laws_of(f)))), None)
+
+
+def parts(t, f):
+    """What stands below a top part of this symbol alone."""
+    if is_var(t) or t[0] != f or len(t[1]) != 2:
+        return [t]
+    return parts(t[1][0], f) + parts(t[1][1], f)
+
+
+def are_ac_equal(names, s, t):
+    """Whether two terms are equal up to brackets and order at these binary symbols."""
+    if is_var(s) or is_var(t):
+        return s == t
+    if s[0] != t[0] or len(s[1]) != len(t[1]):
+        return False
+    if s[0] not in names or len(s[1]) != 2:
+        return all(are_ac_equal(names, a, b) for a, b in zip(s[1], t[1]))
+    others = parts(t, t[0])
+    for a in parts(s, s[0]):
+        k = next((k for k, b in enumerate(others) if are_ac_equal(names, a, b)), None)
+        if k is None:
+            return False
+        others.pop(k)
+    return not others
+
+
+def ac_triples(s, t, facts, numbers):
+    """The triples of the associative and commutative symbols of two terms, by number, where these are equal so; else none."""
+    found = set(symbols_in(s) + symbols_in(t))
+    known = {name: triple_of(name, facts) for name, arity in numbers if arity == 2 and (name, arity) in found}
+    names = [name for name in known if known[name]]
+    return [known[name] for name in names] if are_ac_equal(names, s, t) else []
+
+
 def compared(order, s, t):
     return "same" if s == t else "less" if order.greater(t, s) else "other"
 
@@ -418,6 +485,8 @@ def shown_what(what):
 def shown_end(end):
     if end[0] == "instance":
         return f"instance({end[1]})"
+    if end[0] == "ac":
+        return f"ac([{', '.join('[' + ', '.join(map(str, it)) + ']' for it in end[1])}])"
     if end[0] == "orders":
         return "orders([" + ", ".join(f"case({shown_classes(c)}, {shown_moves(l)}, {shown_moves(r)})" for c, l, r in end[1]) + "])"
     return end[0]
@@ -427,9 +496,11 @@ def shown_join(join):
     return f"join({shown_what(join[0])}, {shown_moves(join[1])}, {shown_moves(join[2])}, {shown_end(join[3])})."
 
 
-def joined(what, sides, facts, order):
+def joined(what, sides, facts, order, numbers):
     """The join of two terms, or None."""
     (s, left), (t, right) = (normalised(it, facts, order) for it in sides)
+    if triples := ac_triples(s, t, facts, numbers):
+        return what, left, right, ("ac", triples)
     if s == t:
         return what, left, right, ("same",)
     for k, fact in enumerate(facts):
@@ -452,7 +523,7 @@ def made(problem, system, derivation, names):
     order, facts = read_system(system)
     joins = []
     for what, sides in expected(encoded(problem), facts, order):
-        join = joined(what, sides, facts, order)
+        join = joined(what, sides, facts, order, numbered(problem))
         if join is None:
             raise ValueError(f"not joined: {what}")
         joins.append(shown_join(join))
@@ -496,6 +567,15 @@ def encoded(problem):
 
 def symbols_in(t):
     return [] if is_var(t) else [(t[0], len(t[1]))] + [it for a in t[1] for it in symbols_in(a)]
+
+
+def closed(t):
+    return [] if is_var(t) else [it for a in t[1] for it in closed(a)] + [(t[0], len(t[1]))]
+
+
+def numbered(problem):
+    """The symbols by number: as their arguments are closed while the clauses are read."""
+    return distinct(it for clause in problem for t in clause[2:] for it in closed(t))
 
 
 def symbols_of(problem):
@@ -671,6 +751,9 @@ def is_right(join, what, sides, facts, order):
     if end[0] == "instance":
         fact = facts[end[1]] if end[1] < len(facts) else None
         return fact is not None and (are_both(fact[0], s, fact[1], t) or are_both(fact[1], s, fact[0], t))
+    if end[0] == "ac":
+        names = [symbol_of(it, facts) for it in end[1]]
+        return None not in names and are_ac_equal(names, s, t)
     xs = sorted(set(variables(s) + variables(t)))
     if len(xs) > 5 or [case[0] for case in end[1]] != var_orders(xs):
         return False

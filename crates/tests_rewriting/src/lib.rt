@@ -1,7 +1,9 @@
 //! Tests of the public calls of matching and unification, the orders, facts, rewriting, what is found for a term,
-//! overlaps, ground joinability and questions. The crate stands above those, so that each of them is proved once.
+//! overlaps, joinability and questions. The crate stands above those, so that each of them is proved once.
 #![tactic(auto)]
 
+#[cfg(test)]
+mod ac_joining;
 #[cfg(test)]
 mod cases;
 #[cfg(test)]

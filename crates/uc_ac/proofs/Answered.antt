@@ -1,5 +1,5 @@
 -- What follows from the answer of the test, and that it is one.
-use Rattle.std.proofs.Common.{◌≡◌, ℕ, suc, ◌+◌, ◌<◌, ◌≤◌, List, [], ◌∷◌, map, Option, Some, slice_index, refl, sym, ap, ap₂, subst, arith}
+use Rattle.std.proofs.Common.{◌≡◌, ℕ, suc, ◌+◌, ◌<◌, ◌≤◌, List, [], ◌∷◌, map, Option, Some, None, slice_index, refl, sym, ap, ap₂, subst, arith}
 use Rattle.std.specs.List.Sorted.{IsStrictlyIncreasing}
 use Rattle.uc_term.specs.declared.node.Sym.{Sym}
 use Rattle.uc_term.specs.Tree.{Tree}
@@ -7,12 +7,12 @@ use Rattle.uc_order.specs.Laws.{Meaning, Laws, HasSym}
 use Rattle.uc_order.specs.Members.{In, in_front, in_rest, Each}
 use Rattle.uc_fact.specs.Live.{Live}
 use Rattle.uc_fact.specs.Ground.{IsJoinable}
-use Rattle.uc_ac.specs.declared.ac_facts.AcFacts.{AcFacts}
+use Rattle.uc_fact.specs.declared.ac_facts.AcFacts.{AcFacts}
 use Rattle.uc_ac.specs.AcEqual.{AcEqual}
 use Rattle.uc_ac.specs.declared.ac_law.AcLaw.{AcLaw}
 use Rattle.uc_ac.specs.declared.ac_law.AcLaw.TheVariants.{Assoc, Comm, Extended}
 use Rattle.uc_ac.specs.AcFacts.{AreAcFacts, symbols_of, named_equations}
-use Rattle.uc_ac.specs.Joining.{IsLeastThat, AreLeastFacts, AreFactsOf, IsAcAnswer, has_facts, has_none, not_equal}
+use Rattle.uc_ac.specs.Joining.{IsLeastThat, AreLeastFacts, AreFactsOf, IsAcAnswer, has_facts, has_none}
 use Rattle.uc_ac.proofs.Reordering.{Each-map}
 use Rattle.uc_ac.proofs.Parts.{same_sym}
 use Rattle.uc_ac.proofs.Named.{named_facts}
@@ -112,11 +112,10 @@ module _ (live : List Live) where
 
     pub one_answer : (a b : Option (List AcFacts)) → IsAcAnswer live s t a → IsAcAnswer live s t b → a ≡ b
     one_answer _ _ (has_facts {facts = a} {list = xs} p e) (has_facts {facts = b} {list = ys} q h) = ap Some (one_facts (a ∷ xs) (b ∷ ys) p q)
-    one_answer _ _ (has_facts {facts = a} {list = xs} p e) (has_none q) = let same = one_facts (a ∷ xs) [] p q in absurd cc
-    one_answer _ _ (has_facts {facts = a} {list = xs} p e) (not_equal {list = ys} q n) = absurd (n (subst (λ l. AcEqual (symbols_of l) s t) (one_facts (a ∷ xs) ys p q) e))
-    one_answer _ _ (has_none p) (has_facts {facts = b} {list = ys} q h) = let same = one_facts [] (b ∷ ys) p q in absurd cc
-    one_answer _ _ (has_none p) (has_none q) = refl
-    one_answer _ _ (has_none p) (not_equal q n) = refl
-    one_answer _ _ (not_equal {list = xs} p n) (has_facts {facts = b} {list = ys} q h) = absurd (n (subst (λ l. AcEqual (symbols_of l) s t) (one_facts (b ∷ ys) xs q p) h))
-    one_answer _ _ (not_equal p n) (has_none q) = refl
-    one_answer _ _ (not_equal p n) (not_equal q k) = refl
+    one_answer _ _ (has_facts {facts = a} {list = xs} p e) (has_none n) = absurd (n a xs p e)
+    one_answer _ _ (has_none n) (has_facts {facts = b} {list = ys} q h) = absurd (n b ys q h)
+    one_answer _ _ (has_none n) (has_none k) = refl
+
+    -- no facts, where the list of all is another
+    pub none_by : (list : List AcFacts) → AreFactsOf live s t list → ((facts : AcFacts) (rest : List AcFacts) → list ≡ facts ∷ rest → AcEqual (symbols_of list) s t → ⊥) → IsAcAnswer live s t None
+    none_by list h n = has_none (λ facts rest k e. let same = one_facts list (facts ∷ rest) h k in n facts rest same (subst (λ l. AcEqual (symbols_of l) s t) (sym same) e))

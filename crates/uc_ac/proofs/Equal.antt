@@ -1,9 +1,9 @@
--- Equality up to brackets and order is symmetric and transitive, and goes by the parts of the two terms.
-use Rattle.std.proofs.Common.{◌≡◌, ◌+◌, ◌∙◌, ap, List, [], ◌∷◌, ◌++◌, refl, sym, subst, ◌⊎◌, inl, inr}
+-- Equality up to brackets and order is reflexive, symmetric and transitive, and goes by the parts of the two terms.
+use Rattle.std.proofs.Common.{◌≡◌, ◌+◌, ◌∙◌, ap, List, [], ◌∷◌, ◌++◌, refl, sym, subst, ◌⊎◌, inl, inr, arith}
 use Rattle.uc_term.specs.declared.node.Sym.{Sym}
 use Rattle.uc_term.specs.Tree.{Tree, var, app, Trees, none, more, list_of, count}
 use Rattle.uc_order.specs.Laws.{pair_of}
-use Rattle.uc_order.specs.Members.{In}
+use Rattle.uc_order.specs.Members.{In, in_front, in_rest}
 use Rattle.uc_ac.specs.Reordered.{IsTaken, taken_first, taken_later, IsReordered, no_element, one_element}
 use Rattle.uc_ac.specs.AcEqual.{parts, AcEqual, same_variable, same_head, same_parts, AreAcEqual, no_terms, and_terms}
 use Rattle.uc_ac.proofs.Reordering.{Reordered-refl, Reordered-sym, Reordered-trans, Reordered-append}
@@ -69,6 +69,36 @@ module _ (symbols : List Sym) where
         reordered = subst (λ l. IsReordered l (a.list ++ b.list)) (sym (parts-pair f s' t')) (Reordered-append a.reordered b.reordered);
         equal = subst (λ l. Eqs l (a.list ++ b.list)) (sym (parts-pair f s t)) (eqs-append a.equal b.equal);
       }
+
+  -- it isn't in the list, where it is neither the first nor in the rest
+  neither : (f g h : Sym) (list : List Sym) → h ≡ f → (g ≡ f → ⊥) → (In list f → ⊥) → In (g ∷ list) h → ⊥
+  neither f g _ list e n m in_front = n e
+  neither f g h list e n m (in_rest i) = m (subst (In list) e i)
+
+  among_or_not : (f : Sym) (list : List Sym) → In list f ⊎ (In list f → ⊥)
+  among_or_not f [] = inr (λ i. elim i [ ])
+  among_or_not f (g ∷ list) = go (which_sym g f) (among_or_not f list)
+    where
+      go : (g ≡ f) ⊎ (g ≡ f → ⊥) → In list f ⊎ (In list f → ⊥) → In (g ∷ list) f ⊎ (In (g ∷ list) f → ⊥)
+      go (inl e) rest = inl (subst (λ h. In (h ∷ list) f) (sym e) in_front)
+      go (inr n) (inl i) = inl (in_rest i)
+      go (inr n) (inr m) = inr (neither f g f list refl n m)
+
+  mutual
+    pub AcEqual-refl : (t : Tree) → Eq t t
+    AcEqual-refl (var x) = same_variable
+    AcEqual-refl (app f ts) = at_head f ts (AreAcEqual-refl ts) (among_or_not f symbols)
+
+    at_head : (f : Sym) (ts : Trees) → Eqs (list_of ts) (list_of ts) → In symbols f ⊎ (In symbols f → ⊥) → Eq (app f ts) (app f ts)
+    at_head f ts h (inr n) = same_head (λ b. n b.0) h
+    at_head f none h (inl i) = same_head (λ b. absurd (omega (arith, b.1))) h
+    at_head f (more s none) h (inl i) = same_head (λ b. absurd (omega (arith, b.1))) h
+    at_head f (more s (more t none)) (and_terms d (and_terms e k)) (inl i) = let r = pair_parts f i s s t t d e in same_parts i r.reordered r.equal
+    at_head f (more s (more t (more u us))) h (inl i) = same_head (λ b. absurd (omega (arith, b.1))) h
+
+    AreAcEqual-refl : (ts : Trees) → Eqs (list_of ts) (list_of ts)
+    AreAcEqual-refl none = no_terms
+    AreAcEqual-refl (more t ts) = and_terms (AcEqual-refl t) (AreAcEqual-refl ts)
 
   mutual
     pub AcEqual-sym : (s t : Tree) → Eq s t → Eq t s

@@ -5,7 +5,7 @@ use Rattle.uc_term.specs.declared.node.Sym.{Sym}
 use Rattle.uc_term.specs.Tree.{Tree}
 use Rattle.uc_order.specs.Members.{In, in_front, in_rest, Each}
 use Rattle.uc_fact.specs.Live.{Live}
-use Rattle.uc_ac.specs.declared.ac_facts.AcFacts.{AcFacts}
+use Rattle.uc_fact.specs.declared.ac_facts.AcFacts.{AcFacts}
 use Rattle.uc_ac.specs.declared.ac_law.AcLaw.TheVariants.{Assoc, Comm, Extended}
 use Rattle.uc_ac.specs.AcFacts.{IsFactThat, symbols_of}
 use Rattle.uc_ac.specs.Joining.{AreBinaryIn, AreLeastFacts, IsAcSymbol, AreFactsOf}

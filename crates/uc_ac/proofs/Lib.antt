@@ -10,12 +10,13 @@ pub mod Flattening
 pub mod Joins
 pub mod Forms
 pub mod Answered
+pub mod Ends
 pub mod Found
-pub mod Placing
 pub mod LeastFacts
 pub mod Sizes
 pub mod Sorting
-pub mod Forming
+pub mod OneClass
+pub mod Reading
 pub mod LawNodes
 pub mod Heading
 pub mod Gathering

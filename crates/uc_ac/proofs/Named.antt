@@ -5,7 +5,7 @@ use Rattle.uc_term.specs.declared.equation.Equation.{Equation}
 use Rattle.uc_term.proofs.Gets.{get-append_left, get-append_right}
 use Rattle.uc_order.specs.Members.{In, in_front, in_rest, Each}
 use Rattle.uc_fact.specs.Live.{Live, fact_at}
-use Rattle.uc_ac.specs.declared.ac_facts.AcFacts.{AcFacts}
+use Rattle.uc_fact.specs.declared.ac_facts.AcFacts.{AcFacts}
 use Rattle.uc_ac.specs.declared.ac_law.AcLaw.{AcLaw}
 use Rattle.uc_ac.specs.declared.ac_law.AcLaw.TheVariants.{Assoc, Comm, Extended}
 use Rattle.uc_ac.specs.AcLaw.{IsLaw}

@@ -1,7 +1,10 @@
--- Terms that are equal up to brackets and order have as many nodes.
-use Rattle.std.proofs.Common.{◌≡◌, ℕ, ◌+◌, List, [], ◌∷◌, ◌++◌, refl, arith}
+-- Terms that are equal up to brackets and order have as many nodes, and the same first node.
+use Rattle.std.proofs.Common.{◌≡◌, ℕ, ◌+◌, List, [], ◌∷◌, ◌++◌, get_or, refl, ap, arith}
 use Rattle.uc_term.specs.declared.node.Sym.{Sym}
+use Rattle.uc_term.specs.declared.node.Node.{Node}
+use Rattle.uc_term.specs.declared.node.Node.TheVariants.{App}
 use Rattle.uc_term.specs.Tree.{Tree, Trees, none, more, list_of, count, nodes, nodes_all}
+use Rattle.uc_term.specs.Flat.{flat}
 use Rattle.uc_order.specs.Laws.{pair_of}
 use Rattle.uc_ac.specs.Reordered.{IsTaken, taken_first, taken_later, IsReordered, no_element, one_element}
 use Rattle.uc_ac.specs.AcEqual.{parts, AcEqual, same_variable, same_head, same_parts, AreAcEqual, no_terms, and_terms}
@@ -47,3 +50,8 @@ module _ (symbols : List Sym) where
     same_weight : (ss ts : List Tree) → AreAcEqual symbols ss ts → weight ss ≡ weight ts
     same_weight _ _ no_terms = refl
     same_weight _ _ (and_terms {s = s} {t = t} {ss = ss} {ts = ts} e h) = omega (arith, same_nodes s t e, same_weight ss ts h)
+
+  pub same_first : (d : Node) (s t : Tree) → AcEqual symbols s t → get_or (flat s) 0 d ≡ get_or (flat t) 0 d
+  same_first d _ _ same_variable = refl
+  same_first d _ _ (same_head {f = f} {ss = ss} {ts = ts} n h) = ap (App f) (counts symbols ss ts h)
+  same_first d _ _ (same_parts i p h) = refl

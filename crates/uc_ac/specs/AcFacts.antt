@@ -3,7 +3,7 @@ use Rattle.std.specs.Prelude.{ℕ, ◌≡◌, ◌++◌, List, [], ◌∷◌, map
 use Rattle.uc_term.specs.declared.node.Sym.{Sym}
 use Rattle.uc_term.specs.declared.equation.Equation.{Equation}
 use Rattle.uc_fact.specs.Live.{Live, fact_at}
-use Rattle.uc_ac.specs.declared.ac_facts.AcFacts.{AcFacts}
+use Rattle.uc_fact.specs.declared.ac_facts.AcFacts.{AcFacts}
 use Rattle.uc_ac.specs.declared.ac_law.AcLaw.{AcLaw}
 use Rattle.uc_ac.specs.declared.ac_law.AcLaw.TheVariants.{Assoc, Comm, Extended}
 use Rattle.uc_ac.specs.AcLaw.{IsLaw}

@@ -8,7 +8,7 @@ use Rattle.uc_term.specs.declared.equation.Side.{Side}
 use Rattle.uc_term.specs.Equations.{side_of}
 use Rattle.uc_term.specs.Tree.{Tree, apply}
 use Rattle.uc_fact.specs.Live.{Live}
-use Rattle.uc_ac.specs.declared.ac_facts.AcFacts.{AcFacts}
+use Rattle.uc_fact.specs.declared.ac_facts.AcFacts.{AcFacts}
 use Rattle.uc_ac.specs.declared.ac_law.AcLaw.{AcLaw}
 use Rattle.uc_ac.specs.AcLaw.{IsLaw}
 use Rattle.uc_ac.specs.Joining.{AreLeastFacts, IsAcSymbol}

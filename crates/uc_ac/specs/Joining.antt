@@ -7,7 +7,7 @@ use Rattle.uc_term.specs.Tree.{Tree, app, Trees, more}
 use Rattle.uc_order.specs.Laws.{pair_of}
 use Rattle.uc_order.specs.Members.{In, Each}
 use Rattle.uc_fact.specs.Live.{Live}
-use Rattle.uc_ac.specs.declared.ac_facts.AcFacts.{AcFacts}
+use Rattle.uc_fact.specs.declared.ac_facts.AcFacts.{AcFacts}
 use Rattle.uc_ac.specs.declared.ac_law.AcLaw.{AcLaw}
 use Rattle.uc_ac.specs.declared.ac_law.AcLaw.TheVariants.{Assoc, Comm, Extended}
 use Rattle.uc_ac.specs.AcEqual.{AcEqual}
@@ -52,8 +52,8 @@ module _ (live : List Live) where
       pub least : Each AreLeastFacts list
       pub symbols : (f : Sym) → In (symbols_of list) f ↔ ((Heads f s ⊎ Heads f t) × IsAcSymbol f)
 
-    -- the facts, where there are some and the terms are equal up to brackets and order at their symbols; else none
+    -- The facts, where there are some and the terms are equal up to brackets and order at their symbols. None where no such symbol
+    -- occurs in the terms, or they aren't equal so.
     pub data IsAcAnswer : Option (List AcFacts) → Type 0 where
       has_facts : {facts : AcFacts} {list : List AcFacts} → AreFactsOf (facts ∷ list) → AcEqual (symbols_of (facts ∷ list)) s t → IsAcAnswer (Some (facts ∷ list))
-      has_none : AreFactsOf [] → IsAcAnswer None
-      not_equal : {list : List AcFacts} → AreFactsOf list → (AcEqual (symbols_of list) s t → ⊥) → IsAcAnswer None
+      has_none : ((facts : AcFacts) (list : List AcFacts) → AreFactsOf (facts ∷ list) → AcEqual (symbols_of (facts ∷ list)) s t → ⊥) → IsAcAnswer None

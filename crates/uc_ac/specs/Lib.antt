@@ -4,6 +4,6 @@ pub mod AcLaw
 pub mod AcFacts
 pub mod SortedForm
 pub mod Joining
-pub mod NodeOrder
-pub mod Writing
+pub mod Ends
+pub mod Classes
 pub mod Found

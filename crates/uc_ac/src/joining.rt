@@ -7,12 +7,11 @@ ghost use Rattle.uc_ac.specs.AcFacts.{symbols_of, named_equations};
 ghost use Rattle.uc_ac.specs.Joining.{AreFactsOf, IsAcAnswer};
 ghost use Rattle.uc_ac.specs.Found.{AddsFacts};
 
-use crate::ac_facts::AcFacts;
 use crate::binary::binary_symbols;
-use crate::comparing::ac_equal;
+use crate::comparing::{ac_equal, sizes_or_heads_differ};
 use crate::least::facts_of;
 use std::alloc::{AllocError, Global};
-use uc_fact::Index;
+use uc_fact::{AcFacts, Index};
 use uc_order::Order;
 use uc_term::{Seq, Sym, Term};
 
@@ -20,6 +19,8 @@ use uc_term::{Seq, Sym, Term};
 /// and commutative where three live facts are, either way round, `f(f(X,Y),Z) = f(X,f(Y,Z))`, `f(X,Y) = f(Y,X)` and
 /// `f(X,f(Y,Z)) = f(Y,f(X,Z))`. There is an answer exactly where such symbols occur in the two terms and these are equal up to
 /// brackets and order at them; it has, by symbol number, the least three facts of each.
+///
+/// Terms that differ in their number of nodes or in their first nodes have no answer, which takes no memory and looks up nothing.
 pub fn ac_join<O: Order, I: Index>(
     alloc: Global,
     s: &Term,
@@ -31,6 +32,9 @@ pub fn ac_join<O: Order, I: Index>(
     // what follows: the terms are joinable by the named facts alone
     ensures joined { IfOk result (λ answer. IfSome answer (λ list. IsJoinable (O.meaning order.now).greater (HasSym (O.meaning order.now)) (O.meaning order.now).arity (named_equations (I.live index.now) list) s.now t.now)) }
 {
+    if sizes_or_heads_differ(s, t) {
+        return Ok(None);
+    }
     let list = facts_of_terms(alloc, s, t, index)?;
     if list.is_empty() {
         return Ok(None);

@@ -6,10 +6,9 @@ ghost use Rattle.uc_ac.specs.AcFacts.{IsFactThat};
 ghost use Rattle.uc_ac.specs.Joining.{IsLeastThat, AreLeastFacts, IsAcSymbol};
 ghost use Rattle.uc_ac.specs.Found.{IsInstanceOf};
 
-use crate::ac_facts::AcFacts;
 use crate::ac_law::{AcLaw, is_law};
 use std::alloc::{AllocError, Global};
-use uc_fact::{Found, Index, Side, Test};
+use uc_fact::{AcFacts, Found, Index, Side, Test};
 use uc_term::{MAX_NODES, Node, Sym};
 
 /// The least facts that make the symbol associative and commutative. None exactly where no facts do.

@@ -14,7 +14,7 @@ use Rattle.uc_tstp.specs.Lines.{Members, stops_in_member, is_last_member, is_mem
 use Rattle.uc_tstp.proofs.Members.{picked_ahead}
 use Rattle.uc_certificate.specs.JoinParse.{Move, Case, Join}
 use Rattle.uc_certificate.specs.JoinLines as rules
-use Rattle.uc_certificate.specs.JoinLines.{TermAt, is_term, has_foreign, at_first, is_axiom, is_overlap, is_same, is_instance, is_orders}
+use Rattle.uc_certificate.specs.JoinLines.{TermAt, is_term, has_foreign, at_first, is_axiom, is_overlap, is_same, is_instance, is_ac, is_orders}
 
 abbrev pub Ends : {V : Type 0} → Rule V → Type 0
 Ends {V} rule = (at end : ℕ) (v : V) → rule at (read v end) → at ≤ end
@@ -107,10 +107,14 @@ module _ (bytes : List ℕ) (tokens : List Token) where
   what_ends at end v (is_axiom e h) = axiom_ends at end v h
   what_ends at end v (is_overlap e h) = overlap_ends at end v h
 
+  pub triple_ends : Ends (rules.triple bytes tokens)
+  triple_ends = then_ends _ _ (token_ends OpenSquare) (λ a. then_ends (rules.integer bytes tokens) _ integer_ends (λ assoc. then_ends _ _ (token_ends Comma) (λ b. then_ends (rules.integer bytes tokens) _ integer_ends (λ comm. then_ends _ _ (token_ends Comma) (λ c. then_ends (rules.integer bytes tokens) _ integer_ends (λ extended. then_ends _ _ (token_ends CloseSquare) (λ d. gives_ends _)))))))
+
   ending_ends : Ends (rules.ending bytes tokens)
   ending_ends at end v (is_same e h) = then_ends _ _ (word_ends (codes "same")) (λ a. gives_ends _) at end v h
   ending_ends at end v (is_instance e f h) = then_ends _ _ (word_ends (codes "instance")) (λ a. then_ends _ _ (token_ends Open) (λ b. then_ends (rules.integer bytes tokens) _ integer_ends (λ number. then_ends _ _ (token_ends Close) (λ c. gives_ends _)))) at end v h
-  ending_ends at end v (is_orders e f h) = then_ends _ _ (word_ends (codes "orders")) (λ a. then_ends _ _ (token_ends Open) (λ b. then_ends _ _ (token_ends OpenSquare) (λ c. then_ends (lines.members bytes tokens (rules.case bytes tokens)) _ (members_end (rules.case bytes tokens) case_ends) (λ cases. then_ends _ _ (token_ends Close) (λ d. gives_ends _))))) at end v h
+  ending_ends at end v (is_ac e f g h) = then_ends _ _ (word_ends (codes "ac")) (λ a. then_ends _ _ (token_ends Open) (λ b. then_ends _ _ (token_ends OpenSquare) (λ c. then_ends (lines.members bytes tokens (rules.triple bytes tokens)) _ (members_end (rules.triple bytes tokens) triple_ends) (λ triples. then_ends _ _ (token_ends Close) (λ d. gives_ends _))))) at end v h
+  ending_ends at end v (is_orders e f g h) = then_ends _ _ (word_ends (codes "orders")) (λ a. then_ends _ _ (token_ends Open) (λ b. then_ends _ _ (token_ends OpenSquare) (λ c. then_ends (lines.members bytes tokens (rules.case bytes tokens)) _ (members_end (rules.case bytes tokens) case_ends) (λ cases. then_ends _ _ (token_ends Close) (λ d. gives_ends _))))) at end v h
 
   behind_first : Ends (lines.token bytes tokens Open >>= λ a. rules.what bytes tokens >>= rules.rest_of_join bytes tokens)
   behind_first = then_ends _ _ (token_ends Open) (λ a. then_ends (rules.what bytes tokens) _ what_ends (λ what. then_ends _ _ (token_ends Comma) (λ b. then_ends (rules.moves bytes tokens) _ moves_end (λ left. then_ends _ _ (token_ends Comma) (λ c. then_ends (rules.moves bytes tokens) _ moves_end (λ right. then_ends _ _ (token_ends Comma) (λ d. then_ends (rules.ending bytes tokens) _ ending_ends (λ ending. then_ends _ _ (token_ends Close) (λ e. then_ends _ _ (token_ends Dot) (λ f. gives_ends _))))))))))

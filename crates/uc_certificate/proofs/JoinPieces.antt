@@ -17,16 +17,17 @@ use Rattle.uc_tstp.specs.Printable.{IsPath}
 use Rattle.uc_tstp.proofs.Bounded.{IsPrintableTerm}
 use Rattle.uc_tstp.proofs.PrintedPieces.{Spells, followed, ended, mark, open_spells, close_spells, open_square_spells, close_square_spells, bare_comma_spells, dot_spells, comma, comma_spells, lower, lower_spells, number, number_spells, term_spells, listed_pieces, listed_spells}
 use Rattle.uc_tstp.proofs.LinePieces.{readable_term, path_pieces}
+use Rattle.uc_certificate.specs.declared.certificate.AcTriple.{AcTriple}
 use Rattle.uc_certificate.specs.declared.certificate.Join.{Join}
 use Rattle.uc_certificate.specs.declared.certificate.What.{What}
 use Rattle.uc_certificate.specs.declared.certificate.What.TheVariants.{Axiom, Overlap}
 use Rattle.uc_certificate.specs.declared.certificate.Move.{Move}
 use Rattle.uc_certificate.specs.declared.certificate.End.{End}
-use Rattle.uc_certificate.specs.declared.certificate.End.TheVariants.{Same, Instance, Orders}
+use Rattle.uc_certificate.specs.declared.certificate.End.TheVariants.{Same, Instance, Orders, Ac}
 use Rattle.uc_certificate.specs.declared.certificate.Case.{Case}
-use Rattle.uc_certificate.specs.Bounds.{IsShort, IsBoundedWhat, IsBoundedMove, AreBoundedMoves, IsBoundedCase, IsBoundedEnd, IsBoundedJoin}
+use Rattle.uc_certificate.specs.Bounds.{IsShort, IsBoundedWhat, IsBoundedMove, AreBoundedMoves, IsBoundedCase, IsBoundedTriple, IsBoundedEnd, IsBoundedJoin}
 use Rattle.uc_certificate.specs.JoinLines.{MOST_VARIABLES}
-use Rattle.uc_certificate.specs.Printing.{list_text, side_text, fact_side_text, what_text, class_text, move_text, moves_text, case_text, ending_text, joins_text}
+use Rattle.uc_certificate.specs.Printing.{list_text, side_text, fact_side_text, what_text, class_text, move_text, moves_text, case_text, triple_text, ending_text, joins_text}
 use Rattle.uc_certificate.specs.Printable.{AreFew, IsPrintableWhat, IsPrintableClass, IsPrintableMove, ArePrintableMoves, IsPrintableCase, IsPrintableEnd, IsPrintableJoin}
 use Rattle.uc_certificate.proofs.PrintedNumbers.{integer_spells, variable, variable_spells}
 
@@ -76,6 +77,16 @@ what_spells (Overlap outer outer_side inner inner_side path) bounded printable =
     let first = followed (followed opening (fact_side_spells outer outer_side bounded.0) (λ ps ends. tt)) comma_spells (λ ps ends. refl) in
     let second = followed (followed first (fact_side_spells inner inner_side bounded.1) (λ ps ends. tt)) comma_spells (λ ps ends. refl) in
     followed (followed second (path_spells path printable) (λ ps ends. tt)) close_spells (λ ps ends. tt)
+
+-- triples of facts
+abbrev pub triple_pieces : AcTriple → List Piece → List Piece
+triple_pieces t ps = mark 91 (number t.assoc (comma (number t.comm (comma (number t.extended (mark 93 ps))))))
+
+triple_spells : (t : AcTriple) → IsBoundedTriple t → Spells true (triple_text t) (triple_pieces t)
+triple_spells t bounded =
+    let first = followed (followed open_square_spells (integer_spells t.assoc bounded.0) (λ ps ends. tt)) comma_spells (λ ps ends. refl) in
+    let second = followed (followed first (integer_spells t.comm bounded.1) (λ ps ends. tt)) comma_spells (λ ps ends. refl) in
+    ended (followed (followed second (integer_spells t.extended bounded.2) (λ ps ends. tt)) close_square_spells (λ ps ends. refl))
 
 way_name : (left_to_right : Bool) → is_name (way_text left_to_right) ≡ true
 way_name true = refl
@@ -160,16 +171,19 @@ module _ (table : Table) where
   IsEndAgain Same = Unit {0}
   IsEndAgain (Instance number) = IsShort number
   IsEndAgain (Orders cases) = (cases ≢ []) × AllByRecursion IsCaseAgain cases
+  IsEndAgain (Ac triples) = (triples ≢ []) × AllByRecursion IsBoundedTriple triples
 
   end_again : (e : End) → IsBoundedEnd e → IsPrintableEnd table e → IsEndAgain e
   end_again Same bounded printable = tt
   end_again (Instance number) bounded printable = bounded
   end_again (Orders cases) bounded printable = (printable.0, cases_again cases bounded printable.1)
+  end_again (Ac triples) bounded printable = (printable, bounded)
 
   abbrev pub ending_pieces : End → List Piece → List Piece
   ending_pieces Same ps = lower (codes "same") ps
   ending_pieces (Instance n) ps = lower (codes "instance") (mark 40 (number n (mark 41 ps)))
   ending_pieces (Orders cases) ps = lower (codes "orders") (mark 40 (list_pieces (case_text table) case_pieces cases (mark 41 ps)))
+  ending_pieces (Ac triples) ps = lower (codes "ac") (mark 40 (list_pieces triple_text triple_pieces triples (mark 41 ps)))
 
   ending_spells : (e : End) → IsEndAgain e → Spells true (ending_text table e) (ending_pieces e)
   ending_spells Same again = lower_spells (codes "same") refl
@@ -177,6 +191,10 @@ module _ (table : Table) where
   ending_spells (Orders cases) again =
       let opening = followed (lower_spells (codes "orders") refl) open_spells (λ ps ends. refl) in
       let all = list_spells (case_text table) case_pieces cases (each IsCaseAgain (λ c. Spells true (case_text table c) (case_pieces c)) case_spells cases again.1) in
+      ended (followed (followed opening all (λ ps ends. tt)) close_spells (λ ps ends. tt))
+  ending_spells (Ac triples) again =
+      let opening = followed (lower_spells (codes "ac") refl) open_spells (λ ps ends. refl) in
+      let all = list_spells triple_text triple_pieces triples (each IsBoundedTriple (λ t. Spells true (triple_text t) (triple_pieces t)) triple_spells triples again.1) in
       ended (followed (followed opening all (λ ps ends. tt)) close_spells (λ ps ends. tt))
 
   -- a join that is read again

@@ -19,23 +19,24 @@ use Rattle.uc_tstp.specs.Printing.{way_text}
 use Rattle.uc_tstp.proofs.PrintedPieces.{mark, comma, lower, further_pieces}
 use Rattle.uc_tstp.proofs.TokensAgain.{At, Reads, skip, mark_here, comma_here, is_comma, LowerHere, lower_here, reads_word, is_word_here, reads_way, way_some, Member, Pairs, Listed, IsRead, members_here, list_here, not_close_at, path_here}
 use Rattle.uc_tstp.proofs.TermsAgain.{IsClosed}
+use Rattle.uc_certificate.specs.declared.certificate.AcTriple.{AcTriple}
 use Rattle.uc_certificate.specs.declared.certificate.Join.{Join}
 use Rattle.uc_certificate.specs.declared.certificate.What.{What}
 use Rattle.uc_certificate.specs.declared.certificate.What.TheVariants.{Axiom, Overlap}
 use Rattle.uc_certificate.specs.declared.certificate.Move.{Move}
 use Rattle.uc_certificate.specs.declared.certificate.End.{End}
-use Rattle.uc_certificate.specs.declared.certificate.End.TheVariants.{Same, Instance, Orders}
+use Rattle.uc_certificate.specs.declared.certificate.End.TheVariants.{Same, Instance, Orders, Ac}
 use Rattle.uc_certificate.specs.declared.certificate.Case.{Case}
-use Rattle.uc_certificate.specs.Bounds.{IsBoundedWhat}
-use Rattle.uc_certificate.specs.JoinLines.{MOST_VARIABLES, side_of, side_by, is_axiom, is_overlap, is_same, is_instance, is_orders, is_no_join, has_join}
+use Rattle.uc_certificate.specs.Bounds.{IsBoundedWhat, IsBoundedTriple}
+use Rattle.uc_certificate.specs.JoinLines.{MOST_VARIABLES, side_of, side_by, is_axiom, is_overlap, is_same, is_instance, is_ac, is_orders, is_no_join, has_join}
 use Rattle.uc_certificate.specs.JoinLines as rules
 use Rattle.uc_certificate.specs.JoinParse as parse
-use Rattle.uc_certificate.specs.JoinParse.{by_same, by_instance, by_orders}
+use Rattle.uc_certificate.specs.JoinParse.{by_same, by_instance, by_orders, by_ac}
 use Rattle.uc_certificate.specs.JoinMeaning.{MeanAll, none_mean, more_mean, MeansMove, MeanMoves, MeansCase, MeansEnd, MeansJoin, MeanJoins}
-use Rattle.uc_certificate.specs.Printing.{side_text, class_text, move_text, case_text}
+use Rattle.uc_certificate.specs.Printing.{side_text, class_text, move_text, case_text, triple_text}
 use Rattle.uc_certificate.specs.Printable.{AreFew, IsPrintableWhat, IsPrintableClass}
 use Rattle.uc_certificate.proofs.PrintedNumbers.{integer_here, variable, variable_here}
-use Rattle.uc_certificate.proofs.JoinPieces.{each, what_pieces, move_pieces, moves_pieces, class_pieces, classes_pieces, case_pieces, ending_pieces, front_pieces, end_pieces, joins_pieces, IsMoveAgain, IsCaseAgain, IsEndAgain, IsJoinAgain}
+use Rattle.uc_certificate.proofs.JoinPieces.{each, what_pieces, move_pieces, moves_pieces, class_pieces, classes_pieces, case_pieces, triple_pieces, ending_pieces, front_pieces, end_pieces, joins_pieces, IsMoveAgain, IsCaseAgain, IsEndAgain, IsJoinAgain}
 use Rattle.uc_certificate.proofs.JoinTermsAgain.{join_term_here}
 
 module _ (text : List ℕ) (tokens : List Token) where
@@ -158,6 +159,25 @@ module _ (table : Table) (text : List ℕ) (tokens : List Token) where
         not_close = not_close_at text tokens (codes "case") w;
       }
 
+  -- triples of facts
+  triple_here : (t : AcTriple) → IsBoundedTriple t → (at : ℕ) (ps : List Piece) → At text tokens at (triple_pieces t ps) → Member text tokens (rules.triple text tokens) (λ x v. v ≡ x) t at ps
+  triple_here t bounded at ps here =
+      let o = mark_here text tokens 91 terminal.OpenSquare refl here in
+      let i = integer_here text tokens t.assoc bounded.0 o.behind in
+      let c = comma_here text tokens i.behind in
+      let j = integer_here text tokens t.comm bounded.1 c.behind in
+      let d = comma_here text tokens j.behind in
+      let k = integer_here text tokens t.extended bounded.2 d.behind in
+      let close = mark_here text tokens 93 terminal.CloseSquare refl k.behind in
+      record {
+        v = t;
+        end = at + 1 + 1 + 1 + 1 + 1 + 1 + 1;
+        reads = goes_on o.reads (goes_on i.reads (goes_on c.reads (goes_on j.reads (goes_on d.reads (goes_on k.reads (goes_on close.reads refl))))));
+        on = refl;
+        behind = close.behind;
+        not_close = square_is_no_close (terminal_at text tokens at) o.terminal;
+      }
+
   -- ends
   record EndHere (e : End) (at : ℕ) (ps : List Piece) : Type 0 where
     v : parse.Ending
@@ -183,8 +203,30 @@ module _ (table : Table) (text : List ℕ) (tokens : List Token) where
       record {
         v = by_orders l.vs;
         end = l.end + 1;
-        reads = is_orders (other_word (codes "same") (codes "orders") refl w) (other_word (codes "instance") (codes "orders") refl w) (goes_on (reads_word text tokens (codes "orders") w) (goes_on o.reads (goes_on s.reads (goes_on l.reads (goes_on close.reads refl)))));
+        reads = is_orders (other_word (codes "same") (codes "orders") refl w) (other_word (codes "instance") (codes "orders") refl w) (other_word (codes "ac") (codes "orders") refl w) (goes_on (reads_word text tokens (codes "orders") w) (goes_on o.reads (goes_on s.reads (goes_on l.reads (goes_on close.reads refl)))));
         means = mean_all text tokens (MeansCase text tokens table) (c ∷ cs) l.vs l.on;
+        behind = close.behind;
+      }
+
+  triples_here : (t : AcTriple) (ts : List AcTriple) → AllByRecursion IsBoundedTriple (t ∷ ts) → (at : ℕ) (ps : List Piece) → At text tokens at (triple_pieces t (further_pieces (codes ", ") triple_text comma triple_pieces ts (mark 93 ps))) → Listed text tokens (lines.members text tokens (rules.triple text tokens)) (λ x v. v ≡ x) (t ∷ ts) at ps
+  triples_here t ts bounded at ps here =
+      let On : AcTriple → AcTriple → Type 0 = λ x v. v ≡ x in
+      let all = each IsBoundedTriple (IsRead text tokens (rules.triple text tokens) On (codes ", ") triple_text comma triple_pieces (is_comma text tokens)) triple_here (t ∷ ts) bounded in
+      members_here text tokens (rules.triple text tokens) On (codes ", ") triple_text comma triple_pieces (is_comma text tokens) t ts at ps all.0 all.1 here
+
+  ac_here : (triples : List AcTriple) → triples ≢ [] → AllByRecursion IsBoundedTriple triples → (at : ℕ) (ps : List Piece) → At text tokens at (ending_pieces table (Ac triples) ps) → EndHere (Ac triples) at ps
+  ac_here [] some bounded at ps here = absurd (some refl)
+  ac_here (t ∷ ts) some bounded at ps here =
+      let w = lower_here text tokens (codes "ac") (omega arith) here in
+      let o = mark_here text tokens 40 terminal.Open refl w.behind in
+      let s = mark_here text tokens 91 terminal.OpenSquare refl o.behind in
+      let l = triples_here t ts bounded (at + 1 + 1 + 1) (mark 41 ps) s.behind in
+      let close = mark_here text tokens 41 terminal.Close refl l.behind in
+      record {
+        v = by_ac l.vs;
+        end = l.end + 1;
+        reads = is_ac (other_word (codes "same") (codes "ac") refl w) (other_word (codes "instance") (codes "ac") refl w) (is_word_here text tokens (codes "ac") w) (goes_on (reads_word text tokens (codes "ac") w) (goes_on o.reads (goes_on s.reads (goes_on l.reads (goes_on close.reads refl)))));
+        means = sym (same_members text tokens (t ∷ ts) l.vs l.on);
         behind = close.behind;
       }
 
@@ -199,6 +241,7 @@ module _ (table : Table) (text : List ℕ) (tokens : List Token) where
       let close = mark_here text tokens 41 terminal.Close refl i.behind in
       record { v = by_instance n; end = at + 1 + 1 + 1 + 1; reads = is_instance (other_word (codes "same") (codes "instance") refl w) (is_word_here text tokens (codes "instance") w) (goes_on (reads_word text tokens (codes "instance") w) (goes_on o.reads (goes_on i.reads (goes_on close.reads refl)))); means = refl; behind = close.behind }
   ending_here {at} {ps} (Orders cases) again here = orders_here cases again.0 again.1 at ps here
+  ending_here {at} {ps} (Ac triples) again here = ac_here triples again.0 again.1 at ps here
 
   -- what is joined
   what_here : {at : ℕ} {ps : List Piece} (w : What) → IsBoundedWhat w → IsPrintableWhat w → At text tokens at (what_pieces w ps) → (end : ℕ) × Reads text tokens (rules.what text tokens) at w end ps

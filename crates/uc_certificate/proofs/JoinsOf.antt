@@ -12,12 +12,12 @@ use Rattle.uc_order.specs.Laws.{Meaning, HasSym}
 use Rattle.uc_certificate.specs.declared.certificate.Move.{Move}
 use Rattle.uc_certificate.specs.declared.certificate.Case.{Case}
 use Rattle.uc_certificate.specs.declared.certificate.End.{End}
-use Rattle.uc_certificate.specs.declared.certificate.End.TheVariants.{Same, Instance, Orders}
+use Rattle.uc_certificate.specs.declared.certificate.End.TheVariants.{Same, Instance, Orders, Ac}
 use Rattle.uc_certificate.specs.declared.certificate.Join.{Join}
 use Rattle.uc_certificate.specs.Arities.{KeepsArities, AllKeepArities, MovesKeepArities, CaseKeepsArities, EndKeepsArities, JoinKeepsArities, JoinsKeepArities}
 use Rattle.uc_certificate.specs.Having.{MovesHave, CaseHas, EndHas, JoinHas, JoinsHave}
 use Rattle.uc_certificate.specs.JoinParse as parse
-use Rattle.uc_certificate.specs.JoinParse.{Ending, by_same, by_instance, by_orders}
+use Rattle.uc_certificate.specs.JoinParse.{Ending, by_same, by_instance, by_orders, by_ac}
 use Rattle.uc_certificate.specs.JoinMeaning.{MeanAll, none_mean, more_mean, MeansTerm, MeanTerms, variable_is, functor_is, no_terms, more_terms, MeansMove, MeansCase, MeansEnd, MeansJoin, MeanJoins}
 
 each_meant : {P V : Type 0} {Means : P → V → Type 0} (So : V → Type 0) → ((p : P) (v : V) → Means p v → So v) → {ps : List P} {vs : List V} → MeanAll Means ps vs → Each So vs
@@ -51,7 +51,9 @@ module _ (bytes : List ℕ) (tokens : List Token) (table : Table) where
   end_of : (p : Ending) (e : End) → MeansEnd bytes tokens table p e → EndHas (IsOf table) e
   end_of p Same h = tt
   end_of p (Instance n) h = tt
+  end_of p (Ac triples) h = tt
   end_of (by_orders cases) (Orders list) h = each_meant (CaseHas (IsOf table)) case_of h
+  end_of (by_ac triples) (Orders list) h = elim h [ ]
   end_of by_same (Orders list) h = elim h [ ]
   end_of (by_instance n) (Orders list) h = elim h [ ]
 
@@ -87,6 +89,7 @@ module _ (m : Meaning) (table : Table) (same : (f : Sym) → HasSym m f → m.ar
   end_keeps : (e : End) → EndHas (IsOf table) e → EndKeepsArities m e
   end_keeps Same h = tt
   end_keeps (Instance n) h = tt
+  end_keeps (Ac triples) h = tt
   end_keeps (Orders cases) h = each_on (CaseHas (IsOf table)) (CaseKeepsArities m) case_keeps cases h
 
   join_keeps : (j : Join) → JoinHas (IsOf table) j → JoinKeepsArities m j

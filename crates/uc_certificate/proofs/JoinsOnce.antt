@@ -15,7 +15,7 @@ use Rattle.uc_tstp.proofs.Outcomes.{yes_or_no, some_or_none, some_once, same_val
 use Rattle.uc_certificate.specs.declared.certificate.What.{What}
 use Rattle.uc_certificate.specs.JoinParse.{Move, Case, Ending, Join}
 use Rattle.uc_certificate.specs.JoinLines as rules
-use Rattle.uc_certificate.specs.JoinLines.{first_foreign, end_of, at_first, TermAt, is_term, has_foreign, WhatAt, is_axiom, is_overlap, EndingAt, is_same, is_instance, is_orders, JoinsAt, is_no_join, has_join, stops_in_join}
+use Rattle.uc_certificate.specs.JoinLines.{first_foreign, end_of, at_first, TermAt, is_term, has_foreign, WhatAt, is_axiom, is_overlap, EndingAt, is_same, is_instance, is_ac, is_orders, JoinsAt, is_no_join, has_join, stops_in_join}
 
 module _ (bytes : List ℕ) (tokens : List Token) where
   token_once : (terminal : Terminal) → Once (lines.token bytes tokens terminal)
@@ -143,16 +143,29 @@ module _ (bytes : List ℕ) (tokens : List Token) where
   orders_once : Once (rules.orders bytes tokens)
   orders_once = both_once (lines.word bytes tokens (codes "orders")) _ (word_once (codes "orders")) (λ a. both_once _ _ (token_once Open) (λ b. both_once _ _ (token_once OpenSquare) (λ c. both_once (lines.members bytes tokens (rules.case bytes tokens)) _ (members_once (rules.case bytes tokens) case_once) (λ cases. both_once _ _ (token_once Close) (λ d. gives_once _)))))
 
+  triple_once : Once (rules.triple bytes tokens)
+  triple_once = both_once _ _ (token_once OpenSquare) (λ a. both_once (rules.integer bytes tokens) _ integer_once (λ assoc. both_once _ _ (token_once Comma) (λ b. both_once (rules.integer bytes tokens) _ integer_once (λ comm. both_once _ _ (token_once Comma) (λ c. both_once (rules.integer bytes tokens) _ integer_once (λ extended. both_once _ _ (token_once CloseSquare) (λ d. gives_once _)))))))
+
+  ac_once : Once (rules.ac bytes tokens)
+  ac_once = both_once (lines.word bytes tokens (codes "ac")) _ (word_once (codes "ac")) (λ a. both_once _ _ (token_once Open) (λ b. both_once _ _ (token_once OpenSquare) (λ c. both_once (lines.members bytes tokens (rules.triple bytes tokens)) _ (members_once (rules.triple bytes tokens) triple_once) (λ triples. both_once _ _ (token_once Close) (λ d. gives_once _)))))
+
   ending_once_at : {at : ℕ} {o p : Outcome Ending} → EndingAt bytes tokens at o → EndingAt bytes tokens at p → o ≡ p
   ending_once_at {at} {o} {p} (is_same e x) (is_same f y) = same_once at o p x y
   ending_once_at (is_same e x) (is_instance f h y) = absurd (yes_or_no e f)
-  ending_once_at (is_same e x) (is_orders f h y) = absurd (yes_or_no e f)
+  ending_once_at (is_same e x) (is_ac f h k y) = absurd (yes_or_no e f)
+  ending_once_at (is_same e x) (is_orders f h k y) = absurd (yes_or_no e f)
   ending_once_at (is_instance e h x) (is_same f y) = absurd (yes_or_no f e)
   ending_once_at {at} {o} {p} (is_instance e h x) (is_instance f k y) = instance_once at o p x y
-  ending_once_at (is_instance e h x) (is_orders f k y) = absurd (yes_or_no h k)
-  ending_once_at (is_orders e h x) (is_same f y) = absurd (yes_or_no f e)
-  ending_once_at (is_orders e h x) (is_instance f k y) = absurd (yes_or_no k h)
-  ending_once_at {at} {o} {p} (is_orders e h x) (is_orders f k y) = orders_once at o p x y
+  ending_once_at (is_instance e h x) (is_ac f k l y) = absurd (yes_or_no h k)
+  ending_once_at (is_instance e h x) (is_orders f k l y) = absurd (yes_or_no h k)
+  ending_once_at (is_ac e h i x) (is_same f y) = absurd (yes_or_no f e)
+  ending_once_at (is_ac e h i x) (is_instance f k y) = absurd (yes_or_no k h)
+  ending_once_at {at} {o} {p} (is_ac e h i x) (is_ac f k l y) = ac_once at o p x y
+  ending_once_at (is_ac e h i x) (is_orders f k l y) = absurd (yes_or_no i l)
+  ending_once_at (is_orders e h i x) (is_same f y) = absurd (yes_or_no f e)
+  ending_once_at (is_orders e h i x) (is_instance f k y) = absurd (yes_or_no k h)
+  ending_once_at (is_orders e h i x) (is_ac f k l y) = absurd (yes_or_no l i)
+  ending_once_at {at} {o} {p} (is_orders e h i x) (is_orders f k l y) = orders_once at o p x y
 
   ending_once : Once (rules.ending bytes tokens)
   ending_once at o p x y = ending_once_at x y

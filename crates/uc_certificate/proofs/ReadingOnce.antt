@@ -29,13 +29,13 @@ use Rattle.uc_certificate.specs.declared.certificate.Certificate.{Certificate}
 use Rattle.uc_certificate.specs.declared.certificate.Move.{Move}
 use Rattle.uc_certificate.specs.declared.certificate.Case.{Case}
 use Rattle.uc_certificate.specs.declared.certificate.End.{End}
-use Rattle.uc_certificate.specs.declared.certificate.End.TheVariants.{Same, Instance, Orders}
+use Rattle.uc_certificate.specs.declared.certificate.End.TheVariants.{Same, Instance, Orders, Ac}
 use Rattle.uc_certificate.specs.declared.certificate.Join.{Join}
 use Rattle.uc_certificate.specs.declared.fault.CertFault.{CertFault}
 use Rattle.uc_certificate.specs.declared.fault.CertFault.TheVariants.{Syntax, UnknownName}
 use Rattle.uc_certificate.specs.declared.border.Border.TheVariants as border
 use Rattle.uc_certificate.specs.JoinParse as parse
-use Rattle.uc_certificate.specs.JoinParse.{Ending, by_same, by_instance, by_orders}
+use Rattle.uc_certificate.specs.JoinParse.{Ending, by_same, by_instance, by_orders, by_ac}
 use Rattle.uc_certificate.specs.JoinLines.{JoinsAt}
 use Rattle.uc_certificate.specs.JoinMeaning.{MeanAll, none_mean, more_mean, MeansTerm, MeanTerms, variable_is, functor_is, no_terms, more_terms, MeansMove, MeansCase, MeansEnd, MeansJoin, MeanJoins}
 use Rattle.uc_certificate.specs.Parts.{Outcome, gets, fails, Rule, Then, goes_on, fails_first, gives}
@@ -97,6 +97,7 @@ module _ (bytes : List ℕ) (tokens : List Token) (table : Table) (distinct : Is
   end_once by_same Same Same x y = refl
   end_once (by_instance n) (Instance m) (Instance k) x y = ap Instance (x ∙ sym y)
   end_once (by_orders cases) (Orders xs) (Orders ys) x y = ap Orders (mean_all_once case_once x y)
+  end_once (by_ac triples) (Ac xs) (Ac ys) x y = ap Ac (x ∙ sym y)
   end_once p a b x y = absurd search
 
   join_once : (p : parse.Join) (a b : Join) → MeansJoin bytes tokens table p a → MeansJoin bytes tokens table p b → a ≡ b

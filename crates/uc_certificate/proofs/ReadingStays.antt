@@ -14,11 +14,11 @@ use Rattle.uc_certificate.specs.declared.certificate.Certificate.{Certificate}
 use Rattle.uc_certificate.specs.declared.certificate.Move.{Move}
 use Rattle.uc_certificate.specs.declared.certificate.Case.{Case}
 use Rattle.uc_certificate.specs.declared.certificate.End.{End}
-use Rattle.uc_certificate.specs.declared.certificate.End.TheVariants.{Same, Instance, Orders}
+use Rattle.uc_certificate.specs.declared.certificate.End.TheVariants.{Same, Instance, Orders, Ac}
 use Rattle.uc_certificate.specs.declared.certificate.Join.{Join}
 use Rattle.uc_certificate.specs.declared.fault.CertFault.{CertFault}
 use Rattle.uc_certificate.specs.JoinParse as parse
-use Rattle.uc_certificate.specs.JoinParse.{Ending, by_same, by_instance, by_orders}
+use Rattle.uc_certificate.specs.JoinParse.{Ending, by_same, by_instance, by_orders, by_ac}
 use Rattle.uc_certificate.specs.JoinMeaning.{MeanAll, none_mean, more_mean, MeansTerm, MeanTerms, variable_is, functor_is, no_terms, more_terms, MeansMove, MeansCase, MeansEnd, MeansJoin}
 use Rattle.uc_certificate.specs.Parts.{Outcome, goes_on, fails_first}
 use Rattle.uc_certificate.specs.Reading.{SystemAt, has_system, has_no_system, DerivationAt, derives, derives_not, JoinsIn, no_token, no_joins, has_joins, rest_of_certificate, certificate_lines, ReadsCertificate, reads, reads_not}
@@ -48,6 +48,7 @@ module _ (old new : Table) (grows : Grows old new) where
     end_stays by_same Same h = h
     end_stays (by_instance n) (Instance m) h = h
     end_stays (by_orders cases) (Orders list) h = mean_all_on case_stays h
+    end_stays (by_ac triples) (Ac list) h = h
     end_stays p e h = elim h [ ]
 
     join_stays : (p : parse.Join) (j : Join) → MeansJoin bytes tokens old p j → MeansJoin bytes tokens new p j

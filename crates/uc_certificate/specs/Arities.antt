@@ -5,7 +5,7 @@ use Rattle.uc_order.specs.Members.{Each}
 use Rattle.uc_order.specs.Laws.{Meaning, HasSym}
 use Rattle.uc_certificate.specs.declared.certificate.Case.{Case}
 use Rattle.uc_certificate.specs.declared.certificate.End.{End}
-use Rattle.uc_certificate.specs.declared.certificate.End.TheVariants.{Same, Instance, Orders}
+use Rattle.uc_certificate.specs.declared.certificate.End.TheVariants.{Same, Instance, Orders, Ac}
 use Rattle.uc_certificate.specs.declared.certificate.Join.{Join}
 use Rattle.uc_certificate.specs.declared.certificate.Move.{Move}
 
@@ -30,6 +30,7 @@ module _ (m : Meaning) where
   EndKeepsArities Same = Unit {0}
   EndKeepsArities (Instance number) = Unit {0}
   EndKeepsArities (Orders cases) = Each CaseKeepsArities cases
+  EndKeepsArities (Ac triples) = Unit {0}
 
   abbrev pub JoinKeepsArities : Join → Type 0
   JoinKeepsArities join = MovesKeepArities join.left × MovesKeepArities join.right × EndKeepsArities join.end

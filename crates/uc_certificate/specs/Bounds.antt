@@ -2,13 +2,14 @@
 use Rattle.std.specs.Prelude.{◌+◌, ◌<◌, ◌^◌, ℕ, List, length}
 use Rattle.std.specs.List.{AllByRecursion}
 use Rattle.uc_tstp.specs.Bounds.{IsBounded, AreBounded}
+use Rattle.uc_certificate.specs.declared.certificate.AcTriple.{AcTriple}
 use Rattle.uc_certificate.specs.declared.certificate.Certificate.{Certificate}
 use Rattle.uc_certificate.specs.declared.certificate.Join.{Join}
 use Rattle.uc_certificate.specs.declared.certificate.What.{What}
 use Rattle.uc_certificate.specs.declared.certificate.What.TheVariants.{Axiom, Overlap}
 use Rattle.uc_certificate.specs.declared.certificate.Move.{Move}
 use Rattle.uc_certificate.specs.declared.certificate.End.{End}
-use Rattle.uc_certificate.specs.declared.certificate.End.TheVariants.{Same, Instance, Orders}
+use Rattle.uc_certificate.specs.declared.certificate.End.TheVariants.{Same, Instance, Orders, Ac}
 use Rattle.uc_certificate.specs.declared.certificate.Case.{Case}
 
 -- a number has 32 bits
@@ -28,10 +29,14 @@ AreBoundedMoves moves = AllByRecursion IsBoundedMove moves
 abbrev pub IsBoundedCase : Case → Type 0
 IsBoundedCase c = AreBoundedMoves c.left × AreBoundedMoves c.right
 
+abbrev pub IsBoundedTriple : AcTriple → Type 0
+IsBoundedTriple t = IsShort t.assoc × IsShort t.comm × IsShort t.extended
+
 abbrev pub IsBoundedEnd : End → Type 0
 IsBoundedEnd Same = Unit {0}
 IsBoundedEnd (Instance number) = IsShort number
 IsBoundedEnd (Orders cases) = AllByRecursion IsBoundedCase cases
+IsBoundedEnd (Ac triples) = AllByRecursion IsBoundedTriple triples
 
 pub record IsBoundedJoin (j : Join) : Type 0 where
   pub what : IsBoundedWhat j.what

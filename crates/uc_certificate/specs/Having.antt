@@ -4,7 +4,7 @@ use Rattle.uc_term.specs.Tree.{Tree}
 use Rattle.uc_order.specs.Members.{Each}
 use Rattle.uc_certificate.specs.declared.certificate.Case.{Case}
 use Rattle.uc_certificate.specs.declared.certificate.End.{End}
-use Rattle.uc_certificate.specs.declared.certificate.End.TheVariants.{Same, Instance, Orders}
+use Rattle.uc_certificate.specs.declared.certificate.End.TheVariants.{Same, Instance, Orders, Ac}
 use Rattle.uc_certificate.specs.declared.certificate.Join.{Join}
 use Rattle.uc_certificate.specs.declared.certificate.Move.{Move}
 
@@ -19,6 +19,7 @@ module _ (IsSo : Tree → Type 0) where
   EndHas Same = Unit {0}
   EndHas (Instance number) = Unit {0}
   EndHas (Orders cases) = Each CaseHas cases
+  EndHas (Ac triples) = Unit {0}
 
   abbrev pub JoinHas : Join → Type 0
   JoinHas join = MovesHave join.left × MovesHave join.right × EndHas join.end

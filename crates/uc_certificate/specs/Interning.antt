@@ -14,7 +14,7 @@ use Rattle.uc_certificate.specs.Headings.{is_border, is_derivation, line_from, b
 use Rattle.uc_certificate.specs.JoinLines.{joins}
 use Rattle.uc_certificate.specs.Parts.{gets}
 use Rattle.uc_certificate.specs.Reading.{frame_of}
-use Rattle.uc_certificate.specs.JoinParse.{Move, Case, Ending, by_same, by_instance, by_orders, Join}
+use Rattle.uc_certificate.specs.JoinParse.{Move, Case, Ending, by_same, by_instance, by_orders, by_ac, Join}
 
 -- with the members of a list, one by one
 abbrev pub with_each : {P : Type 0} → (Table → P → Table) → Table → List P → Table
@@ -38,6 +38,7 @@ module _ (bytes : List ℕ) (tokens : List Token) where
   with_ending table by_same = table
   with_ending table (by_instance number) = table
   with_ending table (by_orders cases) = with_cases table cases
+  with_ending table (by_ac triples) = table
 
   abbrev pub with_join : Table → Join → Table
   with_join table join = with_ending (with_moves (with_moves table join.left) join.right) join.ending

@@ -5,10 +5,11 @@
 --   side    = l | r
 --   moves   = [ ] | [ move { , move } ]
 --   move    = step ( Integer , lr , path , term ) | step ( Integer , rl , path , term )
---   end     = same | instance ( Integer ) | orders ( [ case { , case } ] )
+--   end     = same | instance ( Integer ) | orders ( [ case { , case } ] ) | ac ( [ triple { , triple } ] )
 --   case    = case ( classes , moves , moves )
 --   classes = [ ] | [ class { , class } ]
 --   class   = [ Upper { , Upper } ]
+--   triple  = [ Integer , Integer , Integer ]
 --   path    = [ ] | [ Integer { , Integer } ]
 --
 -- Integers have no sign and are below 2^32, and those of a path 1 to 255. An Upper is `X` and a number from 1 to 8,192 without a
@@ -28,9 +29,10 @@ use Rattle.uc_clause.specs.Items as items
 use Rattle.uc_tstp.specs.Lines as lines
 use Rattle.uc_term.specs.declared.equation.Side.{Side}
 use Rattle.uc_term.specs.declared.equation.Side.TheVariants.{Left, Right}
+use Rattle.uc_certificate.specs.declared.certificate.AcTriple.{AcTriple}
 use Rattle.uc_certificate.specs.declared.certificate.What.{What}
 use Rattle.uc_certificate.specs.declared.certificate.What.TheVariants.{Axiom, Overlap}
-use Rattle.uc_certificate.specs.JoinParse.{Move, MoveHead, Case, Ending, by_same, by_instance, by_orders, Join}
+use Rattle.uc_certificate.specs.JoinParse.{Move, MoveHead, Case, Ending, by_same, by_instance, by_orders, by_ac, Join}
 
 -- the most variables of a term
 abbrev pub MOST_VARIABLES : ℕ
@@ -215,11 +217,32 @@ module _ (bytes : List ℕ) (tokens : List Token) where
     _ ← lines.token bytes tokens Close
     gives (by_orders cases)
 
+  abbrev pub triple : Rule AcTriple
+  triple = do
+    _ ← lines.token bytes tokens OpenSquare
+    assoc ← integer
+    _ ← lines.token bytes tokens Comma
+    comm ← integer
+    _ ← lines.token bytes tokens Comma
+    extended ← integer
+    _ ← lines.token bytes tokens CloseSquare
+    gives (record { assoc = assoc; comm = comm; extended = extended })
+
+  abbrev pub ac : Rule Ending
+  ac = do
+    _ ← lines.word bytes tokens (codes "ac")
+    _ ← lines.token bytes tokens Open
+    _ ← lines.token bytes tokens OpenSquare
+    triples ← lines.members bytes tokens triple
+    _ ← lines.token bytes tokens Close
+    gives (by_ac triples)
+
   -- how the ends are joined, by the first word
   pub data EndingAt (at : ℕ) (outcome : Outcome Ending) : Type 0 where
     is_same : lines.word_at bytes tokens (codes "same") at ≡ true → same at outcome → EndingAt at outcome
     is_instance : lines.word_at bytes tokens (codes "same") at ≡ false → lines.word_at bytes tokens (codes "instance") at ≡ true → instance at outcome → EndingAt at outcome
-    is_orders : lines.word_at bytes tokens (codes "same") at ≡ false → lines.word_at bytes tokens (codes "instance") at ≡ false → orders at outcome → EndingAt at outcome
+    is_ac : lines.word_at bytes tokens (codes "same") at ≡ false → lines.word_at bytes tokens (codes "instance") at ≡ false → lines.word_at bytes tokens (codes "ac") at ≡ true → ac at outcome → EndingAt at outcome
+    is_orders : lines.word_at bytes tokens (codes "same") at ≡ false → lines.word_at bytes tokens (codes "instance") at ≡ false → lines.word_at bytes tokens (codes "ac") at ≡ false → orders at outcome → EndingAt at outcome
 
   abbrev pub ending : Rule Ending
   ending at outcome = EndingAt at outcome

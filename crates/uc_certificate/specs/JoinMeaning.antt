@@ -9,11 +9,11 @@ use Rattle.uc_clause.specs.Parse.{Parse, variable, applied, Parses, no_more, als
 use Rattle.uc_certificate.specs.declared.certificate.Move.{Move}
 use Rattle.uc_certificate.specs.declared.certificate.Case.{Case}
 use Rattle.uc_certificate.specs.declared.certificate.End.{End}
-use Rattle.uc_certificate.specs.declared.certificate.End.TheVariants.{Same, Instance, Orders}
+use Rattle.uc_certificate.specs.declared.certificate.End.TheVariants.{Same, Instance, Orders, Ac}
 use Rattle.uc_certificate.specs.declared.certificate.Join.{Join}
 use Rattle.uc_certificate.specs.JoinLines.{named_by}
 use Rattle.uc_certificate.specs.JoinParse as parse
-use Rattle.uc_certificate.specs.JoinParse.{Ending, by_same, by_instance, by_orders}
+use Rattle.uc_certificate.specs.JoinParse.{Ending, by_same, by_instance, by_orders, by_ac}
 
 -- members of two lists are so, one by one
 pub data MeanAll {P V : Type 0} (Means : P → V → Type 0) : List P → List V → Type 0 where
@@ -52,6 +52,7 @@ module _ (bytes : List ℕ) (tokens : List Token) (table : Table) where
   MeansEnd by_same Same = Unit {0}
   MeansEnd (by_instance n) (Instance m) = m ≡ n
   MeansEnd (by_orders parsed) (Orders cases) = MeanCases parsed cases
+  MeansEnd (by_ac parsed) (Ac triples) = triples ≡ parsed
   MeansEnd parsed end = ⊥
 
   pub record MeansJoin (parsed : parse.Join) (join : Join) : Type 0 where

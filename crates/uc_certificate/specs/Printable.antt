@@ -14,7 +14,7 @@ use Rattle.uc_certificate.specs.declared.certificate.What.{What}
 use Rattle.uc_certificate.specs.declared.certificate.What.TheVariants.{Axiom, Overlap}
 use Rattle.uc_certificate.specs.declared.certificate.Move.{Move}
 use Rattle.uc_certificate.specs.declared.certificate.End.{End}
-use Rattle.uc_certificate.specs.declared.certificate.End.TheVariants.{Same, Instance, Orders}
+use Rattle.uc_certificate.specs.declared.certificate.End.TheVariants.{Same, Instance, Orders, Ac}
 use Rattle.uc_certificate.specs.declared.certificate.Case.{Case}
 use Rattle.uc_certificate.specs.JoinLines.{MOST_VARIABLES}
 
@@ -45,11 +45,12 @@ module _ (table : Table) where
     pub left : ArePrintableMoves c.left
     pub right : ArePrintableMoves c.right
 
-  -- there is a case
+  -- there is a case, or a triple
   abbrev pub IsPrintableEnd : End → Type 0
   IsPrintableEnd Same = Unit {0}
   IsPrintableEnd (Instance number) = Unit {0}
   IsPrintableEnd (Orders cases) = (cases ≢ []) × AllByRecursion IsPrintableCase cases
+  IsPrintableEnd (Ac triples) = triples ≢ []
 
   pub record IsPrintableJoin (j : Join) : Type 0 where
     pub what : IsPrintableWhat j.what

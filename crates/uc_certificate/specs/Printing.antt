@@ -10,13 +10,14 @@ use Rattle.uc_tstp.specs.Printing.{listed, path_text, way_text, names_in, line_n
 use Rattle.uc_system.specs.Printing.{ended, system_text, IsSpecOf, IsEquationOf}
 use Rattle.uc_check.specs.declared.proof.Line.{Line}
 use Rattle.uc_system.specs.declared.system.SystemText.{SystemText}
+use Rattle.uc_certificate.specs.declared.certificate.AcTriple.{AcTriple}
 use Rattle.uc_certificate.specs.declared.certificate.Certificate.{Certificate}
 use Rattle.uc_certificate.specs.declared.certificate.Join.{Join}
 use Rattle.uc_certificate.specs.declared.certificate.What.{What}
 use Rattle.uc_certificate.specs.declared.certificate.What.TheVariants.{Axiom, Overlap}
 use Rattle.uc_certificate.specs.declared.certificate.Move.{Move}
 use Rattle.uc_certificate.specs.declared.certificate.End.{End}
-use Rattle.uc_certificate.specs.declared.certificate.End.TheVariants.{Same, Instance, Orders}
+use Rattle.uc_certificate.specs.declared.certificate.End.TheVariants.{Same, Instance, Orders, Ac}
 use Rattle.uc_certificate.specs.declared.certificate.Case.{Case}
 use Rattle.uc_certificate.specs.Headings.{certificate_line, derivation_line, facts_line, joins_line, end_line}
 
@@ -42,6 +43,9 @@ what_text (Overlap outer outer_side inner inner_side path) = overlap_text outer 
 abbrev pub class_text : List ℕ → List ℕ
 class_text class = list_text variable_text class
 
+abbrev pub triple_text : AcTriple → List ℕ
+triple_text t = codes "[" ++ decimal t.assoc ++ codes ", " ++ decimal t.comm ++ codes ", " ++ decimal t.extended ++ codes "]"
+
 module _ (table : Table) where
   -- what a move does with its fact: which way, where, and the term behind it
   abbrev pub replacement_text : Move → List ℕ
@@ -60,6 +64,7 @@ module _ (table : Table) where
   ending_text Same = codes "same"
   ending_text (Instance number) = codes "instance(" ++ decimal number ++ codes ")"
   ending_text (Orders cases) = codes "orders(" ++ list_text case_text cases ++ codes ")"
+  ending_text (Ac triples) = codes "ac(" ++ list_text triple_text triples ++ codes ")"
 
   abbrev pub join_text : Join → List ℕ
   join_text j = codes "join(" ++ what_text j.what ++ codes ", " ++ moves_text j.left ++ codes ", " ++ moves_text j.right ++ codes ", " ++ ending_text j.end ++ codes ").\n"
@@ -97,6 +102,7 @@ module _ (table : Table) where
   IsEndOf Same = Unit {0}
   IsEndOf (Instance number) = Unit {0}
   IsEndOf (Orders cases) = AllByRecursion IsCaseOf cases
+  IsEndOf (Ac triples) = Unit {0}
 
   pub record IsJoinOf (j : Join) : Type 0 where
     pub left : AreMovesOf j.left

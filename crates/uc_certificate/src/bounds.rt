@@ -5,9 +5,9 @@ ghost use Rattle.std.specs.Prelude.{ℕ, ◌+◌, ◌<◌, ◌^◌, length};
 ghost use Rattle.std.specs.List.{AllByRecursion};
 ghost use Rattle.uc_clause.specs.Printable.{IsNumberedNode};
 ghost use Rattle.uc_tstp.specs.Bounds.{IsBounded, AreBoundedSteps, IsBoundedSource, IsBoundedLine, AreBounded};
-ghost use Rattle.uc_certificate.specs.Bounds.{IsShort, IsBoundedWhat, IsBoundedMove, AreBoundedMoves, IsBoundedCase, IsBoundedEnd, IsBoundedJoin, IsBoundedCertificate};
+ghost use Rattle.uc_certificate.specs.Bounds.{IsShort, IsBoundedWhat, IsBoundedMove, AreBoundedMoves, IsBoundedCase, IsBoundedTriple, IsBoundedEnd, IsBoundedJoin, IsBoundedCertificate};
 
-use crate::{Case, Certificate, End, Join, Move, What};
+use crate::{AcTriple, Case, Certificate, End, Join, Move, What};
 use uc_check::{Line, LineSource, LineStep};
 use uc_term::{Equation, Node, Term};
 
@@ -140,6 +140,7 @@ fn see_end(end: &End)
         End::Same => {}
         End::Instance(number) => see_number(*number),
         End::Orders(cases) => see_cases(cases.as_slice()),
+        End::Ac(triples) => see_triples(triples.as_slice()),
     }
 }
 
@@ -156,4 +157,20 @@ fn see_case(case: &Case)
 {
     see_moves(case.left.as_slice());
     see_moves(case.right.as_slice());
+}
+
+fn see_triples(triples: &[AcTriple])
+    ensures { AllByRecursion IsBoundedTriple triples.now }
+{
+    for triple in triples {
+        see_triple(*triple);
+    }
+}
+
+fn see_triple(triple: AcTriple)
+    ensures { IsBoundedTriple triple }
+{
+    see_number(triple.assoc);
+    see_number(triple.comm);
+    see_number(triple.extended);
 }

@@ -13,6 +13,7 @@ ghost use Rattle.uc_certificate.specs.Reads.{ReadsAs, AreVariables};
 
 use crate::classes::classes;
 use crate::replacements::moves;
+use crate::triples::ac;
 use crate::words::{integer, is_word};
 use crate::{Case, End};
 use std::alloc::Global;
@@ -137,6 +138,10 @@ pub(crate) fn ending(
     if is_word(bytes, tokens, from, b"instance") {
         let (number, end) = instance(bytes, tokens, from)?;
         return Ok((End::Instance(number), end));
+    }
+    if is_word(bytes, tokens, from, b"ac") {
+        let (triples, end) = ac(alloc, bytes, tokens, from)?;
+        return Ok((End::Ac(triples), end));
     }
     orders(alloc, bytes, tokens, from, variables, symbols)
 }

@@ -50,12 +50,23 @@ pub struct Move {
 }
 
 /// Why two ends are joined: they are equal; they are, either way round, the two sides of one instance of the fact of this number;
-/// or under each order of their variables further replacements lead to one term.
+/// under each order of their variables further replacements lead to one term; or they are equal up to brackets and order at the
+/// symbols that these facts make associative and commutative.
 #[derive(Drop)]
 pub enum End {
     Same,
     Instance(u32),
     Orders(Seq<Case>),
+    Ac(Seq<AcTriple>),
+}
+
+/// The numbers of three facts that make one symbol associative and commutative: `f(f(X,Y),Z) = f(X,f(Y,Z))`, `f(X,Y) = f(Y,X)` and
+/// `f(X,f(Y,Z)) = f(Y,f(X,Z))`, in this order.
+#[derive(Clone, Copy, PartialEq, Eq, Debug)]
+pub struct AcTriple {
+    pub assoc: u32,
+    pub comm: u32,
+    pub extended: u32,
 }
 
 /// An order of the variables of two ends, and the replacements under it that lead from each of the two to one term.

@@ -19,9 +19,10 @@ mod printing;
 mod reading;
 mod replacements;
 mod terms;
+mod triples;
 mod words;
 
-pub use certificate::{Case, Certificate, End, Join, Move, What};
+pub use certificate::{AcTriple, Case, Certificate, End, Join, Move, What};
 pub use fault::CertFault;
 pub use laws::{one_reading, one_refusal, one_table, printed_reads_back, reading_stays};
 pub use printing::print_certificate;

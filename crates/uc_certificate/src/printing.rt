@@ -11,12 +11,12 @@ ghost use Rattle.uc_system.specs.Printing.{system_text, IsSpecOf, IsEquationOf};
 ghost use Rattle.uc_certificate.specs.declared.border.Border.TheVariants.{Start};
 ghost use Rattle.uc_certificate.specs.Headings.{spaced, is_border, HasNoLine};
 ghost use Rattle.uc_certificate.specs.Printable.{IsPrintableCertificate};
-ghost use Rattle.uc_certificate.specs.Printing.{certificate_text, system_part, derivation_part, joins_part, list_text, side_text, fact_side_text, overlap_text, what_text, class_text, replacement_text, move_text, moves_text, case_text, ending_text, join_text, joins_text, IsCertificateOf, AreMovesOf, IsCaseOf, IsEndOf, IsJoinOf};
+ghost use Rattle.uc_certificate.specs.Printing.{certificate_text, system_part, derivation_part, joins_part, list_text, side_text, fact_side_text, overlap_text, what_text, class_text, replacement_text, move_text, moves_text, case_text, triple_text, ending_text, join_text, joins_text, IsCertificateOf, AreMovesOf, IsCaseOf, IsEndOf, IsJoinOf};
 ghost use Rattle.uc_certificate.specs.Reading.{ReadsCertificate};
 
 use crate::bounds::see_bounds;
 use crate::headings::{CERTIFICATE_LINE, DERIVATION_LINE, END_LINE, FACTS, JOINS_LINE};
-use crate::{Case, Certificate, End, Join, Move, What};
+use crate::{AcTriple, Case, Certificate, End, Join, Move, What};
 use itoa::Buffer;
 use std::alloc::{AllocError, Global};
 use uc_check::{Line, Proof};
@@ -35,8 +35,8 @@ use uc_tstp::print_lines;
 ///
 /// The text is read again as the very same certificate, behind whole lines none of which begins as a certificate does and before
 /// whatever follows, where: its system and its derivation can be read again, with the variables of each line numbered by first
-/// occurrence and no refutation; paths have numbers from 1 to 255; the variables of the joins are below 8,192; and no class and no
-/// list of cases is empty.
+/// occurrence and no refutation; paths have numbers from 1 to 255; the variables of the joins are below 8,192; and no class, no
+/// list of cases and no list of triples is empty.
 pub fn print_certificate(
     alloc: Global,
     certificate: &Certificate,
@@ -404,6 +404,11 @@ fn write_end(alloc: Global, out: &mut Text, end: &End, symbols: &Symbols) -> Res
             write_cases(alloc, out, cases.as_slice(), symbols)?;
             out.extend(b")")
         }
+        End::Ac(triples) => {
+            out.extend(b"ac(")?;
+            write_triples(out, triples.as_slice())?;
+            out.extend(b")")
+        }
     }
 }
 
@@ -472,6 +477,39 @@ fn write_case(
     out.extend(b", ")?;
     write_moves(alloc, out, case.right.as_slice(), symbols)?;
     out.extend(b")")
+}
+
+fn write_triples(out: &mut Text, triples: &[AcTriple]) -> Result<(), AllocError>
+    ensures { OnOk result (out.new ≡ out.old ++ list_text triple_text triples.now) }
+{
+    out.extend(b"[")?;
+    if let [first, rest @ ..] = triples {
+        write_triple(out, *first)?;
+        write_more_triples(out, rest)?;
+    }
+    out.extend(b"]")
+}
+
+fn write_more_triples(out: &mut Text, triples: &[AcTriple]) -> Result<(), AllocError>
+    ensures { OnOk result (out.new ≡ out.old ++ further (codes ", ") triple_text triples.now) }
+{
+    for triple in triples {
+        out.extend(b", ")?;
+        write_triple(out, *triple)?;
+    }
+    Ok(())
+}
+
+fn write_triple(out: &mut Text, triple: AcTriple) -> Result<(), AllocError>
+    ensures { OnOk result (out.new ≡ out.old ++ triple_text triple) }
+{
+    out.extend(b"[")?;
+    write_number(out, triple.assoc)?;
+    out.extend(b", ")?;
+    write_number(out, triple.comm)?;
+    out.extend(b", ")?;
+    write_number(out, triple.extended)?;
+    out.extend(b"]")
 }
 
 fn write_classes(out: &mut Text, classes: &[Seq<u32>]) -> Result<(), AllocError>

@@ -1,5 +1,5 @@
 -- Where all that is expected is joined, the facts converge: each axiom and each overlap of two facts is joinable.
-use Rattle.std.proofs.Common.{◌≡◌, ℕ, zero, suc, ◌+◌, ◌==◌, List, [], ◌∷◌, ◌++◌, slice_get, Some, refl, sym, ap, ◌∙◌, subst, arith, ◌⊎◌, inl, inr}
+use Rattle.std.proofs.Common.{◌≡◌, ℕ, zero, suc, ◌+◌, ◌==◌, List, [], ◌∷◌, ◌++◌, slice_get, Some, refl, sym, ◌∙◌, subst, arith, ◌⊎◌, inl, inr}
 use Rattle.std.proofs.lemmas.Bool.{cases_Bool, eqb-true}
 use Rattle.uc_term.specs.declared.equation.Equation.{Equation}
 use Rattle.uc_term.specs.declared.equation.Side.TheVariants.{Left, Right}
@@ -8,7 +8,7 @@ use Rattle.uc_order.specs.Members.{Each}
 use Rattle.uc_order.specs.Laws.{Meaning, Laws, HasSym}
 use Rattle.uc_fact.specs.declared.chain.Chain.{Chain}
 use Rattle.uc_fact.specs.Ground.{IsJoinable}
-use Rattle.uc_fact.specs.Live.{Live, Rule, fact_at, equations_of, numbered, numbered_from}
+use Rattle.uc_fact.specs.Live.{Live, Rule, fact_at, numbered}
 use Rattle.uc_pair.specs.declared.formation.Formation.TheVariants.{Pair}
 use Rattle.uc_pair.specs.declared.formed.Formed.{Formed}
 use Rattle.uc_pair.specs.Overlapping.{read_from}
@@ -24,7 +24,8 @@ use Rattle.uc_certify.specs.declared.expected.Member.TheVariants.{Axiom, Overlap
 use Rattle.uc_certify.specs.Joining.{AreSides, of_axiom, of_overlap, IsRightJoin}
 use Rattle.uc_certify.specs.Expecting.{axioms_from, members_of, OverlapsWith, no_inner, next_inner, AllOverlaps, no_outer, next_outer, AreExpected}
 use Rattle.uc_certify.specs.Certifying.{AreTested, all_joined, too_many, is_large, is_missing, is_wrong, is_right}
-use Rattle.uc_certify.proofs.Joinable.{joins, fact_there}
+use Rattle.uc_certify.proofs.Joinable.{joins}
+use Rattle.uc_certify.proofs.Numbered.{fact_there, equations_numbered}
 
 -- LISTS
 
@@ -52,10 +53,6 @@ split_at j js k e h = elim (cases_Bool (j.number == k)) as (λ _. ((j.number ≡
   | inl b ↦ (let s : Some j.equation ≡ Some e = rw b at h in inl (eqb-true j.number k b, cc))
   | inr b ↦ inr (rw b at h)
 ]
-
-pub equations_numbered : (n : ℕ) (es : List Equation) → equations_of (numbered_from n es) ≡ es
-equations_numbered n [] = refl
-equations_numbered n (e ∷ es) = ap (λ (l : List Equation). e ∷ l) (equations_numbered (n + 1) es)
 
 -- WHAT OVERLAPS COME FROM
 

@@ -34,7 +34,8 @@ use Rattle.uc_certify.specs.declared.expected.Member.{Member}
 use Rattle.uc_certify.specs.Expecting.{AreExpected}
 use Rattle.uc_certify.specs.Certifying.{AreSameSymbols, AreDerivedBefore, AreTested, IsCertified, other_symbols, wrong_line, wrong_fact, by_joins}
 use Rattle.uc_certify.specs.Settings.{IsEncodingOf}
-use Rattle.uc_certify.proofs.Covered.{equations_numbered, both_join}
+use Rattle.uc_certify.proofs.Covered.{both_join}
+use Rattle.uc_certify.proofs.Numbered.{equations_numbered}
 use Rattle.uc_certify.proofs.Derived.{premises, says_all}
 
 -- a term over a signature is one over another that has its symbols, with the same arities

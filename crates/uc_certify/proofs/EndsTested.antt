@@ -17,7 +17,7 @@ use Rattle.uc_ground.proofs.Unique.{one_variables}
 use Rattle.uc_certificate.specs.declared.certificate.Case.{Case}
 use Rattle.uc_certify.specs.Joining.{IsRightCase, AreRightCases}
 use Rattle.uc_certify.specs.Testing.{AreBoth, HaveOrders}
-use Rattle.uc_certify.proofs.Joinable.{fact_there}
+use Rattle.uc_certify.proofs.Numbered.{fact_there}
 use Rattle.uc_certify.proofs.Lists.{taken_more, taken_all}
 
 -- ONE INSTANCE

@@ -14,7 +14,8 @@ use Rattle.uc_fact.specs.declared.fact.Origin.TheVariants.{Axiom as OfAxiom, Ove
 use Rattle.uc_fact.specs.declared.fact.System.{System}
 use Rattle.uc_fact.specs.Live.{Live, RiseFrom, equation_of, equations_of, numbered, numbered_from}
 use Rattle.uc_rewrite.specs.Normalising.{IsNormalOf}
-use Rattle.uc_ground.specs.Joining.{IsAnswer, IsJoined}
+use Rattle.uc_ground.specs.Joining.{IsJoined}
+use Rattle.uc_ac.specs.Ends.{IsEndsAnswer}
 use Rattle.uc_pair.specs.declared.formation.Formation.TheVariants.{Pair}
 use Rattle.uc_pair.specs.declared.formed.Formed.{Formed}
 use Rattle.uc_pair.specs.declared.formed.Size.{Size}
@@ -40,7 +41,8 @@ use Rattle.uc_certify.specs.Expecting.{axioms_from, members_of, OverlapsWith, no
 use Rattle.uc_certify.specs.Joining.{AreSides, of_axiom as sides_of_axiom, of_overlap as sides_of_overlap}
 use Rattle.uc_certify.specs.Making.{AreFoundJoined, IsFoundJoined, AllAreFoundJoined}
 use Rattle.uc_certify.proofs.Once.{all_once}
-use Rattle.uc_certify.proofs.OtherNumbers.{renamed, found_joined}
+use Rattle.uc_certify.proofs.OtherNumbers.{renamed}
+use Rattle.uc_certify.proofs.OtherEnds.{found_joined}
 use Rattle.uc_certify.proofs.OtherOverlaps.{renamed_overlap, renamed_formed, pair_on, all_on}
 
 -- LISTS
@@ -169,7 +171,7 @@ module _ (m : Meaning) where
         found_joined ν rises m (numbered facts) t.equation.left t.equation.right t.left t.right t.answer
         (subst (λ (fs : List Live). IsNormalOf m.greater m.least fs 4096 t.equation.left t.left) (sym named) i.left_is)
         (subst (λ (fs : List Live). IsNormalOf m.greater m.least fs 4096 t.equation.right t.right) (sym named) i.right_is)
-        (subst (λ (fs : List Live). IsAnswer m fs t.left.term t.right.term t.answer) (sym named) i.answer_is)
+        (subst (λ (fs : List Live). IsEndsAnswer m fs t.left.term t.right.term t.answer) (sym named) i.answer_is)
         j
 
     abbrev Found : Member → Type 0

@@ -1,5 +1,5 @@
 -- The two terms of a right join are joinable.
-use Rattle.std.proofs.Common.{◌≡◌, ℕ, ◌+◌, arith, true, List, [], ◌∷◌, map, slice_get, if◌then◌else◌, refl, sym, ap, ◌∙◌, subst, ◌⊎◌, inl, inr}
+use Rattle.std.proofs.Common.{◌≡◌, ℕ, true, List, [], ◌∷◌, map, if◌then◌else◌, refl, sym, ap, ◌∙◌, subst, ◌⊎◌, inl, inr}
 use Rattle.std.proofs.lemmas.Bool.{cases_Bool}
 use Rattle.uc_term.specs.declared.equation.Equation.{Equation}
 use Rattle.uc_term.specs.Equations.{side_of, other_side_of}
@@ -16,25 +16,22 @@ use Rattle.uc_order.specs.Laws.{Meaning, Laws, HasSym, IsGroundOf, least_term}
 use Rattle.uc_order.proofs.Exactly.{respected, has_all}
 use Rattle.uc_order.proofs.Respected.{HasOnly-represented, represented-same, is_among-In, In-is_among}
 use Rattle.uc_fact.specs.Ground.{IsJoinable}
-use Rattle.uc_fact.specs.Live.{fact_at, numbered}
-use Rattle.uc_rewrite.proofs.Scanned.{fact_numbered}
+use Rattle.uc_fact.specs.Live.{numbered}
 use Rattle.uc_ground.specs.Joining.{IsInstance}
 use Rattle.uc_ground.proofs.Grounded.{image_ground}
 use Rattle.uc_certificate.specs.declared.certificate.Case.{Case}
 use Rattle.uc_certificate.specs.declared.certificate.End.{End}
-use Rattle.uc_certificate.specs.declared.certificate.End.TheVariants.{Same, Instance, Orders}
+use Rattle.uc_certificate.specs.declared.certificate.End.TheVariants.{Same, Instance, Orders, Ac}
 use Rattle.uc_certificate.specs.declared.certificate.Join.{Join}
 use Rattle.uc_certify.specs.Moving.{moved}
 use Rattle.uc_certify.specs.Joining.{IsRightCase, AreRightCases, IsRightEnd, Joins}
+use Rattle.uc_certify.proofs.AcEnds.{triples_join}
 use Rattle.uc_certify.proofs.Descending.{G, any_ground, any_down, case_down}
+use Rattle.uc_certify.proofs.Numbered.{fact_there}
 
 found : {P : Classes → Type 0} {orders : List Classes} → OnlyOne P orders → (cases : Classes) × In orders cases × P cases
 found (only_front {x = cases} p n) = (cases, in_front, p)
 found (only_rest n o) = let r = found o in (r.0, in_rest r.1, r.2)
-
--- the fact of a number
-pub fact_there : (facts : List Equation) (k : ℕ) → fact_at (numbered facts) k ≡ slice_get facts k
-fact_there facts k = ap (fact_at (numbered facts)) (let z : k ≡ 0 + k = omega arith in z) ∙ fact_numbered 0 facts k
 
 -- the case of an order of variables
 record HasCase (P : Case → Type 0) (order : Classes) : Type 0 where
@@ -127,6 +124,7 @@ module _ (m : Meaning) (laws : Laws m) (facts : List Equation) where
     end_joins Same e = λ σ gs gt. Joined-refl (G m facts) (apply σ s) (apply σ t) (ap (apply σ) e)
     end_joins (Instance k) i = λ σ gs gt. turned (apply σ s) (apply σ t) (Turn-apply facts σ s t (instance_turn k i)) gs gt
     end_joins (Orders cases) r = cases_join cases r
+    end_joins (Ac triples) r = triples_join m laws facts s t triples r
 
   -- moves lead from both to ends that are joinable
   pub joins : (l r : Tree) (join : Join) → Joins m facts l r join → IsJoinable m.greater (HasSym m) m.arity facts l r

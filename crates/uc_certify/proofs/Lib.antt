@@ -1,6 +1,8 @@
 pub mod Positioned
 pub mod NoNew
 pub mod Descending
+pub mod Numbered
+pub mod AcEnds
 pub mod Joinable
 pub mod Covered
 pub mod Derived
@@ -22,6 +24,7 @@ pub mod OnePath
 pub mod FactsDerived
 pub mod Outcome
 pub mod OtherNumbers
+pub mod OtherEnds
 pub mod OtherOverlaps
 pub mod FinalJoins
 pub mod FewVariables

@@ -1,5 +1,5 @@
 -- Lists, one item after another, and their members.
-use Rattle.std.proofs.Common.{◌≡◌, ℕ, zero, suc, ◌+◌, ◌<◌, ◌≤◌, ◌⊎◌, inl, inr, Bool, true, false, IsTrue, ◌↔◌, Result, Ok, Err, IfOk, List, [], ◌∷◌, ◌++◌, length, take, drop, get_or, refl, sym, ap, ◌∙◌, subst, arith}
+use Rattle.std.proofs.Common.{◌≡◌, ℕ, zero, suc, ◌+◌, ◌<◌, ◌≤◌, ◌⊎◌, inl, inr, Bool, true, false, IsTrue, ◌↔◌, Result, Ok, Err, IfOk, Option, Some, None, MatchOption, List, [], ◌∷◌, ◌++◌, length, take, drop, get_or, refl, sym, ap, ◌∙◌, subst, arith}
 use Rattle.std.proofs.lemmas.List.{drop_more, take_more}
 use Rattle.uc_order.specs.Members.{Each, In, in_front, in_rest}
 
@@ -24,6 +24,11 @@ same_test (Err e) f g h = h
 pub each_test : {A P E : Type 0} {Q : A → Type 0} (r : Result Bool E) → ((a : A) → P → Q a) → ((a : A) → Q a → P) → IfOk r (λ b. IsTrue b ↔ P) → IfOk r (λ b. (a : A) → IsTrue b ↔ Q a)
 each_test (Ok b) f g h = λ a. (λ t. f a (h.0 t), λ q. h.1 (g a q))
 each_test (Err e) f g h = h
+
+-- what an option that isn't there says
+pub of_none : {A P : Type 0} (Q : A → Type 0) (o : Option A) → ((a : A) → o ≡ Some a → ⊥) → MatchOption o P Q → P
+of_none Q None n h = h
+of_none Q (Some a) n h = absurd (n a refl)
 
 -- ONE AFTER ANOTHER
 

@@ -1,5 +1,5 @@
--- Why two ends are joined: what the test of them answers, and that the end of a join that says so is right.
-use Rattle.std.proofs.Common.{◌≡◌, ℕ, ◌≤◌, List, [], ◌∷◌, ◌++◌, length, map, refl, sym, ap, ap₂, ◌∙◌, subst, append_assoc, append-nil}
+-- Why two ends are joined: what the tests of them answer, and that the end of a join that says so is right.
+use Rattle.std.proofs.Common.{◌≡◌, ℕ, ◌≤◌, Some, List, [], ◌∷◌, ◌++◌, length, map, refl, sym, ap, ap₂, ◌∙◌, subst, append_assoc, append-nil}
 use Rattle.uc_term.specs.declared.equation.Equation.{Equation}
 use Rattle.uc_term.specs.Over.{IsOver, IsTerm}
 use Rattle.uc_term.specs.Tree.{Tree, var}
@@ -17,12 +17,15 @@ use Rattle.uc_ground.specs.Joining.{AreVariables, IsLeastInstance, IsInstance, I
 use Rattle.uc_ground.specs.Ends.{EndsAgree}
 use Rattle.uc_ground.proofs.Tried.{all_members, known_left, known_right}
 use Rattle.uc_ground.proofs.Unique.{one_variables}
+use Rattle.uc_ac.specs.Joining.{IsAcAnswer}
+use Rattle.uc_ac.specs.Ends.{IsEndsAnswer, equal_by_facts, not_equal_so}
 use Rattle.uc_runs.proofs.OverTerms.{instance_over}
 use Rattle.uc_certificate.specs.declared.certificate.Case.{Case}
 use Rattle.uc_certificate.specs.declared.certificate.End.{End}
-use Rattle.uc_certificate.specs.declared.certificate.End.TheVariants.{Same, Instance, Orders}
+use Rattle.uc_certificate.specs.declared.certificate.End.TheVariants.{Same, Instance, Orders, Ac}
 use Rattle.uc_certify.specs.Joining.{IsRightCase, IsRightEnd}
 use Rattle.uc_certify.specs.Making.{IsMadeCase, AreMadeCases, SaysWhy}
+use Rattle.uc_certify.proofs.AcEnds.{triples_right}
 use Rattle.uc_certify.proofs.MadeMoves.{moves_made}
 
 module _ (m : Meaning) (live : List Live) (s t : Tree) where
@@ -31,19 +34,24 @@ module _ (m : Meaning) (live : List Live) (s t : Tree) where
   Answered reason.Same = s ≡ t
   Answered (reason.Instance k) = IsLeastInstance live s t k
   Answered reason.Orders = (vars : List ℕ) × AreVariables s t vars × (length vars ≤ 5) × IsTriedUnder m live s t (orders_of vars) (Joined reason.Orders)
+  Answered (reason.Ac list) = IsAcAnswer live s t (Some list)
 
   tried_orders : (orders : List Classes) (answer : Joinable) (why : Reason) → IsTriedUnder m live s t orders answer → answer ≡ Joined why → reason.Orders ≡ why
   tried_orders _ _ why agree_under_all e = cc
   tried_orders _ answer why (agree_under {orders = orders} a b r) e = tried_orders orders answer why r e
   tried_orders _ _ why (differ_under a b n) e = absurd cc
 
-  pub answered : (answer : Joinable) (why : Reason) → IsAnswer m live s t answer → answer ≡ Joined why → Answered why
-  answered _ why (are_equal e) q = let same : reason.Same ≡ why = cc in subst Answered same e
-  answered _ why (are_sides {number = k} n i) q = let same : reason.Instance k ≡ why = cc in subst Answered same i
-  answered _ why (have_many n i v h) q = absurd cc
-  answered answer why (are_tried {vars = vars} n i v h r) q =
+  tested : (answer : Joinable) (why : Reason) → IsAnswer m live s t answer → answer ≡ Joined why → Answered why
+  tested _ why (are_equal e) q = let same : reason.Same ≡ why = cc in subst Answered same e
+  tested _ why (are_sides {number = k} n i) q = let same : reason.Instance k ≡ why = cc in subst Answered same i
+  tested _ why (have_many n i v h) q = absurd cc
+  tested answer why (are_tried {vars = vars} n i v h r) q =
       let orders = tried_orders (orders_of vars) answer why r q in
       subst Answered orders (vars, v, h, subst (IsTriedUnder m live s t (orders_of vars)) (q ∙ ap Joined (sym orders)) r)
+
+  pub answered : (answer : Joinable) (why : Reason) → IsEndsAnswer m live s t answer → answer ≡ Joined why → Answered why
+  answered _ why (equal_by_facts {list = list} a) q = let same : reason.Ac list ≡ why = cc in subst Answered same a
+  answered answer why (not_equal_so n a) q = tested answer why a q
 
   -- the ends agree under each of the orders that were tried
   pub all_agree : (orders : List Classes) (answer : Joinable) → IsTriedUnder m live s t orders answer → answer ≡ Joined reason.Orders → Each (λ (cases : Classes). EndsAgree m live cases s t) orders
@@ -122,9 +130,16 @@ module _ (m : Meaning) (laws : Laws m) (facts : List Equation) (over : AreOfSign
       let same : a.0 ≡ h.vars = one_variables s t a.0 h.vars a.1 h.vars_are in
       let r = cases_right (orders_of h.vars) cases h.made (λ c i. (known_left s t h.vars h.vars_are c i, known_right s t h.vars h.vars_are c i)) in
       record { vars = h.vars; vars_are = h.vars_are; few = subst (λ (vs : List ℕ). length vs ≤ 5) same a.2; orders_are = r.0; right = r.1 }
+  end_right (reason.Ac list) (Ac triples) a h = triples_right facts s t list triples a h
   end_right reason.Same (Instance number) a h = absurd h
   end_right reason.Same (Orders cases) a h = absurd h
+  end_right reason.Same (Ac triples) a h = absurd h
   end_right (reason.Instance k) Same a h = absurd h
   end_right (reason.Instance k) (Orders cases) a h = absurd h
+  end_right (reason.Instance k) (Ac triples) a h = absurd h
   end_right reason.Orders Same a h = absurd h
   end_right reason.Orders (Instance number) a h = absurd h
+  end_right reason.Orders (Ac triples) a h = absurd h
+  end_right (reason.Ac list) Same a h = absurd h
+  end_right (reason.Ac list) (Instance number) a h = absurd h
+  end_right (reason.Ac list) (Orders cases) a h = absurd h

@@ -22,7 +22,7 @@ use Rattle.uc_runs.proofs.OverTerms.{step_over}
 use Rattle.uc_certificate.specs.declared.certificate.Move.{Move}
 use Rattle.uc_certify.specs.Moving.{moved, IsMove, AreMoves}
 use Rattle.uc_certify.specs.Making.{IsMoveOf, AreMovesOf, IsByFact, AreByFacts}
-use Rattle.uc_certify.proofs.Covered.{equations_numbered}
+use Rattle.uc_certify.proofs.Numbered.{equations_numbered}
 use Rattle.uc_certify.proofs.MadeSteps.{step_at, rule_equation}
 
 side_back : (side : Side) → replaced_side (is_left side) ≡ side

@@ -1,5 +1,5 @@
 -- One list of joins is made for a system and its axioms.
-use Rattle.std.proofs.Common.{◌≡◌, ℕ, Bool, List, [], ◌∷◌, slice_get, Some, refl, sym, ap, ap₂, ◌∙◌, subst}
+use Rattle.std.proofs.Common.{◌≡◌, ℕ, Bool, List, [], ◌∷◌, Some, refl, sym, ap, ap₂, ◌∙◌, subst}
 use Rattle.uc_term.specs.declared.equation.Equation.{Equation}
 use Rattle.uc_term.specs.declared.equation.Side.{Side}
 use Rattle.uc_term.specs.Equations.{side_of}
@@ -18,21 +18,22 @@ use Rattle.uc_pair.specs.declared.formation.Formation.TheVariants.{Pair}
 use Rattle.uc_pair.specs.Overlapping.{read_from}
 use Rattle.uc_pair.specs.Pairs.{IsPairOf}
 use Rattle.uc_pair.proofs.OnePair.{one_formation}
-use Rattle.uc_ground.specs.Joining.{IsAnswer}
+use Rattle.uc_ac.specs.Ends.{IsEndsAnswer}
+use Rattle.uc_ac.proofs.Ends.{one_ends}
 use Rattle.uc_rewrite.specs.declared.normal.Normal.{Normal}
 use Rattle.uc_rewrite.specs.Normalising.{IsNormalOf}
 use Rattle.uc_rewrite.proofs.Unique.{one_normal}
-use Rattle.uc_ground.proofs.Unique.{one_variables, one_answer}
+use Rattle.uc_ground.proofs.Unique.{one_variables}
 use Rattle.uc_certificate.specs.declared.certificate.Case.{Case}
 use Rattle.uc_certificate.specs.declared.certificate.End.{End}
-use Rattle.uc_certificate.specs.declared.certificate.End.TheVariants.{Same, Instance, Orders}
+use Rattle.uc_certificate.specs.declared.certificate.End.TheVariants.{Same, Instance, Orders, Ac}
 use Rattle.uc_certificate.specs.declared.certificate.Join.{Join}
 use Rattle.uc_certificate.specs.declared.certificate.Move.{Move}
 use Rattle.uc_certificate.specs.declared.certificate.What.{What}
 use Rattle.uc_certificate.specs.declared.certificate.What.TheVariants.{Axiom, Overlap}
 use Rattle.uc_certify.specs.declared.expected.Member.{Member}
 use Rattle.uc_certify.specs.declared.expected.Member.TheVariants as member
-use Rattle.uc_certify.specs.Joining.{NamesOverlap, Names, AreSides, of_axiom, of_overlap}
+use Rattle.uc_certify.specs.Joining.{Names, AreSides, of_axiom, of_overlap}
 use Rattle.uc_certify.specs.Making.{IsMoveOf, AreMovesOf, IsMadeCase, AreMadeCases, AreAllCases, SaysWhy, IsMade, IsMadeFor, AreMadeFor, AreAllMade}
 use Rattle.uc_certify.proofs.Once.{expected_once}
 
@@ -84,18 +85,31 @@ module _ (m : Meaning) (live : List Live) where
   end_once s t reason.Same Same Same x y = refl
   end_once s t reason.Same Same (Instance n) x y = absurd y
   end_once s t reason.Same Same (Orders cs) x y = absurd y
+  end_once s t reason.Same Same (Ac us) x y = absurd y
   end_once s t reason.Same (Instance n) b x y = absurd x
   end_once s t reason.Same (Orders cs) b x y = absurd x
+  end_once s t reason.Same (Ac us) b x y = absurd x
   end_once s t (reason.Instance k) Same b x y = absurd x
   end_once s t (reason.Instance k) (Instance n) Same x y = absurd y
   end_once s t (reason.Instance k) (Instance n) (Instance o) x y = ap Instance (x ∙ sym y)
   end_once s t (reason.Instance k) (Instance n) (Orders cs) x y = absurd y
+  end_once s t (reason.Instance k) (Instance n) (Ac us) x y = absurd y
   end_once s t (reason.Instance k) (Orders cs) b x y = absurd x
+  end_once s t (reason.Instance k) (Ac us) b x y = absurd x
   end_once s t reason.Orders Same b x y = absurd x
   end_once s t reason.Orders (Instance n) b x y = absurd x
   end_once s t reason.Orders (Orders cs) Same x y = absurd y
   end_once s t reason.Orders (Orders cs) (Instance n) x y = absurd y
   end_once s t reason.Orders (Orders cs) (Orders ds) x y = ap Orders (all_cases_once s t cs ds x y)
+  end_once s t reason.Orders (Orders cs) (Ac us) x y = absurd y
+  end_once s t reason.Orders (Ac us) b x y = absurd x
+  end_once s t (reason.Ac list) Same b x y = absurd x
+  end_once s t (reason.Ac list) (Instance n) b x y = absurd x
+  end_once s t (reason.Ac list) (Orders cs) b x y = absurd x
+  end_once s t (reason.Ac list) (Ac us) Same x y = absurd y
+  end_once s t (reason.Ac list) (Ac us) (Instance n) x y = absurd y
+  end_once s t (reason.Ac list) (Ac us) (Orders cs) x y = absurd y
+  end_once s t (reason.Ac list) (Ac us) (Ac vs) x y = ap Ac (x ∙ sym y)
 
   -- JOINS
 
@@ -106,8 +120,8 @@ module _ (m : Meaning) (live : List Live) where
       let left = normal_moves m.greater l x.found.left y.found.left a.left b.left x.found.left_is y.found.left_is x.left_moves y.left_moves in
       let right = normal_moves m.greater r x.found.right y.found.right a.right b.right x.found.right_is y.found.right_is x.right_moves y.right_moves in
       let ends = ap₂ (λ (p q : Normal). (p.term, q.term)) left_is right_is in
-      let answer = subst (λ (p : Tree × Tree). IsAnswer m live p.0 p.1 (Joined y.found.why)) ends y.found.answer_is in
-      let why : y.found.why ≡ x.found.why = let e : Joined y.found.why ≡ Joined x.found.why = one_answer m live x.found.left.term x.found.right.term (Joined y.found.why) (Joined x.found.why) answer x.found.answer_is in cc in
+      let answer = subst (λ (p : Tree × Tree). IsEndsAnswer m live p.0 p.1 (Joined y.found.why)) ends y.found.answer_is in
+      let why : y.found.why ≡ x.found.why = let e : Joined y.found.why ≡ Joined x.found.why = one_ends live m x.found.left.term x.found.right.term (Joined y.found.why) (Joined x.found.why) answer x.found.answer_is in cc in
       let says = subst (λ (w : Reason). SaysWhy m live x.found.left.term x.found.right.term w b.end) why (subst (λ (p : Tree × Tree). SaysWhy m live p.0 p.1 y.found.why b.end) ends y.end) in
       let end = end_once x.found.left.term x.found.right.term x.found.why a.end b.end x.end says in
       ap₂ (λ (p : What × End) (q : List Move × List Move). record { what = p.0; left = q.0; right = q.1; end = p.1 }) (ap₂ (λ (w : What) (e : End). (w, e)) what end) (ap₂ (λ (p q : List Move). (p, q)) left right)

@@ -1,4 +1,5 @@
--- What is the same of facts with other numbers in the same order: steps, normal forms, and the answer for two ends.
+-- What is the same of facts with other numbers in the same order: steps, normal forms, and the answer of the test for ground
+-- joinability.
 use Rattle.std.proofs.Common.{◌≡◌, ℕ, ◌<◌, ◌≤◌, ◌==◌, ◌⊎◌, inl, inr, Bool, true, false, if◌then◌else◌, List, [], ◌∷◌, map, Option, Some, refl, sym, ap, ap₂, ◌∙◌, subst, arith}
 use Rattle.std.proofs.lemmas.Bool.{cases_Bool, eqb-true, eqb-false, ne_eqb, eq-eqb}
 use Rattle.uc_term.specs.declared.node.Sym.{Sym}
@@ -18,7 +19,6 @@ use Rattle.uc_fact.specs.Ordered.{IsIrreducible, IsIrreducibleBelow}
 use Rattle.uc_rewrite.specs.declared.normal.Normal.{Normal}
 use Rattle.uc_rewrite.specs.Normalising.{Makes, FirstRule, this_rule, later_rule, FirstStep, in_arguments, at_the_term, FirstStepAmong, in_this, in_another, Normalises, is_full, is_spent, is_large, goes_on, step_by, IsNormalOf}
 use Rattle.uc_ground.specs.Joining.{IsInstance, IsLeastInstance, IsNoInstance, ComesTo, IsTriedUnder, agree_under_all, agree_under, differ_under, IsAnswer, are_equal, are_sides, have_many, are_tried, IsJoined}
-use Rattle.uc_certify.specs.Making.{AreFoundJoined}
 
 -- what the numbers become
 module _ (ν : ℕ → ℕ) where
@@ -123,12 +123,12 @@ module _ (ν : ℕ → ℕ) where
       | inr b ↦ ne_eqb (ν i) (ν j) (λ e. eqb-false i j b (one_number i j e)) ∙ sym b
     ]
 
-    at_number : (fs : List Live) (k : ℕ) → fact_at (map renamed fs) (ν k) ≡ fact_at fs k
+    pub at_number : (fs : List Live) (k : ℕ) → fact_at (map renamed fs) (ν k) ≡ fact_at fs k
     at_number [] k = refl
     at_number (f ∷ fs) k = ap₂ (λ (b : Bool) (o : Option Equation). if b then Some f.equation else o) (same_test f.number k) (at_number fs k)
 
     -- it has one of the numbers
-    named_at : (fs : List Live) (n : ℕ) (e : Equation) → fact_at (map renamed fs) n ≡ Some e → (k : ℕ) × (n ≡ ν k)
+    pub named_at : (fs : List Live) (n : ℕ) (e : Equation) → fact_at (map renamed fs) n ≡ Some e → (k : ℕ) × (n ≡ ν k)
     named_at [] n e h = absurd cc
     named_at (f ∷ fs) n e h = go (ν f.number == n) refl h (λ later. named_at fs n e later)
       where
@@ -181,18 +181,3 @@ module _ (ν : ℕ → ℕ) where
         answer_of answer (are_tried {vars = vars} ne i v h r) j =
             let why = joined_by answer j in
             (why.0, are_tried ne (none_back i) v h (tried (orders_of vars) (Joined why.0) (subst (IsTriedUnder m others_of s t (orders_of vars)) why.1 r)))
-
-    -- so two terms are found to be joined
-    pub found_joined : (m : Meaning) (fs : List Live) (l r : Tree) (left right : Normal) (answer : Joinable) → IsNormalOf m.greater m.least (map renamed fs) 4096 l left → IsNormalOf m.greater m.least (map renamed fs) 4096 r right → IsAnswer m (map renamed fs) left.term right.term answer → IsJoined answer → AreFoundJoined m fs l r
-    found_joined m fs l r left right answer a b i j =
-        let p = normal_of m.greater m.least fs 4096 l left a in
-        let q = normal_of m.greater m.least fs 4096 r right b in
-        let why = answer_of fs left.term right.term m answer i j in
-        record {
-          left = p.0;
-          right = q.0;
-          left_is = p.1;
-          right_is = q.1;
-          why = why.0;
-          answer_is = subst (λ (u : Tree). IsAnswer m fs u q.0.term (Joined why.0)) (sym p.2) (subst (λ (u : Tree). IsAnswer m fs left.term u (Joined why.0)) (sym q.2) why.1);
-        }

@@ -20,7 +20,7 @@ use Rattle.uc_runs.proofs.OverFound.{Any}
 use Rattle.uc_fact.specs.declared.fact.Overlap.{Overlap as AnyOverlap}
 use Rattle.uc_certificate.specs.declared.certificate.Case.{Case}
 use Rattle.uc_certificate.specs.declared.certificate.End.{End}
-use Rattle.uc_certificate.specs.declared.certificate.End.TheVariants.{Same, Instance, Orders}
+use Rattle.uc_certificate.specs.declared.certificate.End.TheVariants.{Same, Instance, Orders, Ac}
 use Rattle.uc_certificate.specs.declared.certificate.Join.{Join}
 use Rattle.uc_certificate.specs.declared.certificate.Move.{Move}
 use Rattle.uc_certificate.specs.declared.certificate.What.{What}
@@ -63,6 +63,7 @@ module _ (m : Meaning) (laws : Laws m) (table : Table) (facts axioms : List Equa
     end_of Same e = tt
     end_of (Instance number) e = tt
     end_of (Orders cases) e = all_from (IsSuchCase Any IsOfTable) (IsCaseOf table) cases (λ (c : Case) s. record { left = s.left; right = s.right }) e.1
+    end_of (Ac triples) e = tt
 
     join_of : (x : Member) (join : Join) → IsMadeFor m facts axioms x join → IsJoinOf table join
     join_of x join made =
@@ -101,6 +102,7 @@ module _ (m : Meaning) (laws : Laws m) (table : Table) (facts axioms : List Equa
     end_printable Same e = tt
     end_printable (Instance number) e = tt
     end_printable (Orders cases) e = (e.0, all_from (IsSuchCase Few (IsPrintableMove table)) (IsPrintableCase table) cases case_printable e.1)
+    end_printable (Ac triples) e = e
 
     side_over : (side : Side) (n : ℕ) (e : Equation) → slice_get facts n ≡ Some e → IsTerm (HasSym m) m.arity (side_of side e)
     side_over Left n e at = (over n e at).0

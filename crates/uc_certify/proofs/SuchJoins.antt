@@ -8,6 +8,7 @@ use Rattle.uc_term.specs.Tree.{Tree, var}
 use Rattle.uc_term.specs.Variables.{Occurs}
 use Rattle.uc_fact.specs.Ground.{AreOfSignature}
 use Rattle.uc_fact.specs.Live.{numbered}
+use Rattle.uc_fact.specs.declared.joinable.Joinable.TheVariants.{Joined}
 use Rattle.uc_fact.specs.declared.joinable.Reason.{Reason}
 use Rattle.uc_fact.specs.declared.joinable.Reason.TheVariants as reason
 use Rattle.uc_order.specs.Members.{In, Each}
@@ -21,7 +22,7 @@ use Rattle.uc_ground.proofs.Tried.{all_members, known_left, known_right}
 use Rattle.uc_runs.proofs.OverTerms.{instance_over, normal_over}
 use Rattle.uc_certificate.specs.declared.certificate.Case.{Case}
 use Rattle.uc_certificate.specs.declared.certificate.End.{End}
-use Rattle.uc_certificate.specs.declared.certificate.End.TheVariants.{Same, Instance, Orders}
+use Rattle.uc_certificate.specs.declared.certificate.End.TheVariants.{Same, Instance, Orders, Ac}
 use Rattle.uc_certificate.specs.declared.certificate.Join.{Join}
 use Rattle.uc_certificate.specs.declared.certificate.Move.{Move}
 use Rattle.uc_certify.specs.Moving.{IsMove, AreMoves}
@@ -29,6 +30,8 @@ use Rattle.uc_certify.specs.Making.{AreMovesOf, IsMadeCase, AreMadeCases, AreAll
 use Rattle.uc_certify.proofs.Decided.{over_into}
 use Rattle.uc_certify.proofs.FewVariables.{known_if}
 use Rattle.uc_certify.proofs.FilledOrders.{IsFilled, AreFilled, among_known, orders_filled, HasOne, one_order}
+use Rattle.uc_certify.proofs.AcEnds.{some_triple}
+use Rattle.uc_certify.proofs.MadeEnds.{Answered, answered}
 use Rattle.uc_certify.proofs.MadeMoves.{moves_made, least_over, all_over}
 
 -- joins whose moves are so, and whose classes have a variable and known ones alone
@@ -38,11 +41,12 @@ module _ (Known : ℕ → Type 0) (IsSo : Move → Type 0) where
     pub left : AllByRecursion IsSo case.left
     pub right : AllByRecursion IsSo case.right
 
-  -- there is a case
+  -- there is a case, or a triple
   abbrev pub IsSuchEnd : End → Type 0
   IsSuchEnd Same = Unit {0}
   IsSuchEnd (Instance number) = Unit {0}
   IsSuchEnd (Orders cases) = (cases ≢ []) × AllByRecursion IsSuchCase cases
+  IsSuchEnd (Ac triples) = triples ≢ []
 
   pub record IsSuchJoin (join : Join) : Type 0 where
     pub left : AllByRecursion IsSo join.left
@@ -106,12 +110,17 @@ module _ (m : Meaning) (laws : Laws m) (facts : List Equation) (over : AreOfSign
           each_only vars v [] e = tt
           each_only vars v (c ∷ os) e = ((known_left s t vars v c e.0, known_right s t vars v c e.0), each_only vars v os e.1)
 
-      end_so : (why : Reason) (end : End) → SaysWhy m (numbered facts) s t why end → IsSuchEnd Known IsSo end
-      end_so why Same h = tt
-      end_so why (Instance number) h = tt
-      end_so reason.Orders (Orders cases) h = all_so cases h
-      end_so reason.Same (Orders cases) h = absurd h
-      end_so (reason.Instance k) (Orders cases) h = absurd h
+      end_so : (why : Reason) (end : End) → Answered m (numbered facts) s t why → SaysWhy m (numbered facts) s t why end → IsSuchEnd Known IsSo end
+      end_so why Same a h = tt
+      end_so why (Instance number) a h = tt
+      end_so reason.Orders (Orders cases) a h = all_so cases h
+      end_so reason.Same (Orders cases) a h = absurd h
+      end_so (reason.Instance k) (Orders cases) a h = absurd h
+      end_so (reason.Ac list) (Orders cases) a h = absurd h
+      end_so (reason.Ac list) (Ac triples) a h = some_triple (numbered facts) s t list triples a h
+      end_so reason.Same (Ac triples) a h = absurd h
+      end_so (reason.Instance k) (Ac triples) a h = absurd h
+      end_so reason.Orders (Ac triples) a h = absurd h
 
     end_over : (t : Tree) (n : Normal) → IsNormalOf m.greater m.least (numbered facts) 4096 t n → OverKnown t → OverKnown n.term
     end_over t n i o = (normal_over (HasSym m) m.arity Known m.greater m.least (least_over m laws facts over m.greater Known) (numbered facts) (all_over m laws facts over m.greater Known) 4096 t n.term n.chain.steps n.stop i.normalises o).1
@@ -122,5 +131,5 @@ module _ (m : Meaning) (laws : Laws m) (facts : List Equation) (over : AreOfSign
         record {
           left = normal_so m.greater l f.left join.left f.left_is made.left_moves lo;
           right = normal_so m.greater r f.right join.right f.right_is made.right_moves ro;
-          end = end_so f.left.term f.right.term (end_over l f.left f.left_is lo) (end_over r f.right f.right_is ro) f.why join.end made.end;
+          end = end_so f.left.term f.right.term (end_over l f.left f.left_is lo) (end_over r f.right f.right_is ro) f.why join.end (answered m (numbered facts) f.left.term f.right.term (Joined f.why) f.why f.answer_is refl) made.end;
         }

@@ -1,5 +1,5 @@
 -- When a join is right: moves lead from two terms to ends, which are equal, or the two sides of one instance of a fact, or joined
--- under each order of their variables (Martin and Nipkow, Ordered Rewriting and Confluence).
+-- under each order of their variables, or equal up to brackets and order (Martin and Nipkow, Ordered Rewriting and Confluence).
 use Rattle.std.specs.Prelude.{ℕ, ◌≡◌, ◌≤◌, List, length, map, slice_get, Some}
 use Rattle.uc_term.specs.declared.equation.Equation.{Equation}
 use Rattle.uc_term.specs.declared.equation.Side.{Side}
@@ -9,6 +9,7 @@ use Rattle.uc_term.specs.Tree.{Tree}
 use Rattle.uc_order.specs.Members.{Each}
 use Rattle.uc_order.specs.VarOrders.{Among, orders_of, represented}
 use Rattle.uc_order.specs.Laws.{Meaning}
+use Rattle.uc_fact.specs.declared.ac_facts.AcFacts.{AcFacts}
 use Rattle.uc_fact.specs.declared.chain.Chain.{Chain}
 use Rattle.uc_fact.specs.declared.fact.Overlap.{Overlap as AnyOverlap}
 use Rattle.uc_fact.specs.Live.{numbered}
@@ -16,15 +17,30 @@ use Rattle.uc_pair.specs.declared.formation.Formation.TheVariants.{Pair}
 use Rattle.uc_pair.specs.declared.formed.Formed.{Formed}
 use Rattle.uc_pair.specs.Pairs.{IsPairOf}
 use Rattle.uc_ground.specs.Joining.{AreVariables, IsInstance}
+use Rattle.uc_ac.specs.AcEqual.{AcEqual}
+use Rattle.uc_ac.specs.AcFacts.{AreAcFacts, symbols_of}
+use Rattle.uc_certificate.specs.declared.certificate.AcTriple.{AcTriple}
 use Rattle.uc_certificate.specs.declared.certificate.Case.{Case}
 use Rattle.uc_certificate.specs.declared.certificate.End.{End}
-use Rattle.uc_certificate.specs.declared.certificate.End.TheVariants.{Same, Instance, Orders}
+use Rattle.uc_certificate.specs.declared.certificate.End.TheVariants.{Same, Instance, Orders, Ac}
 use Rattle.uc_certificate.specs.declared.certificate.Join.{Join}
 use Rattle.uc_certificate.specs.declared.certificate.What.{What}
 use Rattle.uc_certificate.specs.declared.certificate.What.TheVariants.{Axiom, Overlap}
 use Rattle.uc_certify.specs.declared.expected.Member.{Member}
 use Rattle.uc_certify.specs.declared.expected.Member.TheVariants as member
 use Rattle.uc_certify.specs.Moving.{moved, AreMoves}
+
+-- the numbers of three facts that make a symbol associative and commutative
+abbrev pub triple_of : AcFacts → AcTriple
+triple_of facts = record { assoc = facts.assoc; comm = facts.comm; extended = facts.extended }
+
+-- each triple names three facts that make one symbol associative and commutative, and the two are equal up to brackets and order
+-- at these symbols
+pub record AreRightTriples (facts : List Equation) (s t : Tree) (triples : List AcTriple) : Type 0 where
+  pub list : List AcFacts
+  pub triples_are : triples ≡ map triple_of list
+  pub are_facts : Each (AreAcFacts (numbered facts)) list
+  pub equal : AcEqual (symbols_of list) s t
 
 module _ (m : Meaning) (facts : List Equation) where
   -- Under an order of variables moves lead from the two terms, each variable replaced by the first one of its class, to one term.
@@ -46,6 +62,7 @@ module _ (m : Meaning) (facts : List Equation) where
   IsRightEnd s t Same = s ≡ t
   IsRightEnd s t (Instance number) = IsInstance (numbered facts) s t number
   IsRightEnd s t (Orders cases) = AreRightCases s t cases
+  IsRightEnd s t (Ac triples) = AreRightTriples facts s t triples
 
   -- moves lead from both terms to ends that are joined so
   pub record Joins (l r : Tree) (join : Join) : Type 0 where

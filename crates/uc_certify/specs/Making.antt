@@ -1,6 +1,6 @@
 -- How a join is made: as the final pass normalises two terms and tests their ends (Martin and Nipkow, Ordered Rewriting and
 -- Confluence).
-use Rattle.std.specs.Prelude.{ℕ, ◌≡◌, ◌<◌, List, [], ◌∷◌}
+use Rattle.std.specs.Prelude.{ℕ, ◌≡◌, ◌<◌, List, [], ◌∷◌, map}
 use Rattle.uc_term.specs.declared.equation.Equation.{Equation}
 use Rattle.uc_term.specs.Equations.{side_of}
 use Rattle.uc_term.specs.Positions.{IsPlaceOf}
@@ -17,10 +17,11 @@ use Rattle.uc_fact.specs.declared.fact.Overlap.{Overlap}
 use Rattle.uc_fact.specs.Live.{Live, numbered}
 use Rattle.uc_rewrite.specs.declared.normal.Normal.{Normal}
 use Rattle.uc_rewrite.specs.Normalising.{IsNormalOf}
-use Rattle.uc_ground.specs.Joining.{AreVariables, IsAnswer}
+use Rattle.uc_ground.specs.Joining.{AreVariables}
+use Rattle.uc_ac.specs.Ends.{IsEndsAnswer}
 use Rattle.uc_certificate.specs.declared.certificate.Case.{Case}
 use Rattle.uc_certificate.specs.declared.certificate.End.{End}
-use Rattle.uc_certificate.specs.declared.certificate.End.TheVariants.{Same, Instance, Orders}
+use Rattle.uc_certificate.specs.declared.certificate.End.TheVariants.{Same, Instance, Orders, Ac}
 use Rattle.uc_certificate.specs.declared.certificate.Join.{Join}
 use Rattle.uc_certificate.specs.declared.certificate.Move.{Move}
 use Rattle.uc_certificate.specs.declared.certificate.What.{What}
@@ -28,7 +29,7 @@ use Rattle.uc_certificate.specs.declared.certificate.What.TheVariants.{Axiom, Ov
 use Rattle.uc_certify.specs.declared.expected.Member.{Member}
 use Rattle.uc_certify.specs.Gathering.{IsKnownMember}
 use Rattle.uc_certify.specs.Expecting.{AreExpected, IsLargeMember}
-use Rattle.uc_certify.specs.Joining.{Names, AreSides}
+use Rattle.uc_certify.specs.Joining.{Names, AreSides, triple_of}
 
 -- the move is the step of a chain, with the path of its position in the term before it
 pub record IsMoveOf (before : Tree) (step : Step) (move : Move) : Type 0 where
@@ -60,7 +61,7 @@ module _ (m : Meaning) (live : List Live) where
     pub left_is : IsNormalOf m.greater m.least live 4096 l left
     pub right_is : IsNormalOf m.greater m.least live 4096 r right
     pub why : Reason
-    pub answer_is : IsAnswer m live left.term right.term (Joined why)
+    pub answer_is : IsEndsAnswer m live left.term right.term (Joined why)
 
   -- Under an order of their variables two ends come to one term: their representatives are normalised with 4,096 steps each, and
   -- the moves are these steps.
@@ -91,6 +92,7 @@ module _ (m : Meaning) (live : List Live) where
   SaysWhy s t reason.Same Same = Unit {0}
   SaysWhy s t (reason.Instance k) (Instance number) = number ≡ k
   SaysWhy s t reason.Orders (Orders cases) = AreAllCases s t cases
+  SaysWhy s t (reason.Ac list) (Ac triples) = triples ≡ map triple_of list
   SaysWhy s t why end = ⊥
 
   -- the moves are the steps by which the two terms are normalised, and the end says why their ends are joined

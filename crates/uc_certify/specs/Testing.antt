@@ -1,5 +1,6 @@
 -- What the parts of the tests of joins ask.
-use Rattle.std.specs.Prelude.{ℕ, ◌≡◌, List, map, slice_get, Some}
+use Rattle.std.specs.Prelude.{ℕ, ◌≡◌, List, [], ◌∷◌, map, slice_get, Some}
+use Rattle.uc_term.specs.declared.node.Sym.{Sym}
 use Rattle.uc_term.specs.declared.equation.Equation.{Equation}
 use Rattle.uc_term.specs.Equations.{side_of}
 use Rattle.uc_term.specs.Positions.{IsPlaceOf}
@@ -7,6 +8,9 @@ use Rattle.uc_term.specs.Tree.{Tree, apply}
 use Rattle.uc_order.specs.VarOrders.{Classes}
 use Rattle.uc_order.specs.Laws.{Meaning}
 use Rattle.uc_fact.specs.declared.fact.Overlap.{Overlap as AnyOverlap}
+use Rattle.uc_fact.specs.Live.{numbered}
+use Rattle.uc_ac.specs.AcFacts.{AreAcFacts}
+use Rattle.uc_certificate.specs.declared.certificate.AcTriple.{AcTriple}
 use Rattle.uc_certificate.specs.declared.certificate.Case.{Case}
 use Rattle.uc_certificate.specs.declared.certificate.Join.{Join}
 use Rattle.uc_certify.specs.declared.expected.Member.{Member}
@@ -21,6 +25,16 @@ pub record AreBoth (left s right t : Tree) : Type 0 where
 -- the cases are these orders of variables
 abbrev pub HaveOrders : List Case → List Classes → Type 0
 HaveOrders cases orders = map (λ (c : Case). c.cases) cases ≡ orders
+
+-- the three facts of a triple make the symbol associative and commutative
+abbrev pub MakesAc : List Equation → AcTriple → Sym → Type 0
+MakesAc facts triple f = AreAcFacts (numbered facts) (record { symbol = f; assoc = triple.assoc; comm = triple.comm; extended = triple.extended })
+
+-- those of each triple make the symbol at its place so
+abbrev pub MakeAc : List Equation → List AcTriple → List Sym → Type 0
+MakeAc facts [] [] = Unit {0}
+MakeAc facts (triple ∷ triples) (f ∷ fs) = MakesAc facts triple f × MakeAc facts triples fs
+MakeAc facts triples fs = ⊥
 
 -- the path leads to the overlap's position in the side of the outer fact
 pub record HasPath (facts : List Equation) (overlap : AnyOverlap) (path : List ℕ) : Type 0 where

@@ -1,20 +1,21 @@
 //! Why two ends are joined, with the moves under each order of their variables.
 
-ghost use Rattle.std.specs.Prelude.{IfOk};
+ghost use Rattle.std.specs.Prelude.{◌≡◌, map, IfOk};
 ghost use Rattle.uc_fact.specs.declared.joinable.Joinable.TheVariants.{Joined};
 ghost use Rattle.uc_fact.specs.declared.joinable.Reason.{Reason as AnyReason};
 ghost use Rattle.uc_fact.specs.declared.joinable.Reason.TheVariants as reason;
 ghost use Rattle.uc_order.specs.VarOrders.{HasOnly};
-ghost use Rattle.uc_ground.specs.Joining.{IsAnswer};
+ghost use Rattle.uc_ac.specs.Ends.{IsEndsAnswer};
 ghost use Rattle.uc_ground.specs.Ends.{EndsAgree};
+ghost use Rattle.uc_certify.specs.Joining.{triple_of};
 ghost use Rattle.uc_certify.specs.Making.{IsMadeCase, AreAllCases, SaysWhy};
 
 use crate::moves::moves_of;
 use crate::variables::rising_variables;
 use std::alloc::{AllocError, Global};
-use uc_certificate::{Case, End};
-use uc_fact::{Index, Joinable, Reason};
-use uc_ground::ground_join;
+use uc_ac::join_ends;
+use uc_certificate::{AcTriple, Case, End};
+use uc_fact::{AcFacts, Index, Joinable, Reason};
 use uc_order::{Order, var_orders};
 use uc_rewrite::normalise_under;
 use uc_term::{Seq, Term, VarOrder};
@@ -22,7 +23,7 @@ use uc_term::{Seq, Term, VarOrder};
 /// The most steps by which an end is normalised under an order of variables.
 const MOST_STEPS: u32 = 4096;
 
-/// What the test of two ends for ground joinability answers, of ends that it finds to be joined.
+/// What the tests of two ends answer, of ends that they find to be joined.
 pub(crate) fn end_of<O: Order, I: Index>(
     alloc: Global,
     s: &Term,
@@ -30,10 +31,10 @@ pub(crate) fn end_of<O: Order, I: Index>(
     index: &I,
     order: &O,
 ) -> Result<End, AllocError>
-    requires { (why : AnyReason) × IsAnswer (O.meaning order.now) (I.live index.now) s.now t.now (Joined why) }
-    ensures { IfOk result (λ end. (why : AnyReason) → IsAnswer (O.meaning order.now) (I.live index.now) s.now t.now (Joined why) → SaysWhy (O.meaning order.now) (I.live index.now) s.now t.now why end) }
+    requires { (why : AnyReason) × IsEndsAnswer (O.meaning order.now) (I.live index.now) s.now t.now (Joined why) }
+    ensures { IfOk result (λ end. (why : AnyReason) → IsEndsAnswer (O.meaning order.now) (I.live index.now) s.now t.now (Joined why) → SaysWhy (O.meaning order.now) (I.live index.now) s.now t.now why end) }
 {
-    match ground_join(alloc, s, t, index, order)? {
+    match join_ends(alloc, s, t, index, order)? {
         Joinable::Joined(why) => end_by(alloc, s, t, why, index, order),
         Joinable::Apart { .. } => unreachable!(),
         Joinable::TooManyVariables(_) => unreachable!(),
@@ -49,14 +50,30 @@ fn end_by<O: Order, I: Index>(
     index: &I,
     order: &O,
 ) -> Result<End, AllocError>
-    requires { IsAnswer (O.meaning order.now) (I.live index.now) s.now t.now (Joined why) }
+    requires { IsEndsAnswer (O.meaning order.now) (I.live index.now) s.now t.now (Joined why) }
     ensures { IfOk result (SaysWhy (O.meaning order.now) (I.live index.now) s.now t.now why) }
 {
     match why {
         Reason::Same => Ok(End::Same),
         Reason::Instance(number) => Ok(End::Instance(number)),
         Reason::Orders => Ok(End::Orders(cases_of(alloc, s, t, index, order)?)),
+        Reason::Ac(facts) => Ok(End::Ac(triples_of(alloc, facts.as_slice())?)),
     }
+}
+
+/// The numbers of the facts of each symbol, in order.
+fn triples_of(alloc: Global, facts: &[AcFacts]) -> Result<Seq<AcTriple>, AllocError>
+    ensures { IfOk result (λ triples. triples ≡ map triple_of facts.now) }
+{
+    let mut list = Vec::new(alloc);
+    for three in facts {
+        list.push(AcTriple {
+            assoc: three.assoc,
+            comm: three.comm,
+            extended: three.extended,
+        })?;
+    }
+    Ok(Seq::from_vec(list))
 }
 
 /// A case for each order of the variables of two ends, in the order of `var_orders`.
@@ -67,7 +84,7 @@ fn cases_of<O: Order, I: Index>(
     index: &I,
     order: &O,
 ) -> Result<Seq<Case>, AllocError>
-    requires { IsAnswer (O.meaning order.now) (I.live index.now) s.now t.now (Joined reason.Orders) }
+    requires { IsEndsAnswer (O.meaning order.now) (I.live index.now) s.now t.now (Joined reason.Orders) }
     ensures { IfOk result (AreAllCases (O.meaning order.now) (I.live index.now) s.now t.now) }
 {
     let vars = rising_variables(alloc, s, t)?;

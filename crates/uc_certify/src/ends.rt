@@ -10,6 +10,7 @@ ghost use Rattle.uc_certify.specs.Joining.{IsRightCase, AreRightCases, IsRightEn
 ghost use Rattle.uc_certify.specs.Testing.{AreBoth, HaveOrders};
 ghost use Rattle.uc_certify.specs.Knowing.{IsSetOf};
 
+use crate::ac_ends::are_right_triples;
 use crate::comparison::UnderCases;
 use crate::moving::{Rules, end_of_moves};
 use crate::variables::rising_variables;
@@ -40,6 +41,7 @@ pub(crate) fn is_right_end<O: Order>(
         End::Same => Ok(s.same(t)),
         End::Instance(number) => is_instance(alloc, rules.facts, s, t, *number),
         End::Orders(cases) => are_right_cases(alloc, rules, order, s, t, cases.as_slice()),
+        End::Ac(triples) => are_right_triples(alloc, rules.facts, s, t, triples.as_slice()),
     }
 }
 

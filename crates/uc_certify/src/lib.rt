@@ -3,6 +3,7 @@
 //! failure). A certificate that passes decides what follows from the axioms. And how one is made of facts that converge.
 #![tactic(auto)]
 
+mod ac_ends;
 mod certified;
 mod checking;
 mod comparison;

@@ -40,8 +40,9 @@ const MOST_STEPS: u32 = 4096;
 ///
 /// It has a join for every axiom in order, and then for every overlap, by outer fact, inner fact and the order of their overlaps.
 /// Each is made as the final pass tries it: the moves from both terms are the steps by which they are normalised, with 4,096 steps
-/// each, and the end is what the test of the two ends for ground joinability answers; where it tries the orders of their
-/// variables, each case has the steps by which the ends are normalised under that order.
+/// each, and the end is what the tests of the two ends answer. Where these are equal up to brackets and order at associative and
+/// commutative symbols, it has the facts that make the symbols so; where the orders of their variables are tried, each case has the
+/// steps by which the ends are normalised under that order.
 ///
 /// It passes all tests for each encoded problem with these axioms whose symbols are the description's, where the lines are right
 /// for its clauses, and each fact's line is a chain line of the fact's equation. The facts and the axioms are over the order's

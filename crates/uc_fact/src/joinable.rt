@@ -1,9 +1,10 @@
-//! What a test of ground joinability answers.
+//! What the tests of joinability answer.
 
-use uc_term::{Term, VarOrder};
+use crate::ac_facts::AcFacts;
+use uc_term::{Seq, Term, VarOrder};
 
 /// Why two terms are joinable.
-#[derive(Clone, Copy, PartialEq, Eq, Debug)]
+#[derive(Debug, Drop)]
 pub enum Reason {
     /// They are equal.
     Same,
@@ -11,6 +12,8 @@ pub enum Reason {
     Instance(u32),
     /// Under each order of their variables they are normalised to the same end.
     Orders,
+    /// They are equal up to brackets and order at the symbols that these facts make associative and commutative.
+    Ac(Seq<AcFacts>),
 }
 
 /// Whether each ground instance of two terms is joined by ground steps. `Joined` is sure; the other two say that the test

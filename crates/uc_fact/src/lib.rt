@@ -4,6 +4,7 @@
 //! ordered steps (Bachmair, Dershowitz and Plaisted, Completion without failure).
 #![tactic(auto)]
 
+mod ac_facts;
 mod chain;
 mod fact;
 mod index;
@@ -11,6 +12,7 @@ mod instance;
 mod joinable;
 mod laws;
 
+pub use ac_facts::AcFacts;
 pub use chain::{By, Chain, Step};
 pub use fact::{Fact, Origin, Overlap, Stop, System};
 pub use index::{Found, Index, Test, first_of};

@@ -20,7 +20,7 @@ use Rattle.uc_pair.specs.declared.formed.Size.TheVariants.{Weight, Same, Large}
 use Rattle.uc_pair.specs.Listing.{AreOverlaps}
 use Rattle.uc_pair.specs.Pairs.{IsPairOf}
 use Rattle.uc_ground.specs.Joining.{IsJoined}
-use Rattle.uc_ground.proofs.Joins.{joins}
+use Rattle.uc_ac.proofs.Ends.{ends_join as answer_joins}
 use Rattle.uc_shelf.specs.declared.entry.Entry.{Entry}
 use Rattle.uc_shelf.specs.Entries.{born, live}
 use Rattle.uc_shelf.specs.Rising.{live_rise}
@@ -106,7 +106,7 @@ module _ (m : Meaning) (laws : Laws m) (axioms : List Equation) (es : List Entry
     joinable = ends_join m laws (equations_of (live es)) over t.equation.left t.equation.right t.left.chain.steps t.right.chain.steps t.left.term t.right.term
         (linked m.greater m.least (live es) 4096 t.equation.left t.left.chain.steps t.left.term t.left.stop i.left_is.normalises)
         (linked m.greater m.least (live es) 4096 t.equation.right t.right.chain.steps t.right.term t.right.stop i.right_is.normalises)
-        (joins m laws (live es) over t.left.term t.right.term t.answer i.answer_is j);
+        (answer_joins (live es) m laws t.left.term t.right.term over t.answer i.answer_is j);
   }
 
   all_join : (os : List Origin) (ms : List Missing) → ms ≡ [] → Tests m axioms es os ms → Each Joins os

@@ -24,10 +24,11 @@ use uc_task::live_facts;
 ///
 /// Every axiom is tested in order, and then every overlap of two facts that live, also of a fact with itself, by outer fact,
 /// inner fact and the order of their overlaps, but those that are too large: both sides are normalised by the facts that live,
-/// with 4,096 steps each, and tested for ground joinability. The answer is the first of these that holds: `Missing`, where
-/// some of them aren't joined, with all that aren't, in this order; `Large`, where some overlap is too large, with the first;
-/// `GoalUnsettled`, where some goal is `Stuck`, with the first; `Convergent`, with the facts that live, in order. The pass is
-/// counted, also where it is refused for want of memory.
+/// with 4,096 steps each, and tested for equality up to brackets and order at associative and commutative symbols, and then, where
+/// they aren't equal so, for ground joinability. The answer is the first of these that holds: `Missing`, where some of them aren't
+/// joined, with all that aren't, in this order; `Large`, where some overlap is too large, with the first; `GoalUnsettled`, where
+/// some goal is `Stuck`, with the first; `Convergent`, with the facts that live, in order. The pass is counted, also where it is
+/// refused for want of memory.
 ///
 /// The overlaps are formed and the pairs are tested by as many threads as there are workers, and the answer is the same for every
 /// number of them. With one worker no thread is made.

@@ -25,7 +25,8 @@ use Rattle.uc_pair.specs.declared.formed.Formed.{Formed}
 use Rattle.uc_pair.specs.declared.formation.Formation.TheVariants.{Pair as Forms}
 use Rattle.uc_pair.specs.Listing.{AreOverlaps}
 use Rattle.uc_pair.specs.Pairs.{IsPairOf}
-use Rattle.uc_ground.specs.Joining.{IsAnswer, IsJoined}
+use Rattle.uc_ground.specs.Joining.{IsJoined}
+use Rattle.uc_ac.specs.Ends.{IsEndsAnswer}
 use Rattle.uc_shelf.specs.declared.entry.Entry.{Entry}
 use Rattle.uc_shelf.specs.Entries.{born, live}
 use Rattle.uc_machine.specs.declared.task.Job.{Job}
@@ -94,13 +95,13 @@ module _ (m : Meaning) where
     pub left_is : NormalOf entries 4096 l left
     pub right_is : NormalOf entries (4096 - length left.chain.steps) r right
 
-  -- Join: the pair's equation is taken, each side is normalised with 4,096 steps a side, and the ends are tried for ground
-  -- joinability.
+  -- Join: the pair's equation is taken, each side is normalised with 4,096 steps a side, and the ends are tested for equality up
+  -- to brackets and order, and then, where they aren't equal so, for ground joinability.
   pub record IsTrial (axioms : List Equation) (entries : List Entry) (origin : Origin) (t : Trial) : Type 0 where
     pub pair_is : IsPair axioms entries origin t.equation t.chain
     pub left_is : NormalOf entries 4096 t.equation.left t.left
     pub right_is : NormalOf entries 4096 t.equation.right t.right
-    pub answer_is : IsAnswer m (live entries) t.left.term t.right.term t.answer
+    pub answer_is : IsEndsAnswer m (live entries) t.left.term t.right.term t.answer
 
   -- The fact that the ends give, turned so that the greater one is left where one is greater; it is made over so many entries.
   pub data GivesFact (origin : Origin) (front : ℕ) (t : Trial) : Fact → Type 0 where

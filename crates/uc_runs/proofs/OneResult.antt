@@ -22,8 +22,9 @@ use Rattle.uc_pair.specs.Pairs.{IsPairOf}
 use Rattle.uc_pair.proofs.OnePair.{one_formation}
 use Rattle.uc_pair.proofs.Uniqueness.{same_each}
 use Rattle.uc_rewrite.specs.Normalising.{IsNormalOf}
-use Rattle.uc_ground.specs.Joining.{IsAnswer, IsJoined}
-use Rattle.uc_ground.proofs.Unique.{one_answer}
+use Rattle.uc_ground.specs.Joining.{IsJoined}
+use Rattle.uc_ac.specs.Ends.{IsEndsAnswer}
+use Rattle.uc_ac.proofs.Ends.{one_ends}
 use Rattle.uc_shelf.specs.declared.entry.Entry.{Entry}
 use Rattle.uc_shelf.specs.Entries.{live}
 use Rattle.uc_machine.specs.declared.task.Finding.{Finding}
@@ -80,14 +81,14 @@ module _ (m : Meaning) (laws : Laws m) where
     IsNormal t n = IsNormalOf m.greater m.least (live es) 4096 t n
 
     abbrev IsTold : Tree → Tree → Joinable → Type 0
-    IsTold s t a = IsAnswer m (live es) s t a
+    IsTold s t a = IsEndsAnswer m (live es) s t a
 
     one_trial : (origin : Origin) (t u : Trial) → IsTrial m axioms es origin t → IsTrial m axioms es origin u → t ≡ u
     one_trial origin t u i j =
         let p = one_pair axioms es origin t.equation u.equation t.chain u.chain i.pair_is j.pair_is in
         let l : t.left ≡ u.left = one_normal m.greater m.least (live es) 4096 t.equation.left t.left u.left i.left_is (subst (λ (e : Equation). IsNormal e.left u.left) (sym p.0) j.left_is) in
         let r : t.right ≡ u.right = one_normal m.greater m.least (live es) 4096 t.equation.right t.right u.right i.right_is (subst (λ (e : Equation). IsNormal e.right u.right) (sym p.0) j.right_is) in
-        let a : t.answer ≡ u.answer = one_answer m (live es) t.left.term t.right.term t.answer u.answer i.answer_is (subst (λ (n : Normal). IsTold n.term t.right.term u.answer) (sym l) (subst (λ (n : Normal). IsTold u.left.term n.term u.answer) (sym r) j.answer_is)) in
+        let a : t.answer ≡ u.answer = one_ends (live es) m t.left.term t.right.term t.answer u.answer i.answer_is (subst (λ (n : Normal). IsTold n.term t.right.term u.answer) (sym l) (subst (λ (n : Normal). IsTold u.left.term n.term u.answer) (sym r) j.answer_is)) in
         same_trial t u p.0 p.1 l r a
 
     one_fact : (origin : Origin) (front : ℕ) (t : Trial) (f g : Fact) → GivesFact m origin front t f → GivesFact m origin front t g → f ≡ g

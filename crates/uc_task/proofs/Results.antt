@@ -1,5 +1,5 @@
 -- What a task comes to, from what its parts come to.
-use Rattle.std.proofs.Common.{◌≡◌, ℕ, ◌-◌, List, length, slice_get, Option, Some, None, sym, subst}
+use Rattle.std.proofs.Common.{◌≡◌, ℕ, ◌-◌, List, length, slice_get, Option, Some, None, refl, sym, subst}
 use Rattle.uc_term.specs.Tree.{Tree}
 use Rattle.uc_term.specs.declared.equation.Equation.{Equation}
 use Rattle.uc_order.specs.Laws.{Meaning}
@@ -9,11 +9,12 @@ use Rattle.uc_pair.specs.declared.formed.Formed.{Formed}
 use Rattle.uc_fact.specs.declared.fact.Origin.{Origin}
 use Rattle.uc_fact.specs.declared.fact.Stop.{Stop}
 use Rattle.uc_fact.specs.declared.joinable.Joinable.{Joinable}
-use Rattle.uc_fact.specs.declared.joinable.Joinable.TheVariants.{Joined as IsJoinedBy}
+use Rattle.uc_fact.specs.declared.joinable.Joinable.TheVariants.{Joined as IsJoinedBy, Apart, TooManyVariables}
 use Rattle.uc_fact.specs.declared.joinable.Reason.{Reason}
 use Rattle.uc_rewrite.specs.declared.normal.Normal.{Normal}
 use Rattle.uc_rewrite.specs.Normalising.{IsNormalOf}
-use Rattle.uc_ground.specs.Joining.{IsAnswer, IsJoined}
+use Rattle.uc_ground.specs.Joining.{IsJoined}
+use Rattle.uc_ac.specs.Ends.{IsEndsAnswer}
 use Rattle.uc_shelf.specs.declared.entry.Entry.{Entry}
 use Rattle.uc_shelf.specs.Entries.{born, live}
 use Rattle.uc_shelf.specs.Rising.{live_rise}
@@ -29,6 +30,12 @@ use Rattle.uc_task.specs.declared.trial.Tried.TheVariants.{Joined as EndsJoin, O
 use Rattle.uc_task.specs.Trying.{IsTried, ends_join, ends_differ}
 use Rattle.uc_task.proofs.Meetings.{stale_found, none_stale}
 
+-- an answer that isn't that the ends are joined
+pub not_joined : (answer : Joinable) → ((why : Reason) → answer ≡ IsJoinedBy why → ⊥) → IsJoined answer → ⊥
+not_joined (IsJoinedBy why) n j = n why refl
+not_joined (Apart cases left right) n j = j
+not_joined (TooManyVariables k) n j = j
+
 module _ (m : Meaning) (axioms : List Equation) (entries : List Entry) where
   -- the two ends of a goal
   module _ (l r : Tree) (left right : Normal) (rest : ℕ) (stop : Stop) (a : IsNormalOf m.greater m.least (live entries) 4096 l left) (b : IsNormalOf m.greater m.least (live entries) rest r right) (is_rest : rest ≡ 4096 - length left.chain.steps) (is_stop : stop ≡ stop_of left.stop right.stop) where
@@ -42,12 +49,12 @@ module _ (m : Meaning) (axioms : List Equation) (entries : List Entry) where
     more_result g = subst (λ s. IsResult m axioms entries (More g l r) (Ends left.chain right.chain s)) (sym is_stop) (more_comes_to both)
 
   -- a pair that is tried
-  pub trial_is : (origin : Origin) (t : Trial) (seen : List Entry) → seen ≡ entries → IsPair axioms entries origin t.equation t.chain → IsNormalOf m.greater m.least (live seen) 4096 t.equation.left t.left → IsNormalOf m.greater m.least (live seen) 4096 t.equation.right t.right → IsAnswer m (live seen) t.left.term t.right.term t.answer → IsTrial m axioms entries origin t
+  pub trial_is : (origin : Origin) (t : Trial) (seen : List Entry) → seen ≡ entries → IsPair axioms entries origin t.equation t.chain → IsNormalOf m.greater m.least (live seen) 4096 t.equation.left t.left → IsNormalOf m.greater m.least (live seen) 4096 t.equation.right t.right → IsEndsAnswer m (live seen) t.left.term t.right.term t.answer → IsTrial m axioms entries origin t
   trial_is origin t seen e p a b i = record {
     pair_is = p;
     left_is = subst (λ es. IsNormalOf m.greater m.least (live es) 4096 t.equation.left t.left) e a;
     right_is = subst (λ es. IsNormalOf m.greater m.least (live es) 4096 t.equation.right t.right) e b;
-    answer_is = subst (λ es. IsAnswer m (live es) t.left.term t.right.term t.answer) e i;
+    answer_is = subst (λ es. IsEndsAnswer m (live es) t.left.term t.right.term t.answer) e i;
   }
 
   pub joined_trial : (origin : Origin) (t : Trial) (why : Reason) → IsTrial m axioms entries origin t → t.answer ≡ IsJoinedBy why → IsTried m axioms entries origin (EndsJoin why)

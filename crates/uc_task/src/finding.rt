@@ -15,9 +15,9 @@ use uc_order::Order;
 use uc_shelf::{Front, Shelf};
 
 /// What a job comes to over the facts that live in a front. The two ends of a goal are normalised, with 4,096 steps together.
-/// The two sides of a pair are normalised, with 4,096 steps each, and tested for ground joinability; what isn't joined gives a
-/// fact. A fact that another one reduces is stale; any other meets the earlier ones: it kills those that it reduces, and is
-/// overlapped with each of them and with itself.
+/// The two sides of a pair are normalised, with 4,096 steps each, and tested for equality up to brackets and order at associative
+/// and commutative symbols, and then for ground joinability; what isn't joined gives a fact. A fact that another one reduces is
+/// stale; any other meets the earlier ones: it kills those that it reduces, and is overlapped with each of them and with itself.
 pub fn finding_of<O: Order>(
     alloc: Global,
     job: &Job,

@@ -1,10 +1,8 @@
 //! Trials of pairs.
 
-ghost use Rattle.std.specs.Prelude.{◌≡◌, ◌≤◌, IfOk, MatchOption, length};
+ghost use Rattle.std.specs.Prelude.{◌≤◌, IfOk, length};
 ghost use Rattle.uc_term.specs.declared.equation.Equation.{Equation as AnyEquation};
 ghost use Rattle.uc_fact.specs.declared.joinable.Joinable.{Joinable as AnyJoinable};
-ghost use Rattle.uc_fact.specs.declared.joinable.Joinable.TheVariants.{Joined};
-ghost use Rattle.uc_ground.specs.Joining.{IsJoined};
 ghost use Rattle.uc_shelf.specs.Fronts.{IsOf};
 ghost use Rattle.uc_machine.specs.Origins.{IsKnownOrigin};
 ghost use Rattle.uc_machine.specs.Results.{GivesFact};
@@ -14,8 +12,8 @@ use crate::chains::{followed_by, reversed};
 use crate::fact::{End, Source, fact_of};
 use crate::pair::pair_from;
 use std::alloc::{AllocError, Global};
+use uc_ac::join_ends;
 use uc_fact::{Chain, Equation, Fact, Joinable, Origin, Reason};
-use uc_ground::ground_join;
 use uc_order::Order;
 use uc_rewrite::{Normal, normalise};
 use uc_shelf::{Front, Shelf};
@@ -32,8 +30,9 @@ pub enum Tried {
     Open { fact: Fact, answer: Joinable },
 }
 
-/// The two sides of a pair are normalised by the facts that live in a front, with 4,096 steps each, and the ends tested for
-/// ground joinability. Where they aren't joined, they give a fact.
+/// The two sides of a pair are normalised by the facts that live in a front, with 4,096 steps each. The ends are tested for
+/// equality up to brackets and order at associative and commutative symbols, and then, where they aren't equal so, for ground
+/// joinability. Where they aren't joined, they give a fact.
 pub fn try_pair<O: Order>(
     alloc: Global,
     origin: &Origin,
@@ -50,28 +49,17 @@ pub fn try_pair<O: Order>(
     let view = shelf.view(front);
     let left = normalise(alloc, &pair.equation.left, &view, order, MOST_STEPS)?;
     let right = normalise(alloc, &pair.equation.right, &view, order, MOST_STEPS)?;
-    let answer = ground_join(alloc, &left.term, &right.term, &view, order)?;
-    if let Some(why) = reason_of(&answer) {
-        return Ok(Tried::Joined(why));
-    }
-    let source = Source {
-        origin: *origin,
-        front: front.len(),
-    };
-    Ok(Tried::Open {
-        fact: kept(alloc, source, left, pair.chain, right, order)?,
-        answer,
-    })
-}
-
-/// Why two terms are joined. None exactly where the answer doesn't say that they are.
-fn reason_of(answer: &Joinable) -> Option<Reason>
-    ensures { MatchOption result (IsJoined answer.now → ⊥) (λ why. answer.now ≡ Joined why) }
-{
-    match answer {
-        Joinable::Joined(why) => Some(*why),
-        Joinable::Apart { .. } => None,
-        Joinable::TooManyVariables(_) => None,
+    let tested = join_ends(alloc, &left.term, &right.term, &view, order)?;
+    match tested {
+        Joinable::Joined(why) => Ok(Tried::Joined(why)),
+        answer => {
+            let source = Source {
+                origin: *origin,
+                front: front.len(),
+            };
+            let fact = kept(alloc, source, left, pair.chain, right, order)?;
+            Ok(Tried::Open { fact, answer })
+        }
     }
 }
 

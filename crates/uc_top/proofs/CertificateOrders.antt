@@ -32,7 +32,7 @@ use Rattle.uc_system.specs.Reading.{precedence_of, IsSystem}
 use Rattle.uc_certificate.specs.declared.certificate.Certificate.{Certificate}
 use Rattle.uc_certificate.specs.declared.certificate.Case.{Case}
 use Rattle.uc_certificate.specs.declared.certificate.End.{End}
-use Rattle.uc_certificate.specs.declared.certificate.End.TheVariants.{Same, Instance, Orders}
+use Rattle.uc_certificate.specs.declared.certificate.End.TheVariants.{Same, Instance, Orders, Ac}
 use Rattle.uc_certificate.specs.declared.certificate.Join.{Join}
 use Rattle.uc_certificate.specs.declared.certificate.Move.{Move}
 use Rattle.uc_certificate.specs.Arities.{KeepsArities, AllKeepArities, MovesKeepArities, CaseKeepsArities, EndKeepsArities, JoinKeepsArities, JoinsKeepArities}
@@ -86,6 +86,7 @@ module _ (table : Table) (spec : OrderSpec) (fits : Fits table (precedence_of sp
   end_keeps Same h = tt
   end_keeps (Instance number) h = tt
   end_keeps (Orders cases) h = each_mapped (CaseHas (IsOf table)) (CaseKeepsArities m) case_keeps cases h
+  end_keeps (Ac triples) h = tt
 
   join_keeps : (join : Join) → JoinHas (IsOf table) join → JoinKeepsArities m join
   join_keeps join h = (moves_keep join.left h.0, moves_keep join.right h.1, end_keeps join.end h.2)

@@ -1,7 +1,7 @@
 use Rattle.std.proofs.Common.{◌≡◌, ◌++◌, [], ◌∷◌, List, Option, Some, None, MatchOption, subst, sym}
 use Rattle.uc_term.specs.declared.node.Sym.{Sym}
 use Rattle.uc_fact.specs.Live.{Live}
-use Rattle.uc_ac.specs.declared.ac_facts.AcFacts.{AcFacts}
+use Rattle.uc_fact.specs.declared.ac_facts.AcFacts.{AcFacts}
 use Rattle.uc_ac.specs.Joining.{AreLeastFacts, IsAcSymbol}
 use Rattle.uc_ac.specs.Found.{AddsFacts, adds_facts, adds_none}
 use Rattle.uc_ac.proofs.joining.add_facts.Goals as goal

@@ -1,5 +1,5 @@
 use Rattle.std.proofs.Common.{◌++◌, List, drop}
-use Rattle.uc_ac.specs.declared.ac_facts.AcFacts.{AcFacts}
+use Rattle.uc_fact.specs.declared.ac_facts.AcFacts.{AcFacts}
 use Rattle.uc_ac.specs.Found.{Gathers}
 use Rattle.uc_ac.proofs.joining.facts_of_terms.Given as goal
 
