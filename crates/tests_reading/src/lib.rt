@@ -1,9 +1,15 @@
-//! Tests of the public calls of terms, the outside, clauses, problems, proofs, systems, words and the choice of an order. The
-//! crate stands above those, so that each of them is proved once.
+//! Tests of the public calls of terms, the outside, clauses, formulas, problems, proofs, systems, words and the choice of an
+//! order. The crate stands above those, so that each of them is proved once.
 #![tactic(auto)]
 
 #[cfg(test)]
 mod edge;
+#[cfg(test)]
+mod formula_refusals;
+#[cfg(test)]
+mod formulas;
+#[cfg(test)]
+mod formulas_told;
 #[cfg(test)]
 mod orders;
 #[cfg(test)]

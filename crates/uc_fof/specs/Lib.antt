@@ -1,0 +1,11 @@
+pub mod Rules
+pub mod Parse
+pub mod Terms
+pub mod Notes
+pub mod Formulas
+pub mod Meaning
+pub mod Refusals
+pub mod Interning
+pub mod Reading
+pub mod Given
+pub mod Constants
