@@ -3,11 +3,13 @@
 
 mod assembly;
 mod candidates;
+mod closing;
 mod counts;
 mod encoding;
 mod fault;
 mod fetch;
 mod files;
+mod flat;
 mod laws;
 mod loading;
 mod locating;
@@ -20,6 +22,7 @@ pub use counts::Counts;
 pub use encoding::encode;
 pub use fault::{EncodeFault, LoadFault};
 pub use fetch::MAX_FILE;
+pub use flat::FlatClause;
 pub use laws::{encoding_is_sound, one_problem};
 pub use loading::load;
 pub use marking::marks;
