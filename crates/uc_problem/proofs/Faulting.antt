@@ -4,7 +4,6 @@ use Rattle.uc_edge.specs.Faults.{IsCounted, next}
 use Rattle.uc_clause.specs.declared.clause.Clause as read
 use Rattle.uc_clause.specs.declared.clause.Name.{Name}
 use Rattle.uc_clause.specs.declared.clause.Include.{Include}
-use Rattle.uc_clause.specs.declared.clause.Sourced.{Sourced}
 use Rattle.uc_clause.specs.declared.token.Place.{Place}
 use Rattle.uc_clause.specs.declared.fault.ClauseFault.{ClauseFault}
 use Rattle.uc_problem.specs.declared.counts.Counts.{Counts}
@@ -12,6 +11,7 @@ use Rattle.uc_problem.specs.declared.fault.LoadFault.{LoadFault}
 use Rattle.uc_problem.specs.declared.fault.LoadFault.TheVariants.{Absent, ReadFault, TooDeep, NoSuchName, ArityClash, Limit, Clause, NoMemory}
 use Rattle.uc_problem.specs.Fetching.{failing_of, IsFaultedBy, IsFaulted}
 use Rattle.uc_problem.specs.Loading.{selected, listed_or, first_missing}
+use Rattle.uc_problem.specs.declared.flat.FlatClause.{FlatClause}
 use Rattle.uc_problem.specs.Parts.{IsNotRead, IsTaken, IsSelection}
 
 -- after calls in which no fetch failed
@@ -58,30 +58,30 @@ unread_fails name fault (ArityClash file place n one two) h = absurd h
 unread_fails name fault (Limit file place what) h = absurd h
 
 -- a clause that is taken
-taken_fails : (name : List ℕ) (c : read.Clause) (old new : Counts) (why : LoadFault) → IsTaken name c old new (Err why) → failing_of why ≡ None
-taken_fails name c old new NoMemory h = refl
-taken_fails name c old new (ReadFault file) h = ap failing_of h.1
-taken_fails name c old new (Clause file other) h = refl
-taken_fails name c old new (Absent file from) h = refl
-taken_fails name c old new (TooDeep file place) h = refl
-taken_fails name c old new (NoSuchName file place n) h = refl
-taken_fails name c old new (ArityClash file place n one two) h = refl
-taken_fails name c old new (Limit file place what) h = refl
+taken_fails : (name : List ℕ) (c : read.Clause) (conjecture : Option Place) (old new : Counts) (why : LoadFault) → IsTaken name c conjecture old new (Err why) → failing_of why ≡ None
+taken_fails name c conjecture old new NoMemory h = refl
+taken_fails name c conjecture old new (ReadFault file) h = ap failing_of h.1
+taken_fails name c conjecture old new (Clause file other) h = refl
+taken_fails name c conjecture old new (Absent file from) h = refl
+taken_fails name c conjecture old new (TooDeep file place) h = refl
+taken_fails name c conjecture old new (NoSuchName file place n) h = refl
+taken_fails name c conjecture old new (ArityClash file place n one two) h = refl
+taken_fails name c conjecture old new (Limit file place what) h = refl
 
-pub taken_faulted : (name : List ℕ) (c : read.Clause) (old new : Counts) (r : Result (List Sourced) LoadFault) (count : ℕ) (names : List (List ℕ)) → IsTaken name c old new r → IsFaulted r count count names names
-taken_faulted name c old new (Ok clauses) count names h = (refl, refl)
-taken_faulted name c old new (Err why) count names h = no_failure why (taken_fails name c old new why h) (refl, refl)
+pub taken_faulted : (name : List ℕ) (c : read.Clause) (conjecture : Option Place) (old new : Counts) (r : Result (List FlatClause) LoadFault) (count : ℕ) (names : List (List ℕ)) → IsTaken name c conjecture old new r → IsFaulted r count count names names
+taken_faulted name c conjecture old new (Ok clauses) count names h = (refl, refl)
+taken_faulted name c conjecture old new (Err why) count names h = no_failure why (taken_fails name c conjecture old new why h) (refl, refl)
 
 -- a selection
-listed_fails : (name : List ℕ) (names : List (Name × Place)) (given : List Sourced) (missing : Option (Name × Place)) (file : List ℕ) → Path (Result (List Sourced) LoadFault) (Err (ReadFault file)) (listed_or name names given missing) → ⊥
+listed_fails : (name : List ℕ) (names : List (Name × Place)) (given : List FlatClause) (missing : Option (Name × Place)) (file : List ℕ) → Path (Result (List FlatClause) LoadFault) (Err (ReadFault file)) (listed_or name names given missing) → ⊥
 listed_fails name names given None file e = absurd cc
 listed_fails name names given (Some missing) file e = absurd cc
 
-selected_fails : (name : List ℕ) (names : Option (List (Name × Place))) (given : List Sourced) (file : List ℕ) → Path (Result (List Sourced) LoadFault) (Err (ReadFault file)) (selected name names given) → ⊥
+selected_fails : (name : List ℕ) (names : Option (List (Name × Place))) (given : List FlatClause) (file : List ℕ) → Path (Result (List FlatClause) LoadFault) (Err (ReadFault file)) (selected name names given) → ⊥
 selected_fails name None given file e = absurd cc
 selected_fails name (Some names) given file e = listed_fails name names given (first_missing given names) file e
 
-selection_fails : (name : List ℕ) (i : Include) (given : List Sourced) (why : LoadFault) → IsSelection name i given (Err why) → failing_of why ≡ None
+selection_fails : (name : List ℕ) (i : Include) (given : List FlatClause) (why : LoadFault) → IsSelection name i given (Err why) → failing_of why ≡ None
 selection_fails name i given (ReadFault file) h = absurd (selected_fails name i.names given file h)
 selection_fails name i given NoMemory h = refl
 selection_fails name i given (Clause file other) h = refl
@@ -91,6 +91,6 @@ selection_fails name i given (NoSuchName file place n) h = refl
 selection_fails name i given (ArityClash file place n one two) h = refl
 selection_fails name i given (Limit file place what) h = refl
 
-pub selection_faulted : (name : List ℕ) (i : Include) (given : List Sourced) (r : Result (List Sourced) LoadFault) {before now : ℕ} {old new : List (List ℕ)} → IsSelection name i given r → IsCounted None before now old new → IsFaulted r before now old new
+pub selection_faulted : (name : List ℕ) (i : Include) (given : List FlatClause) (r : Result (List FlatClause) LoadFault) {before now : ℕ} {old new : List (List ℕ)} → IsSelection name i given r → IsCounted None before now old new → IsFaulted r before now old new
 selection_faulted name i given (Ok clauses) h k = k
 selection_faulted name i given (Err why) h k = no_failure why (selection_fails name i given why h) k

@@ -7,6 +7,7 @@ pub mod Includes
 pub mod Sound
 pub mod Growth
 pub mod Occurring
+pub mod Closed
 pub mod Problems
 pub mod Fillings
 pub mod Sides

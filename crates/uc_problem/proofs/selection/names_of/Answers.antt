@@ -5,4 +5,4 @@ use Rattle.uc_problem.proofs.NameKeys.{nothing_behind}
 use Rattle.uc_problem.proofs.selection.names_of.Goals as goal
 
 pub returns : goal.returns
-returns c = λ name. nothing_behind (λ clauses. gives_name clauses name) c.args.clauses.now c.loop-sourced.sourced-index (has_name c.loop-sourced.given.words.keys c.loop-sourced.given.integers.keys name) refl (c.loop-sourced.invariant name) c.loop-sourced-test.false
+returns c = λ name. nothing_behind (λ clauses. gives_name clauses name) c.args.clauses.now c.loop-flat.flat-index (has_name c.loop-flat.given.words.keys c.loop-flat.given.integers.keys name) refl (c.loop-flat.invariant name) c.loop-flat-test.false
