@@ -31,6 +31,7 @@ use Rattle.uc_problem.proofs.Later.{Grows-refl}
 use Rattle.uc_problem.proofs.Growth.{pushed}
 use Rattle.uc_problem.proofs.Outcomes.{some_once, some_or_none, ok_once, second_once}
 use Rattle.uc_problem.proofs.SignatureOnce.{gathers_once}
+use Rattle.uc_problem.proofs.ClosedOnce.{closed_once}
 use Rattle.uc_problem.proofs.HoldsOnce.{clauses_once, agrees_once}
 use Rattle.uc_problem.proofs.AddedOnce.{distinct_earlier, adds_grows, known_adds_nothing, adds_once}
 

@@ -21,6 +21,8 @@ pub mod LoadsOnce
 pub mod SignatureOnce
 pub mod HoldsOnce
 pub mod AddedOnce
+pub mod AlikeSymbols
+pub mod ClosedOnce
 pub mod FilledOnce
 pub mod MarksOnce
 pub mod RefusedOnce
