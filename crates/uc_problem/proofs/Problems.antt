@@ -73,7 +73,7 @@ module _ (root : Option (List ℕ)) (name : List ℕ) (t u v : Table) (first : G
   is_refused holds before now first_fault last _ f wants_memory = tt
   is_refused None before now first_fault last _ f (has_none (clashes g s l)) = tt
   is_refused None before now first_fault last _ f (has_none (is_too_many g l)) = tt
-  is_refused (Some files) before now first_fault last _ f (has_none (clashes {f = h} {file = file} {place = place} {first = a} {second = b} g s l)) = refused_in files before now (fault.ArityClash file place (name_of u h) a b) f (clashes g s l)
+  is_refused (Some files) before now first_fault last _ f (has_none (clashes {first = a} {second = b} {f = h} {file = file} {place = place} g s l)) = refused_in files before now (fault.ArityClash file place (name_of u h) a b) f (clashes g s l)
   is_refused (Some files) before now first_fault last _ f (has_none (is_too_many {file = file} {place = place} g l)) = refused_in files before now (fault.Limit file place Symbols) f (is_too_many g l)
 
   pub refused_by : (holds : Option Files) (before now first_fault last : ℕ) (r : Result Problem LoadFault) → IsFlat t holds before now root name (Ok flats) → IfErr r (IsUnsigned u clauses) → IfErr r (IsLoadFault v holds first_fault last root name)

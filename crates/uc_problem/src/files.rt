@@ -6,7 +6,7 @@ ghost use Rattle.uc_term.specs.Table.{Grows};
 ghost use Rattle.uc_problem.specs.Fetching.{cut, IsFaulted};
 ghost use Rattle.uc_problem.specs.Holds.{ReadsAs};
 ghost use Rattle.uc_problem.specs.Filling.{WhereTold, FillsFile, FillsItem, FillsInclude};
-ghost use Rattle.uc_problem.specs.Loading.{LoadsFile};
+ghost use Rattle.uc_problem.specs.Loading.{LoadsFile, place_if};
 ghost use Rattle.uc_problem.specs.Parts.{IsPart, ItemComesTo, IsNotRead, IsTaken, IsSelection};
 ghost use Rattle.uc_problem.specs.Sound.{IsSoundItem, IsSoundPart};
 
@@ -114,9 +114,16 @@ fn load_item<L: Library>(
             counts,
             name,
             clause,
-            conjecture.then_some(role_place),
+            place_if(conjecture, role_place),
         ),
     }
+}
+
+// Where a conjecture says so.
+fn place_if(conjecture: bool, place: Place) -> Option<Place>
+    ensures { result ≡ place_if conjecture place }
+{
+    if conjecture { Some(place) } else { None }
 }
 
 // A clause of the file of this name, and where it says `conjecture`, if it does.

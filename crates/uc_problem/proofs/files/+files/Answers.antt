@@ -9,7 +9,10 @@ use Rattle.uc_problem.specs.Parts.{ItemComesTo}
 use Rattle.uc_problem.proofs.Faulting.{kept_on, same_refusal, no_failure, unread_fails, taken_faulted, selection_faulted}
 use Rattle.uc_problem.proofs.Later.{Grows-refl, Grows-trans}
 use Rattle.uc_problem.proofs.Items.{begin, go_on, end, stop, unread, none_left, same_part}
-use Rattle.uc_problem.proofs.Includes.{taken, deep, many, failed, missing_of, held_of_names, inside_stops, chosen}
+use Rattle.uc_clause.specs.declared.clause.Item.TheVariants as Item
+use Rattle.uc_fof.specs.declared.item.FofItem.TheVariants as FofItem
+use Rattle.uc_problem.specs.Loading.{place_if}
+use Rattle.uc_problem.proofs.Includes.{clause_gives, formula_gives, taken, deep, many, failed, missing_of, held_of_names, inside_stops, chosen}
 use Rattle.uc_problem.proofs.Fillings.{leaves_all, leaves_one, leaves_none, taken_filled, found_filled}
 use Rattle.uc_problem.proofs.Sound.{none_sound, file_sound, go_on_sound, items_later, taken_sound, selected_sound}
 use Rattle.uc_problem.proofs.files.+files.Goals as goal
@@ -132,3 +135,11 @@ load_include-returns-in_err-given-clause-counted g t c =
 
 pub load_include-returns-clause-counted : goal.load_include-returns-clause-counted
 load_include-returns-clause-counted g t c = selection_faulted c.args.name.now c.args.include.now c.in_ok-given.given c.select.result c.select.ensures (kept_on None _ _ c.in_ok-found.ensures.counted c.in_ok-given.ensures.counted)
+
+pub load_item-returns-in-Item-Clause-clause-part : goal.load_item-returns-in-Item-Clause-clause-part
+load_item-returns-in-Item-Clause-clause-part g t c =
+    rw (c.in-Item-Clause.is, c.in-Item-Clause.field-0-is) (taken (g.L.Library.holds c.args.library.now) c.args.search.folder.now (option_copied c.args.search.root) c.args.depth c.args.name.now c.args.counts.now (FofItem.Item (Item.Clause c.in-Item-Clause.clause)) c.in-Item-Clause.clause None c.args.symbols.now (g.L.Library.faults c.args.library.now) (g.L.Library.faults c.args.library.now) c.take_clause.new.counts c.take_clause.result (clause_gives (g.L.Library.holds c.args.library.now) c.args.search.folder.now (option_copied c.args.search.root) c.args.depth c.args.name.now c.args.counts.now c.in-Item-Clause.clause) c.take_clause.ensures)
+
+pub load_item-returns-in-Formula-clause-part : goal.load_item-returns-in-Formula-clause-part
+load_item-returns-in-Formula-clause-part g t c =
+    rw c.in-Formula.is (taken (g.L.Library.holds c.args.library.now) c.args.search.folder.now (option_copied c.args.search.root) c.args.depth c.args.name.now c.args.counts.now (FofItem.Formula c.in-Formula.clause c.in-Formula.conjecture c.in-Formula.role_place) c.in-Formula.clause (place_if c.in-Formula.conjecture c.in-Formula.role_place) c.args.symbols.now (g.L.Library.faults c.args.library.now) (g.L.Library.faults c.args.library.now) c.take_clause-in-Formula.new.counts c.take_clause-in-Formula.result (formula_gives (g.L.Library.holds c.args.library.now) c.args.search.folder.now (option_copied c.args.search.root) c.args.depth c.args.name.now c.args.counts.now c.in-Formula.clause c.in-Formula.conjecture c.in-Formula.role_place) (rw c.place_if.ensures at c.take_clause-in-Formula.ensures))
