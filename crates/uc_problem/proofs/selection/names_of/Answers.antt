@@ -8,4 +8,4 @@ pub returns : goal.returns
 returns c = λ name. nothing_behind (λ clauses. gives_name clauses name) c.args.clauses.now c.loop-flat.flat-index (has_name c.loop-flat.given.words.keys c.loop-flat.given.integers.keys name) refl (c.loop-flat.invariant name) c.loop-flat-test.false
 
 pub loop-flat-preserved : goal.loop-flat-preserved
-loop-flat-preserved c = λ name. one_behind (λ clauses. gives_name clauses name) (λ s. same_name s.clause.name name) (λ s ss. refl) c.args.clauses.now c.loop-flat.flat-index c.flat-item.result _ _ c.flat-item.is (c.loop-flat.invariant name) (c.in_ok-insert.ensures name)
+loop-flat-preserved c = λ name. one_behind (λ clauses. gives_name clauses name) (λ s. same_name s.clause.name name) (λ s ss. refl) c.args.clauses.now c.loop-flat.flat-index c.flat-item.result _ _ c.loop-flat-test.true c.flat-item.is (c.loop-flat.invariant name) (c.in_ok-insert.ensures name)
