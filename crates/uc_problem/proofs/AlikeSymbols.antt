@@ -1,19 +1,19 @@
 -- Symbols that have one name and one arity in two tables, and what occurrences of such symbols gather to.
-use Rattle.std.proofs.Common.{◌≡◌, ℕ, zero, suc, ◌+◌, ◌<◌, ◌==◌, ◌||◌, Bool, true, false, List, [], ◌∷◌, ◌++◌, length, slice_get, bytes_eq, Option, Some, None, Result, Ok, if◌then◌else◌, refl, sym, ap, ap₂, ◌∙◌, subst, arith}
+use Rattle.std.proofs.Common.{◌≡◌, ℕ, zero, suc, ◌+◌, ◌<◌, ◌==◌, ◌||◌, Bool, true, false, List, [], ◌∷◌, ◌++◌, length, slice_get, bytes_eq, Some, None, Result, Ok, if◌then◌else◌, refl, sym, ap, ap₂, ◌∙◌, subst, arith}
 use Rattle.std.specs.List.{list_any}
 use Rattle.std.proofs.lemmas.Bool.{eqb-true, eq-eqb}
 use Rattle.uc_term.specs.declared.node.Node.{Node}
 use Rattle.uc_term.specs.declared.node.Node.TheVariants.{Var, App}
 use Rattle.uc_term.specs.declared.node.Sym.{Sym}
 use Rattle.uc_term.specs.declared.fault.TermFault.{TermFault}
-use Rattle.uc_term.specs.Tree.{Tree, var, app, Trees, none, more, count, apply, apply_all}
+use Rattle.uc_term.specs.Tree.{Tree, var, app, Trees, none, more, apply, apply_all}
 use Rattle.uc_term.specs.Flat.{flat, flat_all}
 use Rattle.uc_term.specs.Over.{AreOver}
 use Rattle.uc_term.specs.Table.{Table, Entry, entry_of, name_of, arity_of, Has, IsDistinct, IsOf, Grows}
 use Rattle.uc_term.specs.Signatures.{Occurrence, occurrences_in, Gathers, all_seen, seen_before, is_new, same_symbol, first_named}
 use Rattle.uc_term.proofs.Grown.{entry-grows}
 use Rattle.uc_fof.specs.Constants.{constant_or_variable, constant_for}
-use Rattle.uc_problem.specs.Conjecture.{is_named, has_named, is_taken}
+use Rattle.uc_problem.specs.Conjecture.{is_named}
 use Rattle.uc_problem.proofs.Sound.{has_later}
 use Rattle.uc_problem.proofs.AddedOnce.{get_entry}
 
@@ -117,6 +117,11 @@ module _ (N M : Table) where
         let few : length others < 60000 = omega (arith, m, many_alike s) in
         (rest.0, is_new free few rest.1)
     gathers_alike s o g e = absurd cc
+
+-- symbols that are alike stay so where the first table grows
+pub alike_later : (N M new : Table) → Grows N new → {fs gs : List Sym} → AreAlike N M fs gs → AreAlike new M fs gs
+alike_later N M new g none_alike = none_alike
+alike_later N M new g (one_alike {f = f} a rest) = one_alike (record { has = has_later N new g f a.has; has_other = a.has_other; same = entry-grows N new g f a.has ∙ a.same }) (alike_later N M new g rest)
 
 -- the symbols of a table are alike in any two tables that grew from it
 module _ (old N M : Table) (to_N : Grows old N) (to_M : Grows old M) where

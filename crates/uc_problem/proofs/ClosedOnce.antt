@@ -1,24 +1,27 @@
 -- The constants of a conjecture are one list and make one table, and the clauses with them are one list.
-use Rattle.std.proofs.Common.{◌≡◌, ℕ, zero, suc, ◌+◌, ◌<◌, ◌≤◌, ◌||◌, Bool, true, false, List, [], ◌∷◌, length, unwrap_or, Option, Some, None, refl, sym, ap, ap₂, ◌∙◌, subst, arith, ◌⊎◌, inl, inr}
+use Rattle.std.proofs.Common.{◌≡◌, ℕ, zero, suc, ◌+◌, ◌<◌, ◌≤◌, ◌||◌, Bool, true, false, List, [], ◌∷◌, length, slice_get, unwrap_or, Option, Some, None, refl, sym, ap, ap₂, ◌∙◌, subst, arith, ◌⊎◌, inl, inr}
 use Rattle.std.proofs.lemmas.Option.{slice_get_within}
 use Rattle.uc_term.specs.declared.node.Sym.{Sym}
-use Rattle.uc_term.specs.Tree.{Tree}
-use Rattle.uc_term.specs.Table.{Table, Entry, entry_of, Has, IsSymbol, IsDistinct, IsOf, Grows}
+use Rattle.uc_term.specs.Tree.{Tree, var, app, Trees, none, more, apply, apply_all}
+use Rattle.uc_term.specs.Over.{AreOver}
+use Rattle.uc_term.specs.Table.{Table, Entry, entry_of, arity_of, Has, IsSymbol, IsDistinct, IsOf, Grows}
 use Rattle.uc_term.specs.Gathering.{AreOf}
 use Rattle.uc_term.specs.Flat.{flat}
-use Rattle.uc_term.specs.Signatures.{occurrences_in, occurrences_from}
+use Rattle.uc_term.specs.Signatures.{occurrences_from}
 use Rattle.uc_term.proofs.Grown.{entry-grows}
+use Rattle.uc_term.proofs.Joins.{count-apply_all}
 use Rattle.uc_clause.specs.declared.token.Place.{Place}
 use Rattle.uc_clause.specs.declared.clause.Clause.{Clause}
 use Rattle.uc_clause.specs.declared.clause.Sourced.{Sourced}
+use Rattle.uc_fof.specs.Constants.{constant_or_variable, constant_for}
 use Rattle.uc_problem.specs.declared.flat.FlatClause.{FlatClause}
-use Rattle.uc_problem.specs.Conjecture.{flat_terms, constant_name, is_taken, AreNamed, no_constant, a_constant, closed_if, closed_one, closed_all, AreClosed}
+use Rattle.uc_problem.specs.Conjecture.{flat_terms, constant_name, is_taken, AreNamed, no_constant, a_constant, closed_if, closed_all, AreClosed}
 use Rattle.uc_problem.specs.Holds.{terms_of}
-use Rattle.uc_problem.specs.Filling.{AddsOne, AddsAll, adds_none, adds_first}
+use Rattle.uc_problem.specs.Filling.{AddsAll, adds_none, adds_first}
 use Rattle.uc_problem.proofs.Later.{Grows-refl, Grows-trans}
-use Rattle.uc_problem.proofs.Outcomes.{yes_or_no}
+use Rattle.uc_problem.proofs.Outcomes.{yes_or_no, some_once}
 use Rattle.uc_problem.proofs.AddedOnce.{distinct_earlier, adds_grows, one_adds_once}
-use Rattle.uc_problem.proofs.AlikeSymbols.{IsAlike, AreAlike, none_alike, one_alike, NodesAlike, OccurAlike, none_occurs, occur_append, nodes_occur, names_alike, alike_once, term_alike, closed_alike}
+use Rattle.uc_problem.proofs.AlikeSymbols.{AreAlike, none_alike, one_alike, NodesAlike, OccurAlike, none_occurs, occur_append, nodes_occur, names_alike, alike_once, term_alike, closed_alike}
 
 -- the first number from here on that isn't taken is one
 module _ (taken others : ℕ → Bool) (same : (k : ℕ) → taken k ≡ others k) (from m n : ℕ) where
@@ -82,6 +85,37 @@ module _ (flats : List FlatClause) where
 
     pub closed_once : {a b : List Sourced} {m n : Option ℕ} → AreClosed table flats a m → AreClosed table flats b n → (a ≡ b) × (m ≡ n)
     closed_once x y = (x.clauses_are ∙ ap (λ cs. closed_all cs flats) (constants_once x y) ∙ sym y.clauses_are, x.conjecture_is ∙ sym y.conjecture_is)
+
+-- the clauses with their constants are over the table
+module _ (table : Table) where
+  constants_of : {ts : List Tree} {from : ℕ} {cs : List Sym} → AreNamed table ts from cs → (x i : ℕ) → IsOf table (constant_or_variable x (slice_get cs i))
+  constants_of no_constant x i = tt
+  constants_of (a_constant {n = n} {c = c} l t f s rest) x zero = (slice_get_within table c.0 (constant_entry n) s, sym (ap (λ (e : Entry). e.arity) (named_entry table c (constant_name n) s)), tt)
+  constants_of (a_constant l t f s rest) x (suc i) = constants_of rest x i
+
+  module _ (σ : ℕ → Tree) (of : (x : ℕ) → IsOf table (σ x)) where
+    mutual
+      instance_of : (t : Tree) → IsOf table t → IsOf table (apply σ t)
+      instance_of (var x) o = of x
+      instance_of (app f ts) o = (o.0, count-apply_all σ ts ∙ o.1, instances_of ts o.2)
+
+      instances_of : (ts : Trees) → AreOver (Has table) (arity_of table) (λ _. Unit {0}) ts → AreOver (Has table) (arity_of table) (λ _. Unit {0}) (apply_all σ ts)
+      instances_of none o = tt
+      instances_of (more t ts) o = (instance_of t o.0, instances_of ts o.1)
+
+  module _ {ts : List Tree} {cs : List Sym} (named : AreNamed table ts 1 cs) where
+    side_of : (o : Option Place) (c : Clause) → IsOf table c.left → IsOf table c.right → IsOf table (closed_if cs o c).left × IsOf table (closed_if cs o c).right
+    side_of None c l r = (l, r)
+    side_of (Some place) c l r = (instance_of (constant_for cs) (λ x. constants_of named x x) c.left l, instance_of (constant_for cs) (λ x. constants_of named x x) c.right r)
+
+    pub closed_of : (flats : List FlatClause) → AreOf table (flat_terms flats) → AreOf table (terms_of (closed_all cs flats))
+    closed_of [] of i t e = absurd cc
+    closed_of (s ∷ ss) of i t e = go i e (side_of s.conjecture s.clause (of 0 s.clause.left refl) (of 1 s.clause.right refl)) (closed_of ss (λ j u d. of (suc (suc j)) u d))
+      where
+        go : (i : ℕ) → slice_get (terms_of (closed_all cs (s ∷ ss))) i ≡ Some t → IsOf table (closed_if cs s.conjecture s.clause).left × IsOf table (closed_if cs s.conjecture s.clause).right → AreOf table (terms_of (closed_all cs ss)) → IsOf table t
+        go zero e sides later = subst (IsOf table) (some_once refl e) sides.0
+        go (suc zero) e sides later = subst (IsOf table) (some_once refl e) sides.1
+        go (suc (suc i)) e sides later = later i t e
 
 -- in two tables that grew from one over which the terms are
 module _ (old N M : Table) (to_N : Grows old N) (to_M : Grows old M) where
