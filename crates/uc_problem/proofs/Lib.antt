@@ -29,3 +29,7 @@ pub mod RefusedOnce
 pub mod NameKeys
 pub mod Encodings
 pub mod EncodedOnce
+pub mod TakenKeys
+pub mod ClosedTerms
+pub mod ConstantNames
+pub mod SingleConjecture

@@ -1,11 +1,11 @@
 //! A conjecture's variables, in whose place stand fresh constants.
 
-ghost use Rattle.std.specs.Prelude.{◌≡◌, ◌≤◌, ◌++◌, ℕ, List, length, IfOk, IfErr};
+ghost use Rattle.std.specs.Prelude.{◌≡◌, ◌≤◌, ◌<◌, ◌-◌, ◌^◌, List, length, IfOk, IfErr};
 ghost use Rattle.uc_term.specs.Tree.{Tree, apply};
 ghost use Rattle.uc_term.specs.Table.{Grows, IsOf};
 ghost use Rattle.uc_term.specs.Gathering.{AreOf};
 ghost use Rattle.uc_fof.specs.Constants.{constant_for};
-ghost use Rattle.uc_problem.specs.Conjecture.{conjectures, conjecture_from, constants_needed, flat_terms, variable_count, variables_below, constant_name, has_named, is_taken, AreNamed, AreConstants, closed, closed_one, closed_all};
+ghost use Rattle.uc_problem.specs.Conjecture.{conjectures, conjecture_from, constants_needed, flat_terms, variable_count, variables_below, constant_name, has_named, AreNamed, AreConstants, closed, closed_one, closed_all};
 ghost use Rattle.uc_problem.specs.Closing.{AreTaken, TakesName, IsNextFree, closed_node};
 ghost use Rattle.uc_problem.specs.Filling.{AddsAll};
 ghost use Rattle.uc_problem.specs.Assembly.{AreSoundFew, AreSoundFewFlats, Closes, IsUnclosed};
@@ -185,7 +185,8 @@ fn next_free(
     names: &IndexSet<Vec<u8>>,
     from: usize,
 ) -> Result<(usize, Vec<u8>), AllocError>
-    ensures { IfOk result (λ free. IsNextFree names.now.keys from free.0 free.1.items) }
+    ensures next { IfOk result (λ free. IsNextFree names.now.keys from free.0 free.1.items) }
+    ensures small { IfOk result (λ free. free.0 < 2 ^ 64 - 1) }
 {
     for number in from..usize::MAX {
         let name = constant_name(alloc, number)?;
