@@ -26,6 +26,9 @@ pub mod ClosedOnce
 pub mod FilledOnce
 pub mod MarksOnce
 pub mod RefusedOnce
+pub mod ConstantsApart
+pub mod ConjectureRead
+pub mod GoalLaw
 pub mod NameKeys
 pub mod Encodings
 pub mod EncodedOnce

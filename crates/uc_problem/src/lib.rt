@@ -23,7 +23,7 @@ pub use encoding::encode;
 pub use fault::{EncodeFault, LoadFault};
 pub use fetch::MAX_FILE;
 pub use flat::FlatClause;
-pub use laws::{encoding_is_sound, one_problem};
+pub use laws::{encoding_is_sound, goal_stands_for_conjecture, one_problem};
 pub use loading::load;
 pub use marking::marks;
 pub use problem::{Encoded, Problem, Source};
