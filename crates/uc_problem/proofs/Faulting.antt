@@ -1,9 +1,11 @@
 -- What the parts of loading leave of the faults of the library.
-use Rattle.std.proofs.Common.{◌≡◌, ℕ, List, [], ◌∷◌, ◌++◌, Option, Some, None, Result, Ok, Err, refl, ◌∙◌, ap}
+use Rattle.std.proofs.Common.{◌≡◌, ℕ, List, [], ◌∷◌, ◌++◌, Option, Some, None, Result, Ok, Err, IfErr, refl, ◌∙◌, ap}
+use Rattle.uc_term.specs.Table.{Table}
 use Rattle.uc_edge.specs.Faults.{IsCounted, next}
 use Rattle.uc_clause.specs.declared.clause.Clause as read
 use Rattle.uc_clause.specs.declared.clause.Name.{Name}
 use Rattle.uc_clause.specs.declared.clause.Include.{Include}
+use Rattle.uc_clause.specs.declared.clause.Sourced.{Sourced}
 use Rattle.uc_clause.specs.declared.token.Place.{Place}
 use Rattle.uc_clause.specs.declared.fault.ClauseFault.{ClauseFault}
 use Rattle.uc_problem.specs.declared.counts.Counts.{Counts}
@@ -12,6 +14,9 @@ use Rattle.uc_problem.specs.declared.fault.LoadFault.TheVariants.{Absent, ReadFa
 use Rattle.uc_problem.specs.Fetching.{failing_of, IsFaultedBy, IsFaulted}
 use Rattle.uc_problem.specs.Loading.{selected, listed_or, first_missing}
 use Rattle.uc_problem.specs.declared.flat.FlatClause.{FlatClause}
+use Rattle.uc_problem.specs.declared.problem.Problem.{Problem}
+use Rattle.uc_problem.specs.Holds.{clashes, is_too_many}
+use Rattle.uc_problem.specs.Assembly.{IsUnsigned, has_none, wants_memory}
 use Rattle.uc_problem.specs.Parts.{IsNotRead, IsTaken, IsSelection}
 
 -- after calls in which no fetch failed
@@ -94,3 +99,13 @@ selection_fails name i given (Limit file place what) h = refl
 pub selection_faulted : (name : List ℕ) (i : Include) (given : List FlatClause) (r : Result (List FlatClause) LoadFault) {before now : ℕ} {old new : List (List ℕ)} → IsSelection name i given r → IsCounted None before now old new → IsFaulted r before now old new
 selection_faulted name i given (Ok clauses) h k = k
 selection_faulted name i given (Err why) h k = no_failure why (selection_fails name i given why h) k
+
+-- the clauses' signature, for which no file is fetched
+unsigned_fails : {table : Table} {clauses : List Sourced} {why : LoadFault} → IsUnsigned table clauses why → failing_of why ≡ None
+unsigned_fails (has_none (clashes g s l)) = refl
+unsigned_fails (has_none (is_too_many g l)) = refl
+unsigned_fails wants_memory = refl
+
+pub assembled_faulted : (table : Table) (clauses : List Sourced) (r : Result Problem LoadFault) {before now : ℕ} {old new : List (List ℕ)} → IfErr r (IsUnsigned table clauses) → IsCounted None before now old new → IsFaulted r before now old new
+assembled_faulted table clauses (Ok problem) u k = k
+assembled_faulted table clauses (Err why) u k = no_failure why (unsigned_fails u) k

@@ -9,7 +9,6 @@ use Rattle.uc_term.specs.Gathering.{HasAll, AreOf}
 use Rattle.uc_term.specs.Signatures.{IsFreshFor, first_constant, Completes, has_constant, gets_constant, IsSignatureOf}
 use Rattle.uc_term.proofs.Grown.{gathers-grows, have_from}
 use Rattle.uc_edge.specs.Files.{Files}
-use Rattle.uc_clause.specs.declared.clause.Clause.{Clause}
 use Rattle.uc_clause.specs.declared.clause.Include.{Include}
 use Rattle.uc_clause.specs.declared.clause.Item.TheVariants as item
 use Rattle.uc_clause.specs.declared.clause.Sourced.{Sourced}
@@ -23,7 +22,6 @@ use Rattle.uc_problem.specs.declared.fetch.Found.{Found}
 use Rattle.uc_problem.specs.declared.problem.Problem.{Problem}
 use Rattle.uc_problem.specs.Candidates.{candidates, folder_of}
 use Rattle.uc_problem.specs.Fetching.{cut, IsFirst, IsAnswer}
-use Rattle.uc_problem.specs.Conjecture.{flat_terms}
 use Rattle.uc_problem.specs.Holds.{Agrees}
 use Rattle.uc_problem.specs.Assembly.{IsFlat, AreSoundFewFlats, Closes}
 use Rattle.uc_problem.specs.Filling.{WhereTold, FillsFile, fills_file, FillsItems, no_item_fills, clause_fills, formula_fills, include_fills, FillsInclude, FillsItem, FillsProblem, FillsClosed, AddsOne, IsFilled}

@@ -1,7 +1,7 @@
 -- The conjecture of a problem. Of clauses in flat order at most one may be the denial of a conjecture. Fresh constants take the place
 -- of its variables: they are named sk_1, sk_2 and so on by the variable's number, and a name that some symbol of the clauses has, of
 -- whatever arity, is passed over.
-use Rattle.std.specs.Prelude.{ℕ, ◌≡◌, ◌≤◌, ◌<◌, ◌+◌, ◌||◌, Bool, true, false, List, [], ◌∷◌, ◌++◌, map, length, codes, decimal, bytes_eq, max, Option, Some, None}
+use Rattle.std.specs.Prelude.{ℕ, ◌≡◌, ◌≤◌, ◌<◌, ◌+◌, Bool, true, false, List, [], ◌∷◌, ◌++◌, map, length, codes, decimal, bytes_eq, max, Option, Some, None}
 use Rattle.std.specs.List.{list_any}
 use Rattle.uc_term.specs.Tree.{Tree, apply}
 use Rattle.uc_term.specs.Flat.{flat}

@@ -6,15 +6,15 @@ use Rattle.uc_problem.specs.Fetching.{cut}
 use Rattle.uc_problem.specs.Loading.{LoadsFile}
 use Rattle.uc_problem.specs.Holds.{ReadsAs}
 use Rattle.uc_problem.specs.Parts.{ItemComesTo}
-use Rattle.uc_problem.proofs.Faulting.{kept_on, same_refusal, no_failure, unread_fails, taken_faulted, selection_faulted}
+use Rattle.uc_problem.proofs.Faulting.{kept_on, same_refusal, no_failure, unread_fails, selection_faulted}
 use Rattle.uc_problem.proofs.Later.{Grows-refl, Grows-trans}
 use Rattle.uc_problem.proofs.Items.{begin, go_on, end, stop, unread, none_left, same_part}
 use Rattle.uc_clause.specs.declared.clause.Item.TheVariants as Item
 use Rattle.uc_fof.specs.declared.item.FofItem.TheVariants as FofItem
 use Rattle.uc_problem.specs.Loading.{place_if}
 use Rattle.uc_problem.proofs.Includes.{clause_gives, formula_gives, taken, deep, many, failed, missing_of, held_of_names, inside_stops, chosen}
-use Rattle.uc_problem.proofs.Fillings.{leaves_all, leaves_one, leaves_none, taken_filled, found_filled}
-use Rattle.uc_problem.proofs.Sound.{none_sound, file_sound, go_on_sound, items_later, taken_sound, selected_sound}
+use Rattle.uc_problem.proofs.Fillings.{leaves_all, leaves_one, leaves_none, found_filled}
+use Rattle.uc_problem.proofs.Sound.{none_sound, file_sound, go_on_sound, items_later, selected_sound}
 use Rattle.uc_problem.proofs.files.+files.Goals as goal
 
 pub load_file-returns-in-Err-clause-part : goal.load_file-returns-in-Err-clause-part

@@ -1,9 +1,9 @@
 use Rattle.std.specs.Option.{option_copied}
 use Rattle.std.proofs.lemmas.Result.{err_from_is_err_and}
-use Rattle.uc_problem.proofs.Later.{Grows-trans}
 use Rattle.uc_problem.proofs.Problems.{answered_by, refused_by, unclosed}
 use Rattle.uc_problem.proofs.Fillings.{told_closed, filled_by}
 use Rattle.uc_problem.proofs.AddedOnce.{distinct_earlier}
+use Rattle.uc_problem.proofs.Faulting.{assembled_faulted}
 use Rattle.uc_problem.proofs.Stopping.{unclosed_stops, unsigned_by}
 use Rattle.uc_problem.proofs.loading.load.Goals as goal
 
@@ -38,3 +38,6 @@ pub returns-in_err-closed-clause-stopped : goal.returns-in_err-closed-clause-sto
 returns-in_err-closed-clause-stopped g c =
     let p = err_from_is_err_and c.from_residual-in_err-closed.result c.from_residual-in_err-closed.ensures.1 in
     rw (p.1, p.2) (unclosed_stops (option_copied c.args.root) c.args.name.now c.args.symbols.now c.flat_clauses.new.symbols c.in_ok-flats.flats (g.L.Library.holds c.args.library.now) (g.L.Library.faults c.args.library.now) (g.L.Library.faults c.flat_clauses.new.library) c.in_err-closed.field-0.0 c.in_ok-flats.ensures.flat c.in_err-closed.ensures.refused)
+
+pub returns-clause-counted : goal.returns-clause-counted
+returns-clause-counted g c = assembled_faulted c.close.new.symbols c.in_ok-closed.closed.clauses c.assemble-problem.result c.assemble-problem.ensures.refused c.in_ok-flats.ensures.counted
