@@ -1,5 +1,5 @@
 -- A clause with a conjecture's constants in the place of its variables can be printed where the clause can.
-use Rattle.std.proofs.Common.{ℕ, zero, suc, ◌≡◌, ◌<◌, ◌≤◌, ◌+◌, ◌==◌, ◌/◌, ◌%◌, Bool, true, false, List, [], ◌∷◌, ◌++◌, map, length, decimal, slice_get, Option, Some, None, if◌then◌else◌, refl, sym, ap, ap₂, ◌∙◌, subst, arith}
+use Rattle.std.proofs.Common.{ℕ, zero, suc, ◌≡◌, ◌<◌, ◌+◌, ◌==◌, ◌/◌, ◌%◌, Bool, true, false, List, [], ◌∷◌, ◌++◌, decimal, slice_get, Option, Some, None, if◌then◌else◌, refl, sym, ap, ap₂, ◌∙◌, subst, arith}
 use Rattle.std.specs.Fmt.{digit_glyph, digits_onto, digits}
 use Rattle.std.specs.List.{AllByRecursion, list_all}
 use Rattle.std.proofs.lemmas.Bool.{and_from}
@@ -8,7 +8,7 @@ use Rattle.std.proofs.lemmas.Option.{slice_get_within}
 use Rattle.uc_term.specs.declared.node.Sym.{Sym}
 use Rattle.uc_term.specs.Tree.{Tree, var, app, Trees, none, more, nodes, nodes_all, apply, apply_all}
 use Rattle.uc_term.specs.Over.{AreOver}
-use Rattle.uc_term.specs.Table.{Table, IsSymbol, name_of, arity_of}
+use Rattle.uc_term.specs.Table.{Table, IsSymbol, arity_of}
 use Rattle.uc_term.specs.Variables.{variables, variables_all}
 use Rattle.uc_term.proofs.Joins.{count-apply_all}
 use Rattle.uc_clause.specs.declared.token.Place.{Place}
@@ -19,7 +19,7 @@ use Rattle.uc_clause.specs.Printable.{IsPrintableSymbol, IsPrintable, IsPrintabl
 use Rattle.uc_fof.specs.Constants.{constant_or_variable, constant_for}
 use Rattle.uc_fact.proofs.Agreeing.{each_append}
 use Rattle.uc_problem.specs.declared.flat.FlatClause.{FlatClause}
-use Rattle.uc_problem.specs.Conjecture.{constant_name, AreNamed, no_constant, a_constant, closed, closed_if, closed_one, closed_all}
+use Rattle.uc_problem.specs.Conjecture.{constant_name, AreNamed, no_constant, a_constant, closed, closed_if, closed_all}
 use Rattle.uc_answer.specs.PrintableProblems.{IsSmallClause, ArePrintableSourced}
 use Rattle.uc_answer.proofs.PrintableItems.{symbol_named}
 

@@ -1,8 +1,7 @@
 -- What is read as items of a file can be printed.
-use Rattle.std.proofs.Common.{ℕ, ◌≡◌, Bool, true, false, List, [], ◌∷◌, Option, Some, None, refl, sym, ap, subst}
+use Rattle.std.proofs.Common.{ℕ, ◌≡◌, Bool, List, [], ◌∷◌, refl, sym, subst}
 use Rattle.uc_term.specs.Table.{Table}
 use Rattle.uc_clause.specs.declared.token.Token.{Token}
-use Rattle.uc_clause.specs.declared.clause.Item.TheVariants as clause
 use Rattle.uc_clause.specs.Terminals.{terminal_at}
 use Rattle.uc_clause.specs.Tokens.{AreTokens}
 use Rattle.uc_clause.specs.Rules as clauses
@@ -12,7 +11,7 @@ use Rattle.uc_clause.specs.Meaning.{Variables}
 use Rattle.uc_fof.specs.declared.item.FofItem.{FofItem}
 use Rattle.uc_fof.specs.declared.item.FofItem.TheVariants.{Item, Formula}
 use Rattle.uc_fof.specs.declared.heading.FormulaHeading.{FormulaHeading}
-use Rattle.uc_fof.specs.Rules.{Outcome, read, stop, mapped, outside, AsIn, as_in, goes_on, stops_first}
+use Rattle.uc_fof.specs.Rules.{Outcome, read, stop, mapped, outside, AsIn, as_in, goes_on}
 use Rattle.uc_fof.specs.Parse.{Stated, Entry, item, stated}
 use Rattle.uc_fof.specs.Formulas as formulas
 use Rattle.uc_fof.specs.Meaning.{MeansItem, MeanItems, no_items, one_item}
