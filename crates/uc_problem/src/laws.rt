@@ -23,9 +23,9 @@ ghost use Rattle.uc_problem.specs.Encodes.{Encodes, equations_where};
 
 /// In a table whose entries are all different, the files of a library hold at most one problem under a name, or refuse it for
 /// one reason, and never both. So where `load` names what the library holds it says exactly where each answer comes. A problem
-/// is encoded by one choice of symbols and in one way, or one goal is the first that is too large, and never both. What the files
-/// and the least constant make of a table of symbols is one such table, with one problem, or the files are refused for one reason,
-/// and never both; and what the encoding's symbols make of that table is one.
+/// is encoded by one choice of symbols and in one way, or one goal is the first that is too large, and never both. What the
+/// files, a conjecture's constants and the least constant make of a table of symbols is one such table, with one problem, or
+/// the files are refused for one reason, and never both; and what the encoding's symbols make of that table is one.
 pub fn one_problem()
     ensures problem { (table : Table) (files : Files) (root : Option (List ℕ)) (name : List ℕ) (a b : Problem) → IsDistinct table → Holds table files root name a → Holds table files root name b → a ≡ b }
     ensures refusal { (table : Table) (files : Files) (root : Option (List ℕ)) (name : List ℕ) (a b : LoadFault) → IsDistinct table → Refuses table files root name a → Refuses table files root name b → a ≡ b }

@@ -1,4 +1,5 @@
-//! Problems: loading from a library with includes and selections, the signature, and the encoding of goals with variables.
+//! Problems: loading from a library with includes and selections, constants in the place of a conjecture's variables, the
+//! signature, and the encoding of goals with variables.
 #![tactic(auto)]
 
 mod assembly;

@@ -25,17 +25,17 @@ use uc_term::{Seq, Symbols, Text};
 ///
 /// A file is fetched and read whole, and then its items are taken in order. An include's file is looked for in the folder of
 /// the problem file and then in the root, where one is given, and under a name that begins with a slash as it stands. A
-/// selection keeps the clauses of the listed names in the file's order. The constants of a conjecture are named `sk_1`, `sk_2` and so
-/// on by the variable's number; a name that a symbol of the clauses has, of whatever arity, is passed over.
+/// selection keeps the clauses of the listed names in the file's order. The constants of a conjecture are named `sk_1`, `sk_2`
+/// and so on by the variable's number; a name that a symbol of the clauses has, of whatever arity, is passed over.
 ///
-/// The first refusal in the order of loading is answered. A fetch answers `ReadFault` where the library failed at this very file,
-/// the only failure of the call, and `Absent` where there is no such file. Every other answer comes with no failure, but for want
-/// of memory, which may also follow one. A file that isn't read answers `Clause` before all its items. A clause
+/// The first refusal in the order of loading is answered. A fetch answers `ReadFault` where the library failed at this very
+/// file, the only failure of the call, and `Absent` where there is no such file. Every other answer comes with no failure, but
+/// for want of memory, which may also follow one. A file that isn't read answers `Clause` before all its items. A clause
 /// answers `Limit` where it is the 10,001st. An include answers `TooDeep` in a file that is nested 16 deep, then `Limit` where
 /// it is the 257th included file, then what its fetches answer, one after the other up to the first file that is there, then
-/// what the included file answers, and then `NoSuchName` at the first listed name that the file doesn't give. A second conjecture
-/// among the clauses answers `Clause` with `Unsupported` at its role. At last the
-/// signature answers `ArityClash` at the first name with two arities or `Limit` at the 60,001st symbol, whichever is first.
+/// what the included file answers, and then `NoSuchName` at the first listed name that the file doesn't give. A second
+/// conjecture among the clauses answers `Clause` with `Unsupported` at its role. At last the signature answers `ArityClash` at
+/// the first name with two arities or `Limit` at the 60,001st symbol, constants of a conjecture among them, whichever is first.
 pub fn load<L: Library>(
     alloc: Global,
     library: &mut L,
