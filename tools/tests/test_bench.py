@@ -76,6 +76,13 @@ class Tables(BenchCase):
         self.assertIn("Contradiction: a.p: the header says Satisfiable, uc says Unsatisfiable", done.stdout.decode())
         self.assertIn("Contradiction: a.p", self.table())
 
+    def test_the_words_for_a_conjecture(self):
+        for stated, word, code, status in (("Theorem", "Theorem", 0, "Unsatisfiable"), ("Satisfiable", "CounterSatisfiable", 1, "Satisfiable")):
+            folder = self.problems("a.p", status=stated, folder=word)
+            done = self.bench("--uc", self.answering(word, code), "--provers", "uc", "-o", self.path("out" + word), folder)
+            self.says(done, 0)
+            self.assertEqual([row["status"] for row in self.rows("out" + word)], [status])
+
     def test_a_proof_that_is_not_accepted(self):
         folder = self.problems("a.p")
         prove = "echo '% SZS status Unsatisfiable for x'; echo '% SZS output start CNFRefutation for x'"

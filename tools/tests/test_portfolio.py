@@ -33,12 +33,13 @@ class Answers(Case):
         self.assertEqual(done.stdout.decode(), "".join(lines[:-1]))
 
     def test_proof(self):
-        path = os.path.join(EXAMPLES, "group-right-inverse.p")
-        done = self.prove(path)
-        self.says(done, 0)
-        self.assertTrue(done.stdout.startswith(f"% SZS status Unsatisfiable for {path}\n".encode()))
-        self.again(done.stdout)
-        self.expect_none_left()
+        for name, word in (("group-right-inverse.p", "Unsatisfiable"), ("rectangular-band-middle.p", "Theorem")):
+            path = os.path.join(EXAMPLES, name)
+            done = self.prove(path)
+            self.says(done, 0)
+            self.assertTrue(done.stdout.startswith(f"% SZS status {word} for {path}\n".encode()))
+            self.again(done.stdout)
+            self.expect_none_left()
 
     def test_system_that_the_default_order_has_not(self):
         path = self.write("free.p", GROUP + "cnf(g, negated_conjecture, m(a,b) != m(b,a)).\n")

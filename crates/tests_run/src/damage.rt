@@ -11,7 +11,7 @@ use uc_term::Text;
 const INCLUDED: &str = "cnf(k1, axiom, a = b).\ncnf(k2, axiom, b = c).\n";
 
 // The problems that are damaged, and the file that they include.
-const PROBLEMS: [&str; 16] = [
+const PROBLEMS: [&str; 19] = [
     "cnf(ax, axiom, f(a) = b).\ncnf(g, negated_conjecture, f(a) != b).\n",
     "include('inc.ax',[k2]).\n",
     "include('inc.ax',[k2,k3]).\n",
@@ -21,6 +21,9 @@ const PROBLEMS: [&str; 16] = [
     "cnf(c1, axiom, p(a)).",
     "cnf(c1, axiom, f(a) = f(a,b)).",
     "cnf(c1, conjecture, a = b).",
+    "fof(ax, axiom, ! [X] : f(X) = X).\nfof(c, conjecture, ! [Y] : f(f(Y)) = Y).\n",
+    "fof('Big one', hypothesis, ( ! [X,Y] : ( ! [X] : ( ~ ( f(X,'a') = Y ) ) ) ), file('x',y), [z]).\n",
+    "fof(c, conjecture, a = b).\nfof(d, conjecture, a = b).\n",
     "cnf(c1, axiom, a = 7).",
     "cnf(c1, axiom, a = b)",
     "cnf(ax, axiom, f(b) = a).\ncnf(g, negated_conjecture, f(X) != a).\n",

@@ -10,6 +10,8 @@ pub mod PairLines
 pub mod OrderLaws
 pub mod SpelledWords
 pub mod PrintableItems
+pub mod PrintableFormulas
+pub mod ClosedClauses
 pub mod PrintableFiles
 pub mod PrintableSymbols
 pub mod SpecSymbols

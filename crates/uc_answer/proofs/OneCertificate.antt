@@ -1,5 +1,5 @@
 -- The certificate of a system has one text.
-use Rattle.std.proofs.Common.{ℕ, ◌≡◌, Bool, true, false, List, [], Ok, refl, sym, ap, ap₂, ◌∙◌}
+use Rattle.std.proofs.Common.{ℕ, ◌≡◌, Bool, true, false, List, Ok, refl, sym, ap₂, ◌∙◌}
 use Rattle.uc_term.specs.Table.{Table}
 use Rattle.uc_check.specs.declared.proof.Line.{Line}
 use Rattle.uc_problem.specs.declared.problem.Problem.{Problem}
@@ -12,12 +12,11 @@ use Rattle.uc_shelf.specs.Entries.{born, live}
 use Rattle.uc_machine.specs.State.{State}
 use Rattle.uc_proof.proofs.Once.{facts_once}
 use Rattle.uc_system.specs.declared.system.SystemText.{SystemText}
-use Rattle.uc_certificate.specs.declared.certificate.Certificate.{Certificate}
 use Rattle.uc_certificate.specs.declared.certificate.Join.{Join}
 use Rattle.uc_certificate.specs.Printing.{certificate_text}
 use Rattle.uc_certify.proofs.MadeOnce.{all_made_once}
 use Rattle.uc_ordering.specs.Meaning.{meaning_of}
-use Rattle.uc_answer.specs.CertificateLines.{live_numbers, IsCertificateFor, IsCertificateText, IsCertificateIf, is_not_asked, is_asked}
+use Rattle.uc_answer.specs.CertificateLines.{live_numbers, IsCertificateText, IsCertificateIf, is_not_asked, is_asked}
 
 module _ (table : Table) (problem : Problem) (agrees : Agrees table problem) (encoded : Encoded) (encodes : Encodes table problem (Ok encoded)) (spec : OrderSpec) (s : State) where
   certificate_once : {x y : List ℕ} → IsCertificateText table problem encoded spec s x → IsCertificateText table problem encoded spec s y → x ≡ y

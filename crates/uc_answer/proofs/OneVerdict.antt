@@ -21,7 +21,7 @@ use Rattle.uc_proof.specs.declared.aim.Aim.TheVariants as aim
 use Rattle.uc_proof.specs.Chains.{conclusion_of}
 use Rattle.uc_proof.proofs.Once.{derived_once}
 use Rattle.uc_words.specs.declared.command.Command.{Command}
-use Rattle.uc_answer.specs.StatusLines.{status_line}
+use Rattle.uc_answer.specs.StatusLines.{status_line, proved_word, saturated_word}
 use Rattle.uc_answer.proofs.OneCertificate.{certificate_if_once}
 use Rattle.uc_answer.specs.LimitLines.{overlap_line, IsLimitLine, budget_is_spent, limit_is_passed, pair_is_large, step_is_large}
 use Rattle.uc_answer.specs.VerdictLines.{saturation_text, IsProofText, VerdictAnswers, is_proved, is_saturated, is_out}
@@ -51,9 +51,9 @@ module _ (table : Table) (command : Command) (name : List ℕ) (problem : Proble
       p.text_is ∙ ap₂ (proof_text table name) once.1 once.0 ∙ sym q.text_is
 
   pub verdict_once : {v : Verdict} {x y : List ℕ} → VerdictAnswers table command name problem encoded spec s v x → VerdictAnswers table command name problem encoded spec s v y → x ≡ y
-  verdict_once (is_proved {goal = goal} p) (is_proved q) = ap (λ text. status_line (codes "Unsatisfiable") name ++ text) (proof_once goal p q)
+  verdict_once (is_proved {goal = goal} p) (is_proved q) = ap (λ text. status_line (proved_word problem) name ++ text) (proof_once goal p q)
   verdict_once (is_proved p) (is_out l) = isnt_proved command s l
-  verdict_once (is_saturated p) (is_saturated q) = ap (λ text. status_line (codes "Satisfiable") name ++ saturation_text table command name problem encoded spec s ++ text) (certificate_if_once table problem agrees encoded encodes spec s command.certificate p q)
+  verdict_once (is_saturated p) (is_saturated q) = ap (λ text. status_line (saturated_word problem) name ++ saturation_text table command name problem encoded spec s ++ text) (certificate_if_once table problem agrees encoded encodes spec s command.certificate p q)
   verdict_once (is_saturated p) (is_out l) = isnt_saturated command s l
   verdict_once (is_out l) (is_proved q) = isnt_proved command s l
   verdict_once (is_out l) (is_saturated q) = isnt_saturated command s l

@@ -1,6 +1,5 @@
 -- The certificate that is printed is read back, and passes all tests.
 use Rattle.std.proofs.Common.{ℕ, suc, ◌≡◌, ◌<◌, ◌+◌, ◌^◌, Bool, true, false, List, [], ◌∷◌, ◌++◌, length, codes, refl, sym, ap, ◌∙◌, subst, arith}
-use Rattle.std.specs.List.{AllByRecursion}
 use Rattle.uc_term.specs.declared.equation.Equation.{Equation}
 use Rattle.uc_term.specs.Table.{Table}
 use Rattle.uc_check.specs.declared.proof.Line.{Line}
@@ -39,13 +38,13 @@ use Rattle.uc_ordering.specs.Meaning.{meaning_of}
 use Rattle.uc_answer.specs.CertificateLines.{live_numbers, IsCertificateIf, is_not_asked, is_asked, IsReadBack, HasFewLines, IsReadBackIf, has_none, has_one}
 use Rattle.uc_answer.specs.PrintableProblems.{CanBePrinted}
 use Rattle.uc_answer.specs.Promises.{HasPassed}
-use Rattle.uc_answer.specs.StatusLines.{line_for, status_line}
+use Rattle.uc_answer.specs.StatusLines.{line_for, status_line, saturated_word}
 use Rattle.uc_answer.specs.VerdictLines.{saturation_text, HasEnded}
 use Rattle.uc_answer.proofs.SearchEnds.{laws, each_printable, parts_printable}
 use Rattle.uc_answer.proofs.SmallAxioms.{encoded_few}
 use Rattle.uc_answer.proofs.SaturatedTexts.{facts_over, system_printable}
 use Rattle.uc_answer.proofs.SaturatedCertificates.{symbols_in, axioms_over, few_live, passes}
-use Rattle.uc_answer.proofs.SettledLines.{HasNone, both, title_line, system_none}
+use Rattle.uc_answer.proofs.SettledLines.{HasNone, both, title_line, status_none, system_none}
 
 source_belongs : (source : LineSource) → (IsRefutation source → ⊥) → belongs_line Derivation source ≡ true
 source_belongs (File name) h = refl
@@ -101,29 +100,29 @@ module _ (table : Table) (command : Command) (name : List ℕ) (problem : Proble
     few_facts : length facts < 2 ^ 32
     few_facts = few_live table command problem encoded spec s h (length encoded.sources + length problem.goals + 2) (omega (arith, few))
 
-    none_before : HasNone (status_line (codes "Satisfiable") name ++ saturation_text table command name problem encoded spec s)
+    none_before : HasNone (status_line (saturated_word problem) name ++ saturation_text table command name problem encoded spec s)
     none_before =
         let start = line_for (codes "% SZS output start Saturation") name in
         let end = line_for (codes "% SZS output end Saturation") name in
         let starts : HasNone start = title_line (codes "% SZS output start Saturation") name refl can.name refl in
         let ends : HasNone end = title_line (codes "% SZS output end Saturation") name refl can.name refl in
         let system : HasNone (system_text table spec facts) = system_none table spec facts few_facts (system_printable table command problem encoded spec s h can.clauses) in
-        both (status_line (codes "Satisfiable") name) (saturation_text table command name problem encoded spec s) (title_line (codes "% SZS status " ++ codes "Satisfiable") name refl can.name refl)
+        both (status_line (saturated_word problem) name) (saturation_text table command name problem encoded spec s) (status_none problem name can.name)
         (both (start ++ system_text table spec facts) end (both start (system_text table spec facts) starts system) ends)
 
-    has_passed : (system : System) → system.facts ≡ facts → HasPassed table problem spec system (status_line (codes "Satisfiable") name ++ saturation_text table command name problem encoded spec s) text
+    has_passed : (system : System) → system.facts ≡ facts → HasPassed table problem spec system (status_line (saturated_word problem) name ++ saturation_text table command name problem encoded spec s) text
     has_passed system is = record {
       encoded = encoded;
       encodes = h.encodes;
       certificate = c;
       text_is = t.is_text.is_for.text_is ∙ ap (λ (fs : List Equation). record { spec = spec; system = record { facts = fs } }) (sym is);
       begins = (system_text table c.text.spec c.text.system.facts ++ derivation_part table t.is_text.files c.lines.lines c.facts ++ joins_part table c.joins, t.is_text.text_is);
-      reads = λ more. t.read_back printable (status_line (codes "Satisfiable") name ++ saturation_text table command name problem encoded spec s) more none_before;
+      reads = λ more. t.read_back printable (status_line (saturated_word problem) name ++ saturation_text table command name problem encoded spec s) more none_before;
       passes = passes table command problem encoded spec s h t.is_text.files c t.is_text.is_for;
     }
 
-  pub passed_if : (system : System) → system.facts ≡ facts → {text : List ℕ} → IsReadBackIf table problem encoded spec s command.certificate text → command.certificate ≡ true → HasPassed table problem spec system (status_line (codes "Satisfiable") name ++ saturation_text table command name problem encoded spec s) text
+  pub passed_if : (system : System) → system.facts ≡ facts → {text : List ℕ} → IsReadBackIf table problem encoded spec s command.certificate text → command.certificate ≡ true → HasPassed table problem spec system (status_line (saturated_word problem) name ++ saturation_text table command name problem encoded spec s) text
   passed_if system is {text} read asked = go (subst (λ (b : Bool). IsReadBackIf table problem encoded spec s b text) asked read)
     where
-      go : IsReadBackIf table problem encoded spec s true text → HasPassed table problem spec system (status_line (codes "Satisfiable") name ++ saturation_text table command name problem encoded spec s) text
+      go : IsReadBackIf table problem encoded spec s true text → HasPassed table problem spec system (status_line (saturated_word problem) name ++ saturation_text table command name problem encoded spec s) text
       go (has_one t few) = has_passed text t few system is

@@ -4,19 +4,23 @@ use Rattle.std.specs.List.{list_any}
 use Rattle.std.proofs.lemmas.Bool.{and_parts, and_from}
 use Rattle.uc_term.specs.Table.{Table}
 use Rattle.uc_edge.specs.Files.{Files}
+use Rattle.uc_fact.proofs.Agreeing.{each_append}
 use Rattle.uc_clause.specs.declared.token.Place.{Place}
-use Rattle.uc_clause.specs.declared.clause.Item.{Item}
 use Rattle.uc_clause.specs.declared.clause.Name.{Name}
 use Rattle.uc_clause.specs.declared.clause.Sourced.{Sourced}
 use Rattle.uc_clause.specs.Bytes.{between}
 use Rattle.uc_clause.specs.Names.{IsSpellable}
+use Rattle.uc_fof.specs.declared.item.FofItem.{FofItem}
 use Rattle.uc_problem.specs.declared.counts.Counts.{Counts}
+use Rattle.uc_problem.specs.declared.flat.FlatClause.{FlatClause}
 use Rattle.uc_problem.specs.declared.problem.Problem.{Problem}
 use Rattle.uc_problem.specs.Candidates.{folder_of, begins_with_slash, in_root, candidates}
-use Rattle.uc_problem.specs.Loading.{held, held_or, first_held, lists_name, first_missing, listed_or, selected, Loaded, before, all_before, LoadsFile, reads, refused, LoadsItems, no_item, clause, too_many_clauses, too_deep, too_many_files, fetch_fails, absent, stops_inside, misses_name, includes, no_fetch, no_problem, loads}
+use Rattle.uc_problem.specs.Loading.{held, held_or, first_held, lists_name, first_missing, listed_or, selected, place_if, Loaded, before, all_before, LoadsFile, reads, refused, LoadsItems, no_item, clause, formula, too_many_clauses, too_many_formulas, too_deep, too_many_files, fetch_fails, absent, stops_inside, misses_name, includes, no_fetch, no_problem, loads}
+use Rattle.uc_problem.specs.Conjecture.{flat_terms}
 use Rattle.uc_problem.specs.Holds.{ReadsAs, Flattens, Holds}
 use Rattle.uc_answer.specs.PrintableProblems.{are_seen, IsRootSeen, IsPrintableSourced, ArePrintableSourced}
-use Rattle.uc_answer.proofs.PrintableItems.{PrintableItems, file_printable}
+use Rattle.uc_answer.proofs.PrintableFormulas.{PrintableItems, file_printable}
+use Rattle.uc_answer.proofs.ClosedClauses.{IsPrintableFlat, ArePrintableFlats, closed_all_printable}
 
 -- NAMES
 
@@ -61,37 +65,36 @@ found_spellable files (name ∷ names) found bytes h e = go (held files name) e 
 -- CLAUSES
 
 module _ (t : Table) where
-  both_printable : (xs ys : List Sourced) → ArePrintableSourced t xs → ArePrintableSourced t ys → ArePrintableSourced t (xs ++ ys)
-  both_printable [] ys h k = k
-  both_printable (x ∷ xs) ys h k = (h.0, both_printable xs ys h.1 k)
+  both_printable : (xs ys : List FlatClause) → ArePrintableFlats t xs → ArePrintableFlats t ys → ArePrintableFlats t (xs ++ ys)
+  both_printable xs ys h k = each_append (IsPrintableFlat t) xs ys h k
 
-  module _ (keep : Sourced → Bool) where
-    kept_one : (b : Bool) (x : Sourced) (xs : List Sourced) → IsPrintableSourced t x → ArePrintableSourced t xs → ArePrintableSourced t (cond b (x ∷ xs) xs)
+  module _ (keep : FlatClause → Bool) where
+    kept_one : (b : Bool) (x : FlatClause) (xs : List FlatClause) → IsPrintableFlat t x → ArePrintableFlats t xs → ArePrintableFlats t (cond b (x ∷ xs) xs)
     kept_one true x xs h k = (h, k)
     kept_one false x xs h k = k
 
-    filter_printable : (xs : List Sourced) → ArePrintableSourced t xs → ArePrintableSourced t (filter keep xs)
+    filter_printable : (xs : List FlatClause) → ArePrintableFlats t xs → ArePrintableFlats t (filter keep xs)
     filter_printable [] h = tt
     filter_printable (x ∷ xs) h = kept_one (keep x) x (filter keep xs) h.0 (filter_printable xs h.1)
 
   abbrev LoadedPrintable : Loaded → Type 0
-  LoadedPrintable (Ok r) = ArePrintableSourced t r.0
+  LoadedPrintable (Ok r) = ArePrintableFlats t r.0
   LoadedPrintable (Err e) = Unit {0}
 
-  one_before : (x : Sourced) (l : Loaded) → IsPrintableSourced t x → LoadedPrintable l → LoadedPrintable (before x l)
+  one_before : (x : FlatClause) (l : Loaded) → IsPrintableFlat t x → LoadedPrintable l → LoadedPrintable (before x l)
   one_before x (Ok r) h k = (h, k)
   one_before x (Err e) h k = tt
 
-  all_printable : (cs : List Sourced) (l : Loaded) → ArePrintableSourced t cs → LoadedPrintable l → LoadedPrintable (all_before cs l)
+  all_printable : (cs : List FlatClause) (l : Loaded) → ArePrintableFlats t cs → LoadedPrintable l → LoadedPrintable (all_before cs l)
   all_printable cs (Ok r) h k = both_printable cs r.0 h k
   all_printable cs (Err e) h k = tt
 
-  listed_printable : (file : List ℕ) (names : List (Name × Place)) (given kept : List Sourced) (m : Option (Name × Place)) → ArePrintableSourced t given → listed_or file names given m ≡ Ok kept → ArePrintableSourced t kept
-  listed_printable file names given kept None h e = let same : filter (λ (s : Sourced). lists_name names s.clause.name) given ≡ kept = cc in subst (ArePrintableSourced t) same (filter_printable (λ s. lists_name names s.clause.name) given h)
+  listed_printable : (file : List ℕ) (names : List (Name × Place)) (given kept : List FlatClause) (m : Option (Name × Place)) → ArePrintableFlats t given → listed_or file names given m ≡ Ok kept → ArePrintableFlats t kept
+  listed_printable file names given kept None h e = let same : filter (λ (s : FlatClause). lists_name names s.clause.name) given ≡ kept = cc in subst (ArePrintableFlats t) same (filter_printable (λ s. lists_name names s.clause.name) given h)
   listed_printable file names given kept (Some m) h e = absurd cc
 
-  kept_printable : (file : List ℕ) (names : Option (List (Name × Place))) (given kept : List Sourced) → ArePrintableSourced t given → selected file names given ≡ Ok kept → ArePrintableSourced t kept
-  kept_printable file None given kept h e = let same : given ≡ kept = cc in subst (ArePrintableSourced t) same h
+  kept_printable : (file : List ℕ) (names : Option (List (Name × Place))) (given kept : List FlatClause) → ArePrintableFlats t given → selected file names given ≡ Ok kept → ArePrintableFlats t kept
+  kept_printable file None given kept h e = let same : given ≡ kept = cc in subst (ArePrintableFlats t) same h
   kept_printable file (Some names) given kept h e = listed_printable file names given kept (first_missing given names) h e
 
   module _ (files : Files) (folder : List ℕ) (root : Option (List ℕ)) (folder_is : are_seen folder ≡ true) (root_is : IsRootSeen root) where
@@ -100,10 +103,12 @@ module _ (t : Table) where
       file_loaded named (reads {bytes = bytes} {items = is} r h) = items_loaded named h (file_printable bytes t is r)
       file_loaded named (refused r) = tt
 
-      items_loaded : {depth : ℕ} {name : List ℕ} {counts : Counts} {items : List Item} {l : Loaded} → IsSpellable name → LoadsItems (ReadsAs t) files None folder root depth name counts items l → PrintableItems t items → LoadedPrintable l
+      items_loaded : {depth : ℕ} {name : List ℕ} {counts : Counts} {items : List FofItem} {l : Loaded} → IsSpellable name → LoadsItems (ReadsAs t) files None folder root depth name counts items l → PrintableItems t items → LoadedPrintable l
       items_loaded named no_item s = tt
-      items_loaded {name = name} named (clause {c = c} {loaded = l} less h) s = one_before (record { file = name; clause = c }) l (named, s.0.0, s.0.1) (items_loaded named h s.1)
+      items_loaded {name = name} named (clause {c = c} {loaded = l} less h) s = one_before (record { file = name; clause = c; conjecture = None }) l (named, s.0.0, s.0.1) (items_loaded named h s.1)
+      items_loaded {name = name} named (formula {c = c} {conjecture = conjecture} {place = place} {loaded = l} less h) s = one_before (record { file = name; clause = c; conjecture = place_if conjecture place }) l (named, s.0.0, s.0.1) (items_loaded named h s.1)
       items_loaded named (too_many_clauses m) s = tt
+      items_loaded named (too_many_formulas m) s = tt
       items_loaded named (too_deep m) s = tt
       items_loaded named (too_many_files d m) s = tt
       items_loaded named (fetch_fails d f tried e) s = tt
@@ -118,7 +123,9 @@ module _ (t : Table) where
   flat_printable files root name named r (loads e h) = file_loaded files (folder_of name) root (folder_seen name named.1) r named h
 
   pub held_printable : (files : Files) (root : Option (List ℕ)) (name : List ℕ) (problem : Problem) → IsSpellable name → IsRootSeen root → Holds t files root name problem → ArePrintableSourced t problem.clauses
-  held_printable files root name problem named r h = flat_printable files root name named r h.flat
+  held_printable files root name problem named r h =
+      let closed = h.gives.closed in
+      rw closed.clauses_are (closed_all_printable t (flat_terms h.gives.flats) 1 closed.constants closed.are.named h.gives.flats (flat_printable files root name named r h.gives.flat))
 
   pub printable_at : (ss : List Sourced) (c : ℕ) (s : Sourced) → ArePrintableSourced t ss → slice_get ss c ≡ Some s → IsPrintableSourced t s
   printable_at [] c s h e = absurd cc

@@ -1,5 +1,5 @@
--- What is read as items can be printed.
-use Rattle.std.proofs.Common.{ℕ, suc, ◌≡◌, ◌<◌, ◌≤◌, ◌+◌, Bool, true, false, List, [], ◌∷◌, ◌++◌, length, Option, Some, None, refl, sym, ap, ap₂, subst, arith, unwrap_or}
+-- What is read as an item of clauses can be printed.
+use Rattle.std.proofs.Common.{ℕ, ◌≡◌, ◌<◌, ◌≤◌, ◌+◌, Bool, true, false, List, [], ◌∷◌, ◌++◌, length, Option, Some, None, refl, sym, ap, ap₂, subst, arith, unwrap_or}
 use Rattle.uc_term.specs.declared.node.Sym.{Sym}
 use Rattle.uc_term.specs.Tree.{Tree, Trees, count, nodes, nodes_all}
 use Rattle.uc_term.specs.Over.{AreOver}
@@ -17,6 +17,7 @@ use Rattle.uc_clause.specs.declared.grammar.head.Head.TheVariants.{Functor}
 use Rattle.uc_clause.specs.declared.grammar.stop.Why.TheVariants.{NoToken}
 use Rattle.uc_clause.specs.declared.grammar.item.Heading.{Heading}
 use Rattle.uc_clause.specs.declared.grammar.item.Inclusion.{Inclusion}
+use Rattle.uc_clause.specs.declared.clause.Clause.{Clause}
 use Rattle.uc_clause.specs.declared.clause.Item.{Item}
 use Rattle.uc_clause.specs.declared.clause.Item.TheVariants as item
 use Rattle.uc_clause.specs.Terminals.{terminal_at}
@@ -28,10 +29,9 @@ use Rattle.uc_clause.specs.Terms.{head_of, head_at, Term, Args, is_variable, is_
 use Rattle.uc_clause.specs.Items.{name_by, quoted_by}
 use Rattle.uc_clause.specs.Items as items
 use Rattle.uc_clause.specs.Terminals.{bytes_at}
-use Rattle.uc_clause.specs.Meaning.{Variables, with_name, with_names, variables_in, variables_of, Means, variable_means, functor_means, MeanAll, none_mean, more_mean, MeansItem, MeanItems, no_items, one_item}
+use Rattle.uc_clause.specs.Meaning.{Variables, with_name, with_names, variables_in, variables_of, Means, variable_means, functor_means, MeanAll, none_mean, more_mean, IsName, MeansSides, MeansItem}
 use Rattle.uc_clause.specs.Names.{IsSpellable}
 use Rattle.uc_clause.specs.Printable.{IsPrintableSymbol, IsPrintable, IsPrintableClause}
-use Rattle.uc_clause.specs.Reading.{ReadsFile}
 use Rattle.uc_clause.proofs.Sizes.{term_small}
 use Rattle.uc_certificate.specs.Printable.{AreFew}
 use Rattle.uc_answer.specs.PrintableProblems.{IsSmallClause}
@@ -107,6 +107,11 @@ picked : (o : Option ℕ) (at v end : ℕ) → read v end ≡ read_or_stop NoTok
 picked None at v end e = absurd cc
 picked (Some w) at v end e = let same : v ≡ w = cc in ap Some (sym same)
 
+-- SYMBOLS
+
+pub symbol_named : (table : Table) (f : Sym) (name : List ℕ) (n : ℕ) → IsSymbol table f name n → (name_of table f ≡ name) × (arity_of table f ≡ n)
+symbol_named table f name n s = (ap (λ (o : Option Row). (unwrap_or o (record { name = []; arity = 0 })).name) s, ap (λ (o : Option Row). (unwrap_or o (record { name = []; arity = 0 })).arity) s)
+
 -- NAMES OF VARIABLES
 
 name_count : (seen : Variables) (x : List ℕ) → length (with_name seen x) ≤ length seen + 1
@@ -137,13 +142,12 @@ all_below m n (x ∷ xs) l h = (omega (arith, l, h.0), all_below m n xs l h.1)
 
 -- a clause can be printed, and an include's file be spelled
 module _ (table : Table) where
-  abbrev pub PrintableItem : Item → Type 0
-  PrintableItem (item.Clause c) = IsPrintableClause table c × IsSmallClause c
-  PrintableItem (item.Include i) = IsSpellable i.file
+  abbrev pub PrintableClause : Clause → Type 0
+  PrintableClause c = IsPrintableClause table c × IsSmallClause c
 
-  abbrev pub PrintableItems : List Item → Type 0
-  PrintableItems [] = Unit {0}
-  PrintableItems (i ∷ is) = PrintableItem i × PrintableItems is
+  abbrev pub PrintableItem : Item → Type 0
+  PrintableItem (item.Clause c) = PrintableClause c
+  PrintableItem (item.Include i) = IsSpellable i.file
 
 abbrev how_many : Parses → ℕ
 how_many no_more = 0
@@ -201,7 +205,7 @@ module _ (bytes : List ℕ) (tokens : List Token) where
   abbrev FineSides : Sides → Type 0
   FineSides s = FineSide s.left × FineSide s.right
 
-  abbrev FineLiteral : Literal → Type 0
+  abbrev pub FineLiteral : Literal → Type 0
   FineLiteral l = FineSides l.sides
 
   one_term : (at end : ℕ) (p : Parse) → Term bytes tokens 0 at (read p end) → FineSide p
@@ -223,7 +227,7 @@ module _ (bytes : List ℕ) (tokens : List Token) where
   denial_fine : (at end : ℕ) (l : Literal) → items.denial bytes tokens at (read l end) → FineLiteral l
   denial_fine at end l (goes_on {middle = k} h (goes_on {v = s} {middle = m} x g)) = let same : l ≡ record { positive = false; sides = s } = cc in subst FineLiteral (sym same) (denied_fine k m s x)
 
-  literal_fine : (at end : ℕ) (l : Literal) → items.literal bytes tokens at (read l end) → FineLiteral l
+  pub literal_fine : (at end : ℕ) (l : Literal) → items.literal bytes tokens at (read l end) → FineLiteral l
   literal_fine at end l (is_first e x) = denial_fine at end l x
   literal_fine at end l (is_second n x) = equation_fine at end l x
 
@@ -249,7 +253,7 @@ module _ (bytes : List ℕ) (tokens : List Token) where
   abbrev FineHeading : Heading → Type 0
   FineHeading h = IsNameTerminal (terminal_at bytes tokens h.name)
 
-  name_token : (at k end : ℕ) → items.name bytes tokens at (read k end) → IsNameTerminal (terminal_at bytes tokens k)
+  pub name_token : (at k end : ℕ) → items.name bytes tokens at (read k end) → IsNameTerminal (terminal_at bytes tokens k)
   name_token at k end e =
       let p = named (terminal_at bytes tokens at) at k (picked (name_by (terminal_at bytes tokens at) at) at k end e) in
       subst (λ n. IsNameTerminal (terminal_at bytes tokens n)) p.0 p.1
@@ -274,11 +278,11 @@ module _ (bytes : List ℕ) (tokens : List Token) where
   include_fine : (at end : ℕ) (i : Inclusion) → items.include bytes tokens at (read i end) → FineInclusion i
   include_fine at end i (goes_on {v = first} h (goes_on a (goes_on b (goes_on {v = k} {middle = m} f (goes_on {v = names} n (goes_on d g)))))) = let same : i ≡ record { first = first; file = k; names = names } = cc in subst FineInclusion (sym same) (file_token _ k m f)
 
-  abbrev FineEntry : Entry → Type 0
+  abbrev pub FineEntry : Entry → Type 0
   FineEntry (formula f) = FineFormula f
   FineEntry (inclusion i) = FineInclusion i
 
-  abbrev FineItem : Outcome Entry → Type 0
+  abbrev pub FineItem : Outcome Entry → Type 0
   FineItem (read e end) = FineEntry e
   FineItem (stop why k) = Unit {0}
 
@@ -290,27 +294,10 @@ module _ (bytes : List ℕ) (tokens : List Token) where
   include_outcome at (read i end) x = include_fine at end i x
   include_outcome at (stop why k) x = tt
 
-  item_fine : {at : ℕ} {o : Outcome Entry} → items.Item bytes tokens at o → FineItem o
+  pub item_fine : {at : ℕ} {o : Outcome Entry} → items.Item bytes tokens at o → FineItem o
   item_fine (items.is_clause {at = at} {outcome = o} e x) = cnf_outcome at o x
   item_fine (items.is_include {at = at} {outcome = o} e x) = include_outcome at o x
   item_fine (items.is_no_item e) = tt
-
-  abbrev FineEntries : List Entry → Type 0
-  FineEntries [] = Unit {0}
-  FineEntries (e ∷ es) = FineEntry e × FineEntries es
-
-  abbrev FineItems : Outcome (List Entry) → Type 0
-  FineItems (read es end) = FineEntries es
-  FineItems (stop why k) = Unit {0}
-
-  more_fine : (e : Entry) (o : Outcome (List Entry)) → FineEntry e → FineItems o → FineItems (mapped (λ es. e ∷ es) o)
-  more_fine e (read es end) h k = (h, k)
-  more_fine e (stop why k) h j = tt
-
-  items_fine : {at : ℕ} {o : Outcome (List Entry)} → items.Items bytes tokens at o → FineItems o
-  items_fine (items.is_end e) = tt
-  items_fine (items.has_item {entry = entry} {outcome = o} n x xs) = more_fine entry o (item_fine x) (items_fine xs)
-  items_fine (items.stops_in_item n x) = tt
 
   -- WHAT THEY SAY
 
@@ -319,14 +306,11 @@ module _ (bytes : List ℕ) (tokens : List Token) where
     how_many_mean none_mean = refl
     how_many_mean (more_mean m ms) = ap (λ n. n + 1) (how_many_mean ms)
 
-    symbol_named : (f : Sym) (name : List ℕ) (n : ℕ) → IsSymbol table f name n → (name_of table f ≡ name) × (arity_of table f ≡ n)
-    symbol_named f name n s = (ap (λ (o : Option Row). (unwrap_or o (record { name = []; arity = 0 })).name) s, ap (λ (o : Option Row). (unwrap_or o (record { name = []; arity = 0 })).arity) s)
-
     mutual
       means_printable : {seen : Variables} {p : Parse} {t : Tree} → Means bytes tokens table seen p t → IsFine p → IsPrintable table t
       means_printable (variable_means e) h = tt
       means_printable (functor_means {k = k} {ps = ps} {f = f} {ts = ts} s ms) h =
-          let named_so = symbol_named f _ (count ts) s in
+          let named_so = symbol_named table f _ (count ts) s in
           let few : arity_of table f ≤ 255 = omega (arith, named_so.1, how_many_mean ms, h.1) in
           ((slice_get_within table f.0 _ s, subst IsSpellable (sym named_so.0) (word_spellable bytes tokens are k h.0), few), sym named_so.1, all_printable ms h.2)
 
@@ -364,23 +348,19 @@ module _ (bytes : List ℕ) (tokens : List Token) where
         let few : length (variables_of bytes tokens sides) ≤ 8192 = omega (arith, first, all, length-map (variables_parsed sides.left) (bytes_at bytes tokens), length-map (variables_parsed sides.right) (bytes_at bytes tokens), count_variables sides.left, count_variables sides.right, left, right) in
         all_below (length (variables_of bytes tokens sides)) 8192 (variables t) few (variables_seen m)
 
-    item_means : (e : Entry) (i : Item) → MeansItem bytes tokens table e i → FineEntry e → PrintableItem table i
-    item_means (formula f) (item.Clause c) m h = (
-      (name_spellable bytes tokens are f.heading.name c.name m.name h.0, means_printable m.sides.means_left h.1.0.0, means_printable m.sides.means_right h.1.1.0),
+    pub clause_means : (name : ℕ) (l : Literal) (c : Clause) → IsName bytes tokens name c.name → MeansSides bytes tokens table l.sides c.left c.right → IsNameTerminal (terminal_at bytes tokens name) → FineLiteral l → PrintableClause table c
+    clause_means name l c is_name m named h = (
+      (name_spellable bytes tokens are name c.name is_name named, means_printable m.means_left h.0.0, means_printable m.means_right h.1.0),
       record {
-        left = side_small m.sides.means_left h.1.0.1;
-        right = side_small m.sides.means_right h.1.1.1;
-        few_left = few_seen f.literal.sides h.1.0.1 h.1.1.1 m.sides.means_left;
-        few_right = few_seen f.literal.sides h.1.0.1 h.1.1.1 m.sides.means_right;
+        left = side_small m.means_left h.0.1;
+        right = side_small m.means_right h.1.1;
+        few_left = few_seen l.sides h.0.1 h.1.1 m.means_left;
+        few_right = few_seen l.sides h.0.1 h.1.1 m.means_right;
       },
     )
+
+    pub item_means : (e : Entry) (i : Item) → MeansItem bytes tokens table e i → FineEntry e → PrintableItem table i
+    item_means (formula f) (item.Clause c) m h = clause_means f.heading.name f.literal c m.name m.sides h.0 h.1
     item_means (inclusion j) (item.Include i) m h = subst IsSpellable (sym m.file) (word_spellable bytes tokens are j.file h)
     item_means (formula f) (item.Include i) m h = absurd m
     item_means (inclusion j) (item.Clause c) m h = absurd m
-
-    items_mean : {es : List Entry} {is : List Item} → MeanItems bytes tokens table es is → FineEntries es → PrintableItems table is
-    items_mean no_items h = tt
-    items_mean (one_item {entry = e} {i = i} m ms) h = (item_means e i m h.0, items_mean ms h.1)
-
-pub file_printable : (bytes : List ℕ) (table : Table) (is : List Item) → ReadsFile bytes table is → PrintableItems table is
-file_printable bytes table is r = items_mean bytes r.reads.tokens r.reads.are_tokens table r.reads.means (items_fine bytes r.reads.tokens r.reads.reads)

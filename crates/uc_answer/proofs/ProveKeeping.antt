@@ -12,7 +12,7 @@ use Rattle.uc_machine.specs.State.{Opening, State}
 use Rattle.uc_runs.specs.Causes.{Causes, CausesIfLimit}
 use Rattle.uc_words.specs.declared.command.Command.{Command}
 use Rattle.uc_ordering.specs.Meaning.{meaning_of}
-use Rattle.uc_answer.specs.StatusLines.{status_line, line_for}
+use Rattle.uc_answer.specs.StatusLines.{status_line, line_for, proved_word, saturated_word}
 use Rattle.uc_answer.specs.VerdictLines.{verdict_status, opening_for, HasEnded}
 use Rattle.uc_answer.specs.LimitLines.{IsLimitLine}
 use Rattle.uc_answer.specs.Promises.{Certifies, IsRefuted, Settles, HasPassed, IsSettled, IsStopped, Keeps}
@@ -24,7 +24,7 @@ module _ (table : Table) (command : Command) (name : List ℕ) (problem : Proble
     proof = r.proof;
     history = r.history ++ more;
     certifies = r.certifies;
-    answer_is = ap (λ t. t ++ more) r.answer_is ∙ append_assoc (status_line (codes "Unsatisfiable") name ++ r.proof) r.history more;
+    answer_is = ap (λ t. t ++ more) r.answer_is ∙ append_assoc (status_line (proved_word problem) name ++ r.proof) r.history more;
   }
 
   settled_more : (spec : OrderSpec) (answer more : List ℕ) → IsSettled table command name problem spec answer → IsSettled table command name problem spec (answer ++ more)
@@ -35,7 +35,7 @@ module _ (table : Table) (command : Command) (name : List ℕ) (problem : Proble
     settles = r.settles;
     asked = r.asked;
     not_asked = r.not_asked;
-    answer_is = ap (λ t. t ++ more) r.answer_is ∙ append_assoc (status_line (codes "Satisfiable") name ++ line_for (codes "% SZS output start Saturation") name ++ r.system ++ line_for (codes "% SZS output end Saturation") name ++ r.certificate) r.history more;
+    answer_is = ap (λ t. t ++ more) r.answer_is ∙ append_assoc (status_line (saturated_word problem) name ++ line_for (codes "% SZS output start Saturation") name ++ r.system ++ line_for (codes "% SZS output end Saturation") name ++ r.certificate) r.history more;
   }
 
   stopped_more : (spec : OrderSpec) (answer more : List ℕ) → IsStopped table command name problem spec answer → IsStopped table command name problem spec (answer ++ more)
@@ -64,13 +64,13 @@ module _ (table : Table) (command : Command) (name : List ℕ) (problem : Proble
   }
 
   module _ (encoded : Encoded) (spec : OrderSpec) (s : State) where
-    pub proved_keeps : (goal : ℕ) (text answer : List ℕ) → HasEnded table command problem encoded spec (Proved goal) s → Certifies table problem text → answer ≡ status_line (codes "Unsatisfiable") name ++ text → Keeps table command name problem 0 answer
+    pub proved_keeps : (goal : ℕ) (text answer : List ℕ) → HasEnded table command problem encoded spec (Proved goal) s → Certifies table problem text → answer ≡ status_line (proved_word problem) name ++ text → Keeps table command name problem 0 answer
     proved_keeps goal text answer h c e = record {
       fresh = encoded.fresh;
       marked = h.encodes.0;
       spec = spec;
       chosen = h.chosen;
-      refuted = λ z. record { proof = text; history = []; certifies = c; answer_is = e ∙ sym (append-nil (status_line (codes "Unsatisfiable") name ++ text)) };
+      refuted = λ z. record { proof = text; history = []; certifies = c; answer_is = e ∙ sym (append-nil (status_line (proved_word problem) name ++ text)) };
       settled = λ z. absurd (omega (arith, z));
       stopped = λ z. absurd (omega (arith, z));
     }
@@ -79,7 +79,7 @@ module _ (table : Table) (command : Command) (name : List ℕ) (problem : Proble
     in_a_row : (a b c d : List ℕ) → a ++ (b ++ c ++ d) ≡ a ++ b ++ c ++ d
     in_a_row a b c d = sym (append_assoc a (b ++ c) d) ∙ ap (λ t. t ++ d) (sym (append_assoc a b c))
 
-    pub saturated_keeps : (system certificate answer : List ℕ) → HasEnded table command problem encoded spec Saturated s → (c : Settles table problem spec system) → (command.certificate ≡ true → HasPassed table problem spec c.system (status_line (codes "Satisfiable") name ++ (line_for (codes "% SZS output start Saturation") name ++ system ++ line_for (codes "% SZS output end Saturation") name)) certificate) → (command.certificate ≡ false → certificate ≡ []) → answer ≡ status_line (codes "Satisfiable") name ++ (line_for (codes "% SZS output start Saturation") name ++ system ++ line_for (codes "% SZS output end Saturation") name) ++ certificate → Keeps table command name problem 1 answer
+    pub saturated_keeps : (system certificate answer : List ℕ) → HasEnded table command problem encoded spec Saturated s → (c : Settles table problem spec system) → (command.certificate ≡ true → HasPassed table problem spec c.system (status_line (saturated_word problem) name ++ (line_for (codes "% SZS output start Saturation") name ++ system ++ line_for (codes "% SZS output end Saturation") name)) certificate) → (command.certificate ≡ false → certificate ≡ []) → answer ≡ status_line (saturated_word problem) name ++ (line_for (codes "% SZS output start Saturation") name ++ system ++ line_for (codes "% SZS output end Saturation") name) ++ certificate → Keeps table command name problem 1 answer
     saturated_keeps system certificate answer h c asked not_asked e = record {
       fresh = encoded.fresh;
       marked = h.encodes.0;
@@ -91,9 +91,9 @@ module _ (table : Table) (command : Command) (name : List ℕ) (problem : Proble
         certificate = certificate;
         history = [];
         settles = c;
-        asked = λ is. subst (λ before. HasPassed table problem spec c.system before certificate) (in_a_row (status_line (codes "Satisfiable") name) (line_for (codes "% SZS output start Saturation") name) system (line_for (codes "% SZS output end Saturation") name)) (asked is);
+        asked = λ is. subst (λ before. HasPassed table problem spec c.system before certificate) (in_a_row (status_line (saturated_word problem) name) (line_for (codes "% SZS output start Saturation") name) system (line_for (codes "% SZS output end Saturation") name)) (asked is);
         not_asked = not_asked;
-        answer_is = e ∙ ap (λ t. t ++ certificate) (in_a_row (status_line (codes "Satisfiable") name) (line_for (codes "% SZS output start Saturation") name) system (line_for (codes "% SZS output end Saturation") name)) ∙ sym (append-nil (status_line (codes "Satisfiable") name ++ line_for (codes "% SZS output start Saturation") name ++ system ++ line_for (codes "% SZS output end Saturation") name ++ certificate));
+        answer_is = e ∙ ap (λ t. t ++ certificate) (in_a_row (status_line (saturated_word problem) name) (line_for (codes "% SZS output start Saturation") name) system (line_for (codes "% SZS output end Saturation") name)) ∙ sym (append-nil (status_line (saturated_word problem) name ++ line_for (codes "% SZS output start Saturation") name ++ system ++ line_for (codes "% SZS output end Saturation") name ++ certificate));
       };
       stopped = λ z. absurd (omega (arith, z));
     }

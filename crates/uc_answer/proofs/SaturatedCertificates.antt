@@ -14,7 +14,7 @@ use Rattle.uc_term.proofs.Gets.{get-map, map-get}
 use Rattle.uc_check.specs.declared.proof.Line.{Line}
 use Rattle.uc_check.specs.declared.proof.Proof.{Proof}
 use Rattle.uc_check.specs.Checks.{AreRightBefore}
-use Rattle.uc_tstp.specs.Printing.{AreNumbers, AreLinesOf}
+use Rattle.uc_tstp.specs.Printing.{AreNumbers}
 use Rattle.uc_order.specs.Members.{In, Each}
 use Rattle.uc_order.specs.Laws.{Meaning, HasSym}
 use Rattle.uc_order.specs.declared.spec.OrderSpec.{OrderSpec}

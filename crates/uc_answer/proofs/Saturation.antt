@@ -1,5 +1,5 @@
 -- What a search decides that ended saturated, by whatever order and from whatever opening over its signature.
-use Rattle.std.proofs.Common.{ℕ, ◌≡◌, List, [], ◌∷◌, slice_get, Some, sym, ap, ◌∙◌, subst, arith}
+use Rattle.std.proofs.Common.{ℕ, ◌≡◌, List, [], ◌∷◌, slice_get, Some, sym, ap, ◌∙◌, subst}
 use Rattle.uc_term.specs.declared.equation.Equation.{Equation}
 use Rattle.uc_order.specs.Laws.{Meaning, Laws, HasSym}
 use Rattle.uc_fact.specs.declared.fact.System.{System}

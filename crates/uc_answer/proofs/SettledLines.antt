@@ -1,6 +1,6 @@
 -- No line of a status and a system begins as a certificate does.
-use Rattle.std.proofs.Common.{◌⊎◌, inl, inr, ℕ, ◌≡◌, ◌<◌, ◌≤◌, ◌+◌, ◌^◌, Bool, true, false, List, [], ◌∷◌, ◌++◌, length, codes, decimal, refl, arith}
-use Rattle.std.specs.List.{list_all}
+use Rattle.std.proofs.Common.{◌⊎◌, inl, inr, ℕ, ◌≡◌, ◌<◌, ◌≤◌, ◌+◌, ◌^◌, Bool, true, false, List, [], ◌∷◌, ◌++◌, length, codes, cond, decimal, refl, arith}
+use Rattle.std.specs.Option.{is_some}
 use Rattle.uc_term.specs.declared.node.Sym.{Sym}
 use Rattle.uc_term.specs.declared.equation.Equation.{Equation}
 use Rattle.uc_term.specs.Table.{Table, name_of, arity_of}
@@ -8,6 +8,7 @@ use Rattle.uc_clause.specs.Bytes.{in_line}
 use Rattle.uc_clause.specs.Names.{spelling}
 use Rattle.uc_clause.specs.Printable.{IsPrintableSymbol}
 use Rattle.uc_tstp.specs.Printable.{IsProofName}
+use Rattle.uc_problem.specs.declared.problem.Problem.{Problem}
 use Rattle.uc_order.specs.Members.{Each}
 use Rattle.uc_order.specs.declared.spec.OrderSpec.{OrderSpec}
 use Rattle.uc_order.specs.declared.spec.OrderSpec.TheVariants.{Kbo, Lpo}
@@ -25,7 +26,7 @@ use Rattle.uc_system.proofs.TextsInLine.{InLine, spelling_in_line, fact_in_line}
 use Rattle.uc_certificate.specs.Headings.{HasNoLine, nothing_stands, other_stands}
 use Rattle.uc_certificate.proofs.LinesPassed.{no_line_both}
 use Rattle.uc_answer.specs.CertificateLines.{begins_certificate}
-use Rattle.uc_answer.specs.StatusLines.{line_for}
+use Rattle.uc_answer.specs.StatusLines.{line_for, status_line, saturated_word}
 
 abbrev pub HasNone : List ℕ → Type 0
 HasNone text = HasNoLine begins_certificate text
@@ -40,6 +41,14 @@ both a b h k = no_line_both begins_certificate b h k
 -- the line of a problem's name, behind these words
 pub title_line : (words name : List ℕ) → InLine words → IsProofName name → begins_certificate (words ++ codes " for " ++ name) ≡ false → HasNone (line_for words name)
 title_line words name all named other = one_line (words ++ codes " for " ++ name) (all_append in_line (words ++ codes " for ") name (all_append in_line words (codes " for ") all refl) named.1) other
+
+-- the status line of a problem of which no goal follows
+pub status_none : (problem : Problem) (name : List ℕ) → IsProofName name → HasNone (status_line (saturated_word problem) name)
+status_none problem name named = go (is_some problem.conjecture)
+  where
+    go : (b : Bool) → HasNone (status_line (cond b (codes "CounterSatisfiable") (codes "Satisfiable")) name)
+    go true = title_line (codes "% SZS status " ++ codes "CounterSatisfiable") name refl named refl
+    go false = title_line (codes "% SZS status " ++ codes "Satisfiable") name refl named refl
 
 low_weight : (w : ℕ) → (1000000 < w → ⊥) → w < 2 ^ 64
 low_weight w n = go (let d : (1000000 < w) ⊎ (w ≤ 1000000) = grind arith in d)

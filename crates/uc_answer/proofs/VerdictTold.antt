@@ -15,7 +15,7 @@ use Rattle.uc_system.specs.Printing.{system_text}
 use Rattle.uc_words.specs.declared.command.Command.{Command}
 use Rattle.uc_answer.specs.Lines.{joined}
 use Rattle.uc_answer.specs.PrintableProblems.{CanBePrinted}
-use Rattle.uc_answer.specs.StatusLines.{status_line, line_for}
+use Rattle.uc_answer.specs.StatusLines.{status_line, line_for, saturated_word, proved_word}
 use Rattle.uc_answer.specs.VerdictLines.{verdict_status, saturation_text, IsProofText, VerdictAnswers, is_proved, is_saturated, is_out, HasEnded}
 use Rattle.uc_answer.specs.LimitLines.{IsLimitLine}
 use Rattle.uc_answer.specs.CertificateLines.{IsReadBackIf}
@@ -28,8 +28,8 @@ use Rattle.uc_answer.proofs.ProveKeeping.{keeps_more, proved_keeps, saturated_ke
 pub saturation_lines : (a b d t : List ℕ) (ls all : List (List ℕ)) → joined ls ≡ t → all ≡ a ∷ b ∷ (ls ++ d ∷ []) → joined all ≡ a ++ (b ++ t ++ d)
 saturation_lines a b d t ls all e is = ap joined is ∙ ap (λ z. a ++ (b ++ z)) (joined_one ls d ∙ ap (λ z. z ++ d) e) ∙ ap (λ z. a ++ z) (sym (append_assoc b t d))
 
-pub saturation_so : (name system a b d t : List ℕ) (ls all : List (List ℕ)) → a ≡ status_line (codes "Satisfiable") name → b ≡ line_for (codes "% SZS output start Saturation") name → d ≡ line_for (codes "% SZS output end Saturation") name → t ≡ system → joined ls ≡ t → all ≡ a ∷ b ∷ (ls ++ d ∷ []) → joined all ≡ status_line (codes "Satisfiable") name ++ (line_for (codes "% SZS output start Saturation") name ++ system ++ line_for (codes "% SZS output end Saturation") name)
-saturation_so name system a b d t ls all is_a is_b is_d is_t e is = saturation_lines a b d t ls all e is ∙ ap (λ x. x ++ (b ++ t ++ d)) is_a ∙ ap (λ x. status_line (codes "Satisfiable") name ++ (x ++ t ++ d)) is_b ∙ ap (λ x. status_line (codes "Satisfiable") name ++ (line_for (codes "% SZS output start Saturation") name ++ x ++ d)) is_t ∙ ap (λ x. status_line (codes "Satisfiable") name ++ (line_for (codes "% SZS output start Saturation") name ++ system ++ x)) is_d
+pub saturation_so : (word name system a b d t : List ℕ) (ls all : List (List ℕ)) → a ≡ status_line word name → b ≡ line_for (codes "% SZS output start Saturation") name → d ≡ line_for (codes "% SZS output end Saturation") name → t ≡ system → joined ls ≡ t → all ≡ a ∷ b ∷ (ls ++ d ∷ []) → joined all ≡ status_line word name ++ (line_for (codes "% SZS output start Saturation") name ++ system ++ line_for (codes "% SZS output end Saturation") name)
+saturation_so word name system a b d t ls all is_a is_b is_d is_t e is = saturation_lines a b d t ls all e is ∙ ap (λ x. x ++ (b ++ t ++ d)) is_a ∙ ap (λ x. status_line word name ++ (x ++ t ++ d)) is_b ∙ ap (λ x. status_line word name ++ (line_for (codes "% SZS output start Saturation") name ++ x ++ d)) is_t ∙ ap (λ x. status_line word name ++ (line_for (codes "% SZS output start Saturation") name ++ system ++ x)) is_d
 
 module _ (table : Table) (command : Command) (name : List ℕ) (problem : Problem) where
   abbrev pub Promises : ℕ → List ℕ → Type 0
@@ -41,7 +41,7 @@ module _ (table : Table) (command : Command) (name : List ℕ) (problem : Proble
 
   module _ (encoded : Encoded) (spec : OrderSpec) (s : State) where
     abbrev pub ToldProof : ℕ → List (List ℕ) → Type 0
-    ToldProof goal lines = (text : List ℕ) × IsProofText table command name problem encoded spec s goal text × (CanBePrinted table name problem → Certifies table problem text) × (joined lines ≡ status_line (codes "Unsatisfiable") name ++ text)
+    ToldProof goal lines = (text : List ℕ) × IsProofText table command name problem encoded spec s goal text × (CanBePrinted table name problem → Certifies table problem text) × (joined lines ≡ status_line (proved_word problem) name ++ text)
 
     abbrev pub ToldLimit : Verdict → List (List ℕ) → Type 0
     ToldLimit v lines = (line : List ℕ) × IsLimitLine command s v line × (joined lines ≡ status_line (codes "ResourceOut") name ++ line)
@@ -55,7 +55,7 @@ module _ (table : Table) (command : Command) (name : List ℕ) (problem : Proble
     proved_promised goal (Err fault) h t = tt
 
     -- the certificate's lines behind those of the system
-    module _ (lines : List (List ℕ)) (told : joined lines ≡ status_line (codes "Satisfiable") name ++ saturation_text table command name problem encoded spec s) where
+    module _ (lines : List (List ℕ)) (told : joined lines ≡ status_line (saturated_word problem) name ++ saturation_text table command name problem encoded spec s) where
       abbrev ToldCertificate : List (List ℕ) → Type 0
       ToldCertificate all = (text : List ℕ) × IsReadBackIf table problem encoded spec s command.certificate text × (joined all ≡ joined lines ++ text)
 

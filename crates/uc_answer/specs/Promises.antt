@@ -33,7 +33,7 @@ use Rattle.uc_ordering.specs.Choice.{IsChosen, all_symbols}
 use Rattle.uc_ordering.specs.Fits.{Fits}
 use Rattle.uc_ordering.specs.Meaning.{meaning_of}
 use Rattle.uc_answer.specs.VerdictLines.{opening_for}
-use Rattle.uc_answer.specs.StatusLines.{status_line, line_for}
+use Rattle.uc_answer.specs.StatusLines.{status_line, line_for, proved_word, saturated_word}
 use Rattle.uc_answer.specs.LimitLines.{IsLimitLine}
 
 -- A PRINTED PROOF, READ BACK
@@ -54,7 +54,7 @@ pub record IsRefuted (table : Table) (name : List ℕ) (problem : Problem) (answ
   pub proof : List ℕ
   pub history : List ℕ
   pub certifies : Certifies table problem proof
-  pub answer_is : answer ≡ status_line (codes "Unsatisfiable") name ++ proof ++ history
+  pub answer_is : answer ≡ status_line (proved_word problem) name ++ proof ++ history
 
 -- A PRINTED SYSTEM
 
@@ -95,8 +95,8 @@ pub record IsSettled (table : Table) (command : Command) (name : List ℕ) (prob
   pub certificate : List ℕ
   pub history : List ℕ
   pub settles : Settles table problem spec system
-  pub answer_is : answer ≡ status_line (codes "Satisfiable") name ++ line_for (codes "% SZS output start Saturation") name ++ system ++ line_for (codes "% SZS output end Saturation") name ++ certificate ++ history
-  pub asked : command.certificate ≡ true → HasPassed table problem spec settles.system (status_line (codes "Satisfiable") name ++ line_for (codes "% SZS output start Saturation") name ++ system ++ line_for (codes "% SZS output end Saturation") name) certificate
+  pub answer_is : answer ≡ status_line (saturated_word problem) name ++ line_for (codes "% SZS output start Saturation") name ++ system ++ line_for (codes "% SZS output end Saturation") name ++ certificate ++ history
+  pub asked : command.certificate ≡ true → HasPassed table problem spec settles.system (status_line (saturated_word problem) name ++ line_for (codes "% SZS output start Saturation") name ++ system ++ line_for (codes "% SZS output end Saturation") name) certificate
   pub not_asked : command.certificate ≡ false → certificate ≡ []
 
 -- A LIMIT

@@ -22,7 +22,7 @@ use Rattle.uc_ordering.specs.Choice.{IsChosen}
 use Rattle.uc_ordering.specs.Fits.{Fits}
 use Rattle.uc_ordering.specs.Meaning.{meaning_of}
 use Rattle.uc_answer.specs.TraceLines.{trace_text}
-use Rattle.uc_answer.specs.StatusLines.{line_for, status_line}
+use Rattle.uc_answer.specs.StatusLines.{line_for, status_line, proved_word, saturated_word}
 use Rattle.uc_answer.specs.LimitLines.{IsLimitLine}
 use Rattle.uc_answer.specs.CertificateLines.{IsCertificateIf}
 
@@ -67,6 +67,6 @@ module _ (table : Table) (command : Command) (name : List ℕ) where
     -- The text for the verdict of a book in this state: the proof; the system, with its certificate behind it where one is asked for; or
     -- the limit.
     pub data VerdictAnswers : Verdict → List ℕ → Type 0 where
-      is_proved : {goal : ℕ} {text : List ℕ} → IsProofText goal text → VerdictAnswers (Proved goal) (status_line (codes "Unsatisfiable") name ++ text)
-      is_saturated : {text : List ℕ} → IsCertificateIf table problem encoded spec s command.certificate text → VerdictAnswers Saturated (status_line (codes "Satisfiable") name ++ saturation_text ++ text)
+      is_proved : {goal : ℕ} {text : List ℕ} → IsProofText goal text → VerdictAnswers (Proved goal) (status_line (proved_word problem) name ++ text)
+      is_saturated : {text : List ℕ} → IsCertificateIf table problem encoded spec s command.certificate text → VerdictAnswers Saturated (status_line (saturated_word problem) name ++ saturation_text ++ text)
       is_out : {v : Verdict} {line : List ℕ} → IsLimitLine command s v line → VerdictAnswers v (status_line (codes "ResourceOut") name ++ line)

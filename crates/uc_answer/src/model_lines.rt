@@ -10,15 +10,17 @@ ghost use Rattle.uc_answer.specs.ModelLines.{searched_status, searched_lines, no
 use crate::answer::{Answer, DONE, NO, STOPPED, of_line};
 use crate::chaining::write_number;
 use crate::limit_lines::budget_line;
-use crate::szs::with_status;
+use crate::szs::{saturated_word, with_status};
 use std::alloc::{AllocError, Global};
+use uc_problem::Problem;
 use uc_table::{Searched, print_table};
 use uc_term::{Symbols, Text};
 
-/// Returns the answer of a search for a model among the tables up to a size, with a budget of prefixes: the table that was found,
+/// Returns the answer of a search for a model of a problem among the tables up to a size, with a budget of prefixes: the table that was found,
 /// with status 0; that there is none, with status 1; or the limit that ended the search, with status 2.
 pub fn searched_answer(
     alloc: Global,
+    problem: &Problem,
     name: &[u8],
     size: u32,
     budget: u32,
@@ -27,12 +29,13 @@ pub fn searched_answer(
 ) -> Result<Answer, AllocError>
     requires symbols { (table : AnyTable) → searched.now ≡ Found table → HasAll symbols.now table.symbols }
     requires rows { (table : AnyTable) → searched.now ≡ Found table → length table.cells ≡ length table.symbols }
-    ensures { IfOk result (λ answer. (answer.status ≡ searched_status searched.now) × (joined answer.lines ≡ searched_lines symbols.now name.now size budget searched.now)) }
+    ensures { IfOk result (λ answer. (answer.status ≡ searched_status searched.now) × (joined answer.lines ≡ searched_lines symbols.now problem.now name.now size budget searched.now)) }
 {
     match searched {
         Searched::Found(table) => {
             let text = print_table(alloc, table, symbols)?;
-            with_status(alloc, b"Satisfiable", name, of_line(alloc, DONE, text)?)
+            let answer = of_line(alloc, DONE, text)?;
+            with_status(alloc, saturated_word(problem), name, answer)
         }
         Searched::Absent => of_line(alloc, NO, none_line(alloc, size)?),
         Searched::Spent(visited) => {

@@ -1,15 +1,15 @@
-//! The status lines of `prove`.
+//! The status lines of `prove`, `decide` and `model`.
 
 ghost use Rattle.std.specs.Prelude.{◌≡◌, ◌++◌, IfOk};
 ghost use Rattle.uc_answer.specs.Lines.{joined, load_line};
 ghost use Rattle.uc_answer.specs.Refusals.{load_status};
-ghost use Rattle.uc_answer.specs.StatusLines.{line_for, status_line, is_syntax, unloaded_word};
+ghost use Rattle.uc_answer.specs.StatusLines.{line_for, status_line, proved_word, saturated_word, is_syntax, unloaded_word};
 
 use crate::answer::Answer;
 use crate::refusing::load_answer;
 use std::alloc::{AllocError, Global};
 use uc_clause::ClauseFault;
-use uc_problem::LoadFault;
+use uc_problem::{LoadFault, Problem};
 use uc_term::{Seq, Text};
 
 /// A line that ends with the name of the problem.
@@ -30,6 +30,28 @@ pub(crate) fn status_line(alloc: Global, word: &[u8], name: &[u8]) -> Result<Tex
     let mut words = Text::from_bytes(alloc, b"% SZS status ")?;
     words.extend(word)?;
     line_for(alloc, words.as_bytes(), name)
+}
+
+/// The status word for a problem of which a goal follows.
+pub(crate) fn proved_word(problem: &Problem) -> &'static [u8]
+    ensures { result.now ≡ proved_word problem.now }
+{
+    if problem.conjecture.is_some() {
+        b"Theorem"
+    } else {
+        b"Unsatisfiable"
+    }
+}
+
+/// The status word for a problem of which no goal follows.
+pub(crate) fn saturated_word(problem: &Problem) -> &'static [u8]
+    ensures { result.now ≡ saturated_word problem.now }
+{
+    if problem.conjecture.is_some() {
+        b"CounterSatisfiable"
+    } else {
+        b"Satisfiable"
+    }
 }
 
 /// Whether it is the text of a file that is no list of clauses.

@@ -1,6 +1,6 @@
 //! The lines of the verdict of a book: a proof, a system, or the limit that ended the search.
 
-ghost use Rattle.std.specs.Prelude.{◌≡◌, ◌<◌, ◌≤◌, ◌+◌, ◌^◌, ◌++◌, ℕ, List, codes, IfOk, OnOk, OnErr};
+ghost use Rattle.std.specs.Prelude.{◌≡◌, ◌<◌, ◌≤◌, ◌+◌, ◌^◌, ◌++◌, ℕ, List, IfOk, OnOk, OnErr};
 ghost use Rattle.uc_fact.specs.Live.{equations_of};
 ghost use Rattle.uc_shelf.specs.Entries.{live};
 ghost use Rattle.uc_machine.specs.declared.event.Verdict.TheVariants.{Proved, Saturated};
@@ -10,14 +10,14 @@ ghost use Rattle.uc_ordering.specs.Chosen.{IsOrderOf};
 ghost use Rattle.uc_system.specs.Printing.{system_text};
 ghost use Rattle.uc_answer.specs.Lines.{joined};
 ghost use Rattle.uc_answer.specs.PrintableProblems.{CanBePrinted};
-ghost use Rattle.uc_answer.specs.StatusLines.{status_line};
+ghost use Rattle.uc_answer.specs.StatusLines.{status_line, proved_word, saturated_word};
 ghost use Rattle.uc_answer.specs.VerdictLines.{verdict_status, trace_if, saturation_text, IsProofText, VerdictAnswers, HasEnded};
 ghost use Rattle.uc_answer.specs.Promises.{Certifies, Settles, Keeps};
 
 use crate::answer::{Answer, DONE, NO, STOPPED};
 use crate::certificate_lines::certified;
 use crate::limit_lines::out_lines;
-use crate::szs::{line_for, status_line};
+use crate::szs::{line_for, proved_word, saturated_word, status_line};
 use crate::trace_lines::trace_lines;
 use std::alloc::{AllocError, Global};
 use uc_book::Book;
@@ -144,11 +144,12 @@ fn proved_lines<O: Order>(
     requires shelf { book.now.opening.shelf ≡ closed.now.shelf.now }
     requires problem { book.now.opening.problem ≡ closed.now.encoded.now }
     requires ended { HasEnded closed.now.symbols.now closed.now.command.now closed.now.problem.now closed.now.encoded.now closed.now.spec.now (Proved goal) book.now.state }
-    ensures { IfOk result (λ lines. (text : List ℕ) × IsProofText closed.now.symbols.now closed.now.command.now closed.now.name.now closed.now.problem.now closed.now.encoded.now closed.now.spec.now book.now.state goal text × (CanBePrinted closed.now.symbols.now closed.now.name.now closed.now.problem.now → Certifies closed.now.symbols.now closed.now.problem.now text) × (joined lines ≡ status_line (codes "Unsatisfiable") closed.now.name.now ++ text)) }
+    ensures { IfOk result (λ lines. (text : List ℕ) × IsProofText closed.now.symbols.now closed.now.command.now closed.now.name.now closed.now.problem.now closed.now.encoded.now closed.now.spec.now book.now.state goal text × (CanBePrinted closed.now.symbols.now closed.now.name.now closed.now.problem.now → Certifies closed.now.symbols.now closed.now.problem.now text) × (joined lines ≡ status_line (proved_word closed.now.problem.now) closed.now.name.now ++ text)) }
 {
     let text = proof_of(alloc, closed, book, goal)?;
     let mut lines = Seq::new(alloc);
-    lines.push(status_line(alloc, b"Unsatisfiable", closed.name)?)?;
+    let word = proved_word(closed.problem);
+    lines.push(status_line(alloc, word, closed.name)?)?;
     lines.append(lines_of(alloc, text.as_bytes())?)?;
     Ok(lines)
 }
@@ -217,12 +218,13 @@ fn system_lines<O: Order>(
 ) -> Result<Seq<Text>, AllocError>
     requires shelf { book.now.opening.shelf ≡ closed.now.shelf.now }
     requires ended { HasEnded closed.now.symbols.now closed.now.command.now closed.now.problem.now closed.now.encoded.now closed.now.spec.now Saturated book.now.state }
-    ensures lines { IfOk result (λ lines. joined lines ≡ status_line (codes "Satisfiable") closed.now.name.now ++ saturation_text closed.now.symbols.now closed.now.command.now closed.now.name.now closed.now.problem.now closed.now.encoded.now closed.now.spec.now book.now.state) }
+    ensures lines { IfOk result (λ lines. joined lines ≡ status_line (saturated_word closed.now.problem.now) closed.now.name.now ++ saturation_text closed.now.symbols.now closed.now.command.now closed.now.name.now closed.now.problem.now closed.now.encoded.now closed.now.spec.now book.now.state) }
     ensures promise { IfOk result (λ _. CanBePrinted closed.now.symbols.now closed.now.name.now closed.now.problem.now → (settled : Settles closed.now.symbols.now closed.now.problem.now closed.now.spec.now (system_text closed.now.symbols.now closed.now.spec.now (equations_of (live book.now.state.entries)))) × (settled.system.facts ≡ equations_of (live book.now.state.entries))) }
 {
     let text = system_of(alloc, closed, book)?;
     let mut lines = Seq::new(alloc);
-    lines.push(status_line(alloc, b"Satisfiable", closed.name)?)?;
+    let word = saturated_word(closed.problem);
+    lines.push(status_line(alloc, word, closed.name)?)?;
     lines.push(line_for(alloc, b"% SZS output start Saturation", closed.name)?)?;
     lines.append(lines_of(alloc, text.as_bytes())?)?;
     lines.push(line_for(alloc, b"% SZS output end Saturation", closed.name)?)?;

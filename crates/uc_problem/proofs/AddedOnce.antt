@@ -19,7 +19,7 @@ get_last : (table : Table) (e : Entry) → slice_get (table ++ e ∷ []) (length
 get_last [] e = refl
 get_last (x ∷ table) e = get_last table e
 
-get_entry : (table : Table) (f : Sym) → Has table f → slice_get table f.0 ≡ Some (entry_of table f)
+pub get_entry : (table : Table) (f : Sym) → Has table f → slice_get table f.0 ≡ Some (entry_of table f)
 get_entry table f h = go table f.0 h
   where
     go : (t : Table) (i : ℕ) → i < length t → slice_get t i ≡ Some (unwrap_or (slice_get t i) (record { name = []; arity = 0 }))
@@ -78,8 +78,18 @@ module _ (old N M : Table) (fs : List Sym) (has : HasAll old fs) (to_N : Grows o
       go (inr (inl l)) = absurd (q.first p.number l (free_there (tried_name word p.number) p.free))
       go (inr (inr l)) = absurd (p.first q.number l (free_here (tried_name word q.number) q.free))
 
+-- one entry makes one table
+pub one_adds_once : (old a b : Table) (f g : Sym) → IsDistinct a → IsDistinct b → AddsOne old a f → AddsOne old b g → entry_of a f ≡ entry_of b g → a ≡ b
+one_adds_once old a b f g distinct others x y same = go x.adds y.adds
+  where
+    go : AddsAtMost old a f → AddsAtMost old b g → a ≡ b
+    go (inl d) (inl e) = d ∙ sym e
+    go (inl d) (inr e) = absurd (twice old (entry_of b g) f.0 (ap (λ t. slice_get t f.0) (sym d) ∙ get_entry a f x.has ∙ ap Some same) (subst IsDistinct e others))
+    go (inr d) (inl e) = absurd (twice old (entry_of a f) g.0 (ap (λ t. slice_get t g.0) (sym e) ∙ get_entry b g y.has ∙ ap Some (sym same)) (subst IsDistinct d distinct))
+    go (inr d) (inr e) = d ∙ ap (λ z. old ++ z ∷ []) same ∙ sym e
+
 pub adds_once : (old a b N M : Table) (word : List ℕ) (arity : ℕ) (fs : List Sym) (f g : Sym) → HasAll old fs → Grows a N → Grows b M → IsDistinct N → IsDistinct M → AddsOne old a f → AddsOne old b g → IsFreshFor N word arity fs f → IsFreshFor M word arity fs g → a ≡ b
-adds_once old a b N M word arity fs f g has to_N to_M distinct others x y p q = go x.adds y.adds
+adds_once old a b N M word arity fs f g has to_N to_M distinct others x y p q = one_adds_once old a b f g (distinct_earlier a N to_N distinct) (distinct_earlier b M to_M others) x y same
   where
     from_a : Grows old N
     from_a = Grows-trans old a N (adds_grows old a f x) to_N
@@ -95,12 +105,6 @@ adds_once old a b N M word arity fs f g has to_N to_M distinct others x y p q = 
 
     same : entry_of a f ≡ entry_of b g
     same = fresh_entry a N word arity fs f to_N x.has p ∙ ap named numbers ∙ sym (fresh_entry b M word arity fs g to_M y.has q)
-
-    go : AddsAtMost old a f → AddsAtMost old b g → a ≡ b
-    go (inl d) (inl e) = d ∙ sym e
-    go (inl d) (inr e) = absurd (twice old (entry_of b g) f.0 (ap (λ t. slice_get t f.0) (sym d) ∙ get_entry a f x.has ∙ ap Some same) (subst IsDistinct e (distinct_earlier b M to_M others)))
-    go (inr d) (inl e) = absurd (twice old (entry_of a f) g.0 (ap (λ t. slice_get t g.0) (sym e) ∙ get_entry b g y.has ∙ ap Some (sym same)) (subst IsDistinct d (distinct_earlier a N to_N distinct)))
-    go (inr d) (inr e) = d ∙ ap (λ z. old ++ z ∷ []) same ∙ sym e
 
 -- the symbols of an encoding, or none, are added to one table
 module _ (problem : Problem) (old new other : Table) (distinct : IsDistinct new) (others : IsDistinct other) (has : HasAll old problem.signature.symbols) where

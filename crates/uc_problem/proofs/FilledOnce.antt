@@ -10,61 +10,80 @@ use Rattle.uc_term.specs.Signatures.{Occurrence, occurrences_of, Gathers, all_se
 use Rattle.uc_term.proofs.Grown.{AllHave, have_from, gathers-grows, first_named-grows, first_constant-grows, name-grows}
 use Rattle.uc_edge.specs.Files.{Files}
 use Rattle.uc_clause.specs.declared.token.Token.{Token}
+use Rattle.uc_clause.specs.declared.token.Place.{Place}
 use Rattle.uc_clause.specs.declared.clause.Clause.{Clause}
 use Rattle.uc_clause.specs.declared.clause.Include.{Include}
 use Rattle.uc_clause.specs.declared.clause.Item.{Item}
 use Rattle.uc_clause.specs.declared.clause.Item.TheVariants as item
-use Rattle.uc_clause.specs.Rules.{Outcome, read}
+use Rattle.uc_clause.specs.declared.clause.Sourced.{Sourced}
 use Rattle.uc_clause.specs.Parse.{Entry as Part, formula, inclusion}
-use Rattle.uc_clause.specs.Items.{Items}
-use Rattle.uc_clause.specs.Meaning.{MeansItem, MeanItems, no_items, one_item}
-use Rattle.uc_clause.specs.Reading.{ReadsFile}
+use Rattle.uc_clause.specs.Meaning as clauses
 use Rattle.uc_clause.proofs.Once.{tokens_once}
-use Rattle.uc_clause.proofs.ItemsOnce.{items_once}
-use Rattle.uc_clause.proofs.InternedOnce.{file_interns_once}
+use Rattle.uc_fof.specs.declared.item.FofItem.{FofItem}
+use Rattle.uc_fof.specs.declared.item.FofItem.TheVariants as fof
+use Rattle.uc_fof.specs.Rules.{Outcome, read}
+use Rattle.uc_fof.specs.Parse.{Entry, item as an_item, stated}
+use Rattle.uc_fof.specs.Formulas.{Items}
+use Rattle.uc_fof.specs.Meaning.{MeansItem, MeanItems, no_items, one_item}
+use Rattle.uc_fof.specs.Reading.{ReadsFile}
+use Rattle.uc_fof.proofs.FormulasOnce.{items_once}
+use Rattle.uc_fof.proofs.Whole.{table_once}
+use Rattle.uc_problem.specs.declared.flat.FlatClause.{FlatClause}
 use Rattle.uc_problem.specs.declared.problem.Problem.{Problem}
 use Rattle.uc_problem.specs.Candidates.{candidates, folder_of}
 use Rattle.uc_problem.specs.Loading.{first_held}
+use Rattle.uc_problem.specs.Conjecture.{flat_terms, AreClosed}
 use Rattle.uc_problem.specs.Holds.{Flattens, Agrees, terms_of}
-use Rattle.uc_problem.specs.Filling.{FillsFile, fills_file, FillsItems, no_item_fills, clause_fills, include_fills, FillsProblem, AddsOne, IsFilled}
+use Rattle.uc_problem.specs.Filling.{FillsFile, fills_file, FillsItems, no_item_fills, clause_fills, formula_fills, include_fills, FillsProblem, AddsOne, AddsAll, FillsClosed, IsFilled}
 use Rattle.uc_problem.proofs.Later.{Grows-refl}
-use Rattle.uc_problem.proofs.Growth.{pushed}
+use Rattle.uc_problem.proofs.Growth.{terms_later, pushed}
 use Rattle.uc_problem.proofs.Outcomes.{some_once, some_or_none, ok_once, second_once}
 use Rattle.uc_problem.proofs.SignatureOnce.{gathers_once}
-use Rattle.uc_problem.proofs.HoldsOnce.{clauses_once, agrees_once}
+use Rattle.uc_problem.proofs.HoldsOnce.{flats_once, agrees_once}
 use Rattle.uc_problem.proofs.AddedOnce.{distinct_earlier, adds_grows, known_adds_nothing, adds_once}
+use Rattle.uc_problem.proofs.ClosedOnce.{closed_once, constants_alike, taken_alike, adds_all_grows, adds_all_once, closed_of}
 
--- items that are alike in what they include: a clause stands where a clause does, and an include where one of the same file does
-pub data AreAlike : List Item → List Item → Type 0 where
-  none_alike : AreAlike [] []
-  clauses_alike : {c d : Clause} {is js : List Item} → AreAlike is js → AreAlike (item.Clause c ∷ is) (item.Clause d ∷ js)
-  includes_alike : {i j : Include} {is js : List Item} → i.file ≡ j.file → AreAlike is js → AreAlike (item.Include i ∷ is) (item.Include j ∷ js)
+-- items that are alike in what they include: a clause stands where a clause does, a formula where a formula does, and an include where
+-- one of the same file does
+pub data ItemsAlike : List FofItem → List FofItem → Type 0 where
+  none_alike : ItemsAlike [] []
+  clauses_alike : {c d : Clause} {is js : List FofItem} → ItemsAlike is js → ItemsAlike (fof.Item (item.Clause c) ∷ is) (fof.Item (item.Clause d) ∷ js)
+  formulas_alike : {c d : Clause} {p q : Bool} {h k : Place} {is js : List FofItem} → ItemsAlike is js → ItemsAlike (fof.Formula c p h ∷ is) (fof.Formula d q k ∷ js)
+  includes_alike : {i j : Include} {is js : List FofItem} → i.file ≡ j.file → ItemsAlike is js → ItemsAlike (fof.Item (item.Include i) ∷ is) (fof.Item (item.Include j) ∷ js)
 
 -- what one text says is alike in any two tables
 module _ (bytes : List ℕ) (tokens : List Token) (t u : Table) where
-  item_alike : (part : Part) (i j : Item) {is js : List Item} → MeansItem bytes tokens t part i → MeansItem bytes tokens u part j → AreAlike is js → AreAlike (i ∷ is) (j ∷ js)
-  item_alike (formula f) (item.Clause c) (item.Clause d) m n a = clauses_alike a
-  item_alike (formula f) (item.Clause c) (item.Include j) m n a = absurd n
-  item_alike (formula f) (item.Include i) j m n a = absurd m
-  item_alike (inclusion k) (item.Include i) (item.Include j) m n a = includes_alike (m.file ∙ sym n.file) a
-  item_alike (inclusion k) (item.Include i) (item.Clause d) m n a = absurd n
-  item_alike (inclusion k) (item.Clause c) j m n a = absurd m
+  part_alike : (part : Part) (i j : Item) {is js : List FofItem} → clauses.MeansItem bytes tokens t part i → clauses.MeansItem bytes tokens u part j → ItemsAlike is js → ItemsAlike (fof.Item i ∷ is) (fof.Item j ∷ js)
+  part_alike (formula f) (item.Clause c) (item.Clause d) m n a = clauses_alike a
+  part_alike (formula f) (item.Clause c) (item.Include j) m n a = absurd n
+  part_alike (formula f) (item.Include i) j m n a = absurd m
+  part_alike (inclusion k) (item.Include i) (item.Include j) m n a = includes_alike (m.file ∙ sym n.file) a
+  part_alike (inclusion k) (item.Include i) (item.Clause d) m n a = absurd n
+  part_alike (inclusion k) (item.Clause c) j m n a = absurd m
 
-  items_alike : {parts : List Part} {is js : List Item} → MeanItems bytes tokens t parts is → MeanItems bytes tokens u parts js → AreAlike is js
+  item_alike : (entry : Entry) (i j : FofItem) {is js : List FofItem} → MeansItem bytes tokens t entry i → MeansItem bytes tokens u entry j → ItemsAlike is js → ItemsAlike (i ∷ is) (j ∷ js)
+  item_alike (an_item part) (fof.Item i) (fof.Item j) m n a = part_alike part i j m n a
+  item_alike (an_item part) (fof.Item i) (fof.Formula d q k) m n a = absurd n
+  item_alike (an_item part) (fof.Formula c p h) j m n a = absurd m
+  item_alike (stated s) (fof.Item i) j m n a = absurd m
+  item_alike (stated s) (fof.Formula c p h) (fof.Item j) m n a = absurd n
+  item_alike (stated s) (fof.Formula c p h) (fof.Formula d q k) m n a = formulas_alike a
+
+  items_alike : {entries : List Entry} {is js : List FofItem} → MeanItems bytes tokens t entries is → MeanItems bytes tokens u entries js → ItemsAlike is js
   items_alike no_items no_items = none_alike
-  items_alike (one_item {entry = part} {i = i} m ms) (one_item {i = j} n ns) = item_alike part i j m n (items_alike ms ns)
+  items_alike (one_item {entry = entry} {i = i} m ms) (one_item {i = j} n ns) = item_alike entry i j m n (items_alike ms ns)
 
-same_parts : {ps qs : List Part} {k l : ℕ} → Path (Outcome (List Part)) (read ps k) (read qs l) → qs ≡ ps
-same_parts e = cc
+same_entries : {ps qs : List Entry} {k l : ℕ} → Path (Outcome (List Entry)) (read ps k) (read qs l) → qs ≡ ps
+same_entries e = cc
 
-pub readings_alike : {bytes : List ℕ} {t u : Table} {is js : List Item} → ReadsFile bytes t is → ReadsFile bytes u js → AreAlike is js
+pub readings_alike : {bytes : List ℕ} {t u : Table} {is js : List FofItem} → ReadsFile bytes t is → ReadsFile bytes u js → ItemsAlike is js
 readings_alike {bytes} {t} {u} {is} {js} x y =
     let r = x.reads in
     let s = y.reads in
     let tokens : s.tokens ≡ r.tokens = tokens_once s.are_tokens r.are_tokens in
-    let reads = subst (λ ts. Items bytes ts 0 (read s.parse s.end)) tokens s.reads in
-    let parts : s.parse ≡ r.parse = same_parts (items_once bytes r.tokens 0 (read r.parse r.end) (read s.parse s.end) r.reads reads) in
-    let means = subst (λ ps. MeanItems bytes r.tokens u ps js) parts (subst (λ ts. MeanItems bytes ts u s.parse js) tokens s.means) in
+    let reads = subst (λ ts. Items bytes ts 0 (read s.entries s.end)) tokens s.reads in
+    let entries : s.entries ≡ r.entries = same_entries (items_once bytes r.tokens 0 (read r.entries r.end) (read s.entries s.end) r.reads reads) in
+    let means = subst (λ es. MeanItems bytes r.tokens u es js) entries (subst (λ ts. MeanItems bytes ts u s.entries js) tokens s.means) in
     items_alike bytes r.tokens t u r.means means
 
 -- the files fill the table in one way
@@ -75,7 +94,7 @@ module _ (files : Files) (folder : List ℕ) (root : Option (List ℕ)) where
   abbrev File : List ℕ → Table → Table → Type 0
   File = FillsFile files folder root
 
-  abbrev All : List Item → Table → Table → Type 0
+  abbrev All : List FofItem → Table → Table → Type 0
   All = FillsItems files folder root
 
   -- under one name one content is found
@@ -84,11 +103,12 @@ module _ (files : Files) (folder : List ℕ) (root : Option (List ℕ)) where
 
   mutual
     pub file_fills_once : {bytes : List ℕ} {old a b : Table} → File bytes old a → File bytes old b → a ≡ b
-    file_fills_once {b = b} (fills_file {read = t} {items = is} i r x) (fills_file {read = u} {items = js} k s y) = items_fill_once (readings_alike r s) x (subst (λ table. All js table b) (file_interns_once k i) y)
+    file_fills_once {bytes} {old} {b = b} (fills_file {read = t} {items = is} i r x) (fills_file {read = u} {items = js} k s y) = items_fill_once (readings_alike r s) x (subst (λ table. All js table b) (table_once bytes old u t k i) y)
 
-    pub items_fill_once : {is js : List Item} {old a b : Table} → AreAlike is js → All is old a → All js old b → a ≡ b
+    pub items_fill_once : {is js : List FofItem} {old a b : Table} → ItemsAlike is js → All is old a → All js old b → a ≡ b
     items_fill_once none_alike no_item_fills no_item_fills = refl
     items_fill_once (clauses_alike alike) (clause_fills x) (clause_fills y) = items_fill_once alike x y
+    items_fill_once (formulas_alike alike) (formula_fills x) (formula_fills y) = items_fill_once alike x y
     items_fill_once {old = old} {b = b} (includes_alike {i = i} {j = j} {js = js} same alike) (include_fills e x xs) (include_fills {middle = middle} f y ys) =
         let middles = file_fills_once x (subst (λ bytes. File bytes old middle) (included_once i.file j.file same e f) y) in
         items_fill_once alike xs (subst (λ table. All js table b) (sym middles) ys)
@@ -150,19 +170,53 @@ signature_adds_once flat new other ts a b of distinct others x y s t =
     let symbols : t.symbols ≡ s.symbols = ok_once (gathers_once flat there here) in
     least_adds_once flat s.symbols (all_gathered_has flat ts s.symbols of here) new other a b distinct others x y s.completes (subst (λ fs. Completes other fs b) symbols t.completes)
 
-module _ (files : Files) (root : Option (List ℕ)) (name : List ℕ) (old new other : Table) (distinct : IsDistinct new) (others : IsDistinct other) (p q : Problem) (x : IsFilled files root name old new p) (y : IsFilled files root name old other q) where
-  flats : y.flat ≡ x.flat
-  flats = problem_fills_once files root name y.fills x.fills
+-- the files and the constants of a conjecture fill the table in one way
+module _ (files : Files) (root : Option (List ℕ)) (name : List ℕ) (old new other : Table) {a b : List Sourced} {m n : Option ℕ} (x : FillsClosed files root name old new a m) (y : FillsClosed files root name old other b n) where
+  -- what is behind the second, in the table of the first and with its clauses in flat order
+  abbrev Behind : Table → List FlatClause → Type 0
+  Behind flat flats = (closed : AreClosed other flats b n) × AddsAll flat other closed.constants
 
-  clauses_filled_once : p.clauses ≡ q.clauses
-  clauses_filled_once =
-      let flat_distinct : IsDistinct x.flat = distinct_earlier x.flat new (adds_grows x.flat new p.signature.least x.least) distinct in
-      clauses_once x.flat flat_distinct files root name x.clauses (subst (λ t. Flattens t files root name (Ok (q.clauses, y.counts))) flats y.clauses)
+  pub behind : IsDistinct x.flat → Behind x.flat x.flats
+  behind distinct =
+      let flat : y.flat ≡ x.flat = problem_fills_once files root name y.fills x.fills in
+      let flats : y.flats ≡ x.flats = flats_once x.flat distinct files root name (subst (λ t. Flattens t files root name (Ok (y.flats, y.counts))) flat y.reads) x.reads in
+      subst (λ ss. Behind x.flat ss) flats (subst (λ t. Behind t y.flats) flat (y.closed, y.adds))
+
+  module _ (distinct : IsDistinct new) (others : IsDistinct other) where
+    there : Behind x.flat x.flats
+    there = behind (distinct_earlier x.flat new (adds_all_grows x.adds) distinct)
+
+    pub tables_closed_once : new ≡ other
+    tables_closed_once =
+        let alike = constants_alike x.flats new other (taken_alike x.flat new other (adds_all_grows x.adds) (adds_all_grows there.1) (flat_terms x.flats) x.over) x.closed there.0 in
+        adds_all_once distinct others alike x.adds there.1
+
+    pub clauses_closed_once : (a ≡ b) × (m ≡ n)
+    clauses_closed_once = closed_once x.flats new distinct x.closed (subst (λ t. AreClosed t x.flats b n) (sym tables_closed_once) there.0)
+
+-- the clauses are over the table that the constants make
+pub closed_over : (files : Files) (root : Option (List ℕ)) (name : List ℕ) (old new : Table) {clauses : List Sourced} {conjecture : Option ℕ} → FillsClosed files root name old new clauses conjecture → AreOf new (terms_of clauses)
+closed_over files root name old new x =
+    let over = terms_later x.flat new (adds_all_grows x.adds) (flat_terms x.flats) x.over in
+    subst (λ ss. AreOf new (terms_of ss)) (sym x.closed.clauses_are) (closed_of new x.closed.are.named x.flats over)
+
+module _ (files : Files) (root : Option (List ℕ)) (name : List ℕ) (old new other : Table) (distinct : IsDistinct new) (others : IsDistinct other) (p q : Problem) (x : IsFilled files root name old new p) (y : IsFilled files root name old other q) where
+  here : IsDistinct x.closed
+  here = distinct_earlier x.closed new (adds_grows x.closed new p.signature.least x.least) distinct
+
+  there_too : IsDistinct y.closed
+  there_too = distinct_earlier y.closed other (adds_grows y.closed other q.signature.least y.least) others
+
+  closed_tables : y.closed ≡ x.closed
+  closed_tables = sym (tables_closed_once files root name old x.closed y.closed x.fills y.fills here there_too)
+
+  closed_clauses : (p.clauses ≡ q.clauses) × (p.conjecture ≡ q.conjecture)
+  closed_clauses = clauses_closed_once files root name old x.closed y.closed x.fills y.fills here there_too
 
   pub filled_once : new ≡ other
-  filled_once = signature_adds_once x.flat new other (terms_of p.clauses) p.signature q.signature x.over distinct others x.least
-      (subst (λ t. AddsOne t other q.signature.least) flats y.least) x.agrees.signature
-      (subst (λ ss. IsSignatureOf other (terms_of ss) q.signature) (sym clauses_filled_once) y.agrees.signature)
+  filled_once = signature_adds_once x.closed new other (terms_of p.clauses) p.signature q.signature (closed_over files root name old x.closed x.fills) distinct others x.least
+      (subst (λ t. AddsOne t other q.signature.least) closed_tables y.least) x.agrees.signature
+      (subst (λ ss. IsSignatureOf other (terms_of ss) q.signature) (sym closed_clauses.0) y.agrees.signature)
 
   pub filled_problem_once : p ≡ q
-  filled_problem_once = agrees_once new distinct p q clauses_filled_once x.agrees (subst (λ t. Agrees t q) (sym filled_once) y.agrees) (x.conjecture ∙ sym y.conjecture)
+  filled_problem_once = agrees_once new distinct p q closed_clauses.0 x.agrees (subst (λ t. Agrees t q) (sym filled_once) y.agrees) closed_clauses.1

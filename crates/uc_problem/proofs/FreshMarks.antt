@@ -50,7 +50,7 @@ all_gathered {seen = seen} (seen_before {o = o} k g) fs e = (seen_kept g fs o.sy
 all_gathered {seen = seen} (is_new {o = o} n m g) fs e = (seen_kept g fs o.symbol e (get-append_right seen (o.symbol ∷ []) 0 o.symbol refl), all_gathered g fs e)
 all_gathered v fs e = absurd cc
 
-parts_in : (fs : List Sym) (xs ys : List Occurrence) → AllIn fs (xs ++ ys) → AllIn fs xs × AllIn fs ys
+pub parts_in : (fs : List Sym) (xs ys : List Occurrence) → AllIn fs (xs ++ ys) → AllIn fs xs × AllIn fs ys
 parts_in fs [] ys a = (tt, a)
 parts_in fs (x ∷ xs) ys a = let r = parts_in fs xs ys a.1 in ((a.0, r.0), r.1)
 

@@ -1,5 +1,5 @@
 -- Loading an include.
-use Rattle.std.proofs.Common.{◌≡◌, ℕ, ◌+◌, ◌<◌, ◌≤◌, List, [], ◌∷◌, Option, Some, None, Result, Ok, Err, refl, sym, subst}
+use Rattle.std.proofs.Common.{◌≡◌, ℕ, ◌+◌, ◌<◌, ◌≤◌, Bool, List, [], ◌∷◌, Option, Some, None, Result, Ok, Err, refl, sym, subst}
 use Rattle.uc_term.specs.Table.{Table, Grows}
 use Rattle.uc_edge.specs.Files.{Files}
 use Rattle.uc_clause.specs.declared.token.Place.{Place}
@@ -7,39 +7,52 @@ use Rattle.uc_clause.specs.declared.clause.Name.{Name}
 use Rattle.uc_clause.specs.declared.clause.Clause as read
 use Rattle.uc_clause.specs.declared.clause.Include.{Include}
 use Rattle.uc_clause.specs.declared.clause.Item.TheVariants as item
-use Rattle.uc_clause.specs.declared.clause.Sourced.{Sourced}
-use Rattle.uc_clause.specs.declared.fault.What.TheVariants.{Files as FileCount}
+use Rattle.uc_fof.specs.declared.item.FofItem.{FofItem}
+use Rattle.uc_fof.specs.declared.item.FofItem.TheVariants.{Item, Formula}
+use Rattle.uc_clause.specs.declared.fault.What.TheVariants.{Clauses, Files as FileCount}
 use Rattle.uc_problem.specs.declared.counts.Counts.{Counts}
+use Rattle.uc_problem.specs.declared.flat.FlatClause.{FlatClause}
 use Rattle.uc_problem.specs.declared.fetch.Found.{Found}
 use Rattle.uc_problem.specs.declared.fault.LoadFault.{LoadFault}
 use Rattle.uc_problem.specs.declared.fault.LoadFault.TheVariants.{Absent, ReadFault, TooDeep, NoSuchName, ArityClash, Limit, Clause, NoMemory}
 use Rattle.uc_problem.specs.Candidates.{candidates}
 use Rattle.uc_problem.specs.Fetching.{cut, IsFirst, IsTriedFault}
-use Rattle.uc_problem.specs.Loading.{Loaded, LoadsFile, LoadsItems, clause, too_many_clauses, too_deep, too_many_files, fetch_fails, absent, stops_inside, misses_name, includes, all_before, before, first_held, selected, listed_or, first_missing}
+use Rattle.uc_problem.specs.Loading.{Loaded, LoadsFile, LoadsItems, clause, formula, too_many_clauses, too_many_formulas, place_if, too_deep, too_many_files, fetch_fails, absent, stops_inside, misses_name, includes, all_before, before, first_held, selected, listed_or, first_missing}
 use Rattle.uc_problem.specs.Holds.{ReadsAs, ForFiles}
 use Rattle.uc_problem.specs.Parts.{IsPart, ItemComesTo, IsTaken, IsSelection}
 use Rattle.uc_problem.proofs.Items.{all_files, later_rise, for_both, refused_part}
 
 module _ (holds : Option Files) (folder : List ℕ) (root : Option (List ℕ)) (depth : ℕ) (name : List ℕ) (old : Counts) where
-  taken_before : (s : Sourced) (loaded : Loaded) → before s loaded ≡ all_before (s ∷ []) loaded
+  -- an item gives a clause, or there are too many of them
+  abbrev pub GivesClause : FofItem → read.Clause → Option Place → Type 0
+  GivesClause i c conjecture = ((files : Files) (failing : Option (List ℕ)) (T : Table) (rest : List FofItem) (loaded : Loaded) → old.clauses < 10000 → LoadsItems (ReadsAs T) files failing folder root depth name (record { clauses = old.clauses + 1; files = old.files }) rest loaded → LoadsItems (ReadsAs T) files failing folder root depth name old (i ∷ rest) (before (record { file = name; clause = c; conjecture = conjecture }) loaded)) × ((files : Files) (T : Table) (rest : List FofItem) → 10000 ≤ old.clauses → LoadsItems (ReadsAs T) files None folder root depth name old (i ∷ rest) (Err (Limit name c.place Clauses)))
+
+  taken_before : (s : FlatClause) (loaded : Loaded) → before s loaded ≡ all_before (s ∷ []) loaded
   taken_before s (Ok r) = refl
   taken_before s (Err e) = refl
 
-  pub taken : (c : read.Clause) (t : Table) (first now : ℕ) (new : Counts) (r : Result (List Sourced) LoadFault) → IsTaken name c old new r → IsPart holds first now t new (ItemComesTo folder root depth name old (item.Clause c)) r
-  taken c t first now new (Ok clauses) h =
-      all_files holds t (λ files T. (failing : Option (List ℕ)) → ItemComesTo folder root depth name old (item.Clause c) files T failing (Ok (clauses, new)))
-      (λ files T failing rest loaded l. subst (λ (cs : List Sourced). LoadsItems (ReadsAs T) files failing folder root depth name old (item.Clause c ∷ rest) (all_before cs loaded)) (sym h.1)
-      (subst (λ (x : Loaded). LoadsItems (ReadsAs T) files failing folder root depth name old (item.Clause c ∷ rest) x) (taken_before (record { file = name; clause = c }) loaded)
-      (clause h.0 (subst (λ (n : Counts). LoadsItems (ReadsAs T) files failing folder root depth name n rest loaded) h.2 l))))
-  taken c t first now new (Err NoMemory) h = tt
-  taken c t first now new (Err (Limit file place what)) h =
-      all_files holds t (λ files T. ItemComesTo folder root depth name old (item.Clause c) files T None (Err (Limit file place what)))
-      (λ files T rest. subst (λ (e : LoadFault). LoadsItems (ReadsAs T) files None folder root depth name old (item.Clause c ∷ rest) (Err e)) (sym h.1) (too_many_clauses h.0))
-  taken c t first now new v h = absurd cc
+  -- an item that is a clause, and says there that it is a conjecture's denial
+  pub taken : (i : FofItem) (c : read.Clause) (conjecture : Option Place) (t : Table) (first now : ℕ) (new : Counts) (r : Result (List FlatClause) LoadFault) → GivesClause i c conjecture → IsTaken name c conjecture old new r → IsPart holds first now t new (ItemComesTo folder root depth name old i) r
+  taken i c conjecture t first now new (Ok clauses) gives h =
+      all_files holds t (λ files T. (failing : Option (List ℕ)) → ItemComesTo folder root depth name old i files T failing (Ok (clauses, new)))
+      (λ files T failing rest loaded l. subst (λ (cs : List FlatClause). LoadsItems (ReadsAs T) files failing folder root depth name old (i ∷ rest) (all_before cs loaded)) (sym h.1)
+      (subst (λ (x : Loaded). LoadsItems (ReadsAs T) files failing folder root depth name old (i ∷ rest) x) (taken_before (record { file = name; clause = c; conjecture = conjecture }) loaded)
+      (gives.0 files failing T rest loaded h.0 (subst (λ (n : Counts). LoadsItems (ReadsAs T) files failing folder root depth name n rest loaded) h.2 l))))
+  taken i c conjecture t first now new (Err NoMemory) gives h = tt
+  taken i c conjecture t first now new (Err (Limit file place what)) gives h =
+      all_files holds t (λ files T. ItemComesTo folder root depth name old i files T None (Err (Limit file place what)))
+      (λ files T rest. subst (λ (e : LoadFault). LoadsItems (ReadsAs T) files None folder root depth name old (i ∷ rest) (Err e)) (sym h.1) (gives.1 files T rest h.0))
+  taken i c conjecture t first now new v gives h = absurd cc
+
+  pub clause_gives : (c : read.Clause) → GivesClause (Item (item.Clause c)) c None
+  clause_gives c = (λ files failing T rest loaded h l. clause h l, λ files T rest h. too_many_clauses h)
+
+  pub formula_gives : (c : read.Clause) (conjecture : Bool) (place : Place) → GivesClause (Formula c conjecture place) c (place_if conjecture place)
+  formula_gives c conjecture place = (λ files failing T rest loaded h l. formula h l, λ files T rest h. too_many_formulas h)
 
   module _ (i : Include) where
     abbrev pub Comes : Files → Table → Option (List ℕ) → Loaded → Type 0
-    Comes = ItemComesTo folder root depth name old (item.Include i)
+    Comes = ItemComesTo folder root depth name old (Item (item.Include i))
 
     pub deep : (t : Table) (first now : ℕ) (new : Counts) → 16 ≤ depth → IsPart holds first now t new Comes (Err (TooDeep name i.place))
     deep t first now new h = all_files holds t (λ files T. Comes files T None (Err (TooDeep name i.place))) (λ files T rest. too_deep h)
@@ -97,12 +110,12 @@ module _ (holds : Option Files) (folder : List ℕ) (root : Option (List ℕ)) (
         refused_part holds first before now t u new (λ files T. Held found files) (Inside found) Comes e le g f
         (λ files T m held failing inside rest. stops_inside h k held.held (inside held.whole held.bytes)) p
 
-    pub kept : (t u : Table) (first before now : ℕ) (new : Counts) (found : Found) (given chosen : List Sourced) → depth < 16 → old.files < 256 → Grows t u → ForFiles holds t (λ files T. Held found files) → IsPart holds before now u new (Inside found) (Ok given) → Ok chosen ≡ selected name i.names given → IsPart holds first now u new Comes (Ok chosen)
+    pub kept : (t u : Table) (first before now : ℕ) (new : Counts) (found : Found) (given chosen : List FlatClause) → depth < 16 → old.files < 256 → Grows t u → ForFiles holds t (λ files T. Held found files) → IsPart holds before now u new (Inside found) (Ok given) → Ok chosen ≡ selected name i.names given → IsPart holds first now u new Comes (Ok chosen)
     kept t u first before now new found given chosen h k g f p e =
         for_both holds t u (λ files T. Held found files) (λ files T. (failing : Option (List ℕ)) → Inside found files T failing (Ok (given, new))) (λ files T. (failing : Option (List ℕ)) → Comes files T failing (Ok (chosen, new))) g
         (λ files T m held inside failing rest loaded l. includes h k held.held (inside failing held.whole held.bytes) (sym e) l) f p
 
-    misses : (t u : Table) (new : Counts) (found : Found) (given : List Sourced) (why : LoadFault) → depth < 16 → old.files < 256 → Grows t u → ForFiles holds t (λ files T. Held found files) → ForFiles holds u (λ files T. (failing : Option (List ℕ)) → Inside found files T failing (Ok (given, new))) → Err why ≡ selected name i.names given → ForFiles holds u (λ files T. Comes files T None (Err why))
+    misses : (t u : Table) (new : Counts) (found : Found) (given : List FlatClause) (why : LoadFault) → depth < 16 → old.files < 256 → Grows t u → ForFiles holds t (λ files T. Held found files) → ForFiles holds u (λ files T. (failing : Option (List ℕ)) → Inside found files T failing (Ok (given, new))) → Err why ≡ selected name i.names given → ForFiles holds u (λ files T. Comes files T None (Err why))
     misses t u new found given why h k g f p e =
         for_both holds t u (λ files T. Held found files) (λ files T. (failing : Option (List ℕ)) → Inside found files T failing (Ok (given, new))) (λ files T. Comes files T None (Err why)) g
         (λ files T m held inside rest. misses_name h k held.held (inside None held.whole held.bytes) (sym e)) f p
@@ -112,15 +125,15 @@ module _ (holds : Option Files) (folder : List ℕ) (root : Option (List ℕ)) (
     IsName (NoSuchName file place n) = Unit {0}
     IsName _ = ⊥
 
-    listed_name : (names : List (Name × Place)) (given : List Sourced) (m : Option (Name × Place)) (e : LoadFault) → Err e ≡ listed_or name names given m → IsName e
+    listed_name : (names : List (Name × Place)) (given : List FlatClause) (m : Option (Name × Place)) (e : LoadFault) → Err e ≡ listed_or name names given m → IsName e
     listed_name names given None e q = absurd cc
     listed_name names given (Some m) e q = let s : e ≡ NoSuchName name m.1 m.0 = cc in subst IsName (sym s) tt
 
-    only_name : (names : Option (List (Name × Place))) (given : List Sourced) (e : LoadFault) → Err e ≡ selected name names given → IsName e
+    only_name : (names : Option (List (Name × Place))) (given : List FlatClause) (e : LoadFault) → Err e ≡ selected name names given → IsName e
     only_name None given e q = absurd cc
     only_name (Some names) given e q = listed_name names given (first_missing given names) e q
 
-    pub chosen : (t u : Table) (first before now : ℕ) (new : Counts) (found : Found) (given : List Sourced) (r : Result (List Sourced) LoadFault) → depth < 16 → old.files < 256 → Grows t u → ForFiles holds t (λ files T. Held found files) → IsPart holds before now u new (Inside found) (Ok given) → IsSelection name i given r → IsPart holds first now u new Comes r
+    pub chosen : (t u : Table) (first before now : ℕ) (new : Counts) (found : Found) (given : List FlatClause) (r : Result (List FlatClause) LoadFault) → depth < 16 → old.files < 256 → Grows t u → ForFiles holds t (λ files T. Held found files) → IsPart holds before now u new (Inside found) (Ok given) → IsSelection name i given r → IsPart holds first now u new Comes r
     chosen t u first before now new found given (Ok cs) h k g f p s = kept t u first before now new found given cs h k g f p s
     chosen t u first before now new found given (Err NoMemory) h k g f p s = tt
     chosen t u first before now new found given (Err (NoSuchName file place n)) h k g f p s = misses t u new found given (NoSuchName file place n) h k g f p s

@@ -4,12 +4,13 @@ use Rattle.std.proofs.lemmas.List.{take_all, length-take}
 use Rattle.uc_term.specs.Table.{Table, Grows}
 use Rattle.uc_edge.specs.Files.{Files}
 use Rattle.uc_edge.specs.Faults.{Rose}
-use Rattle.uc_clause.specs.declared.clause.Item.{Item}
-use Rattle.uc_clause.specs.declared.clause.Sourced.{Sourced}
+use Rattle.uc_fof.specs.declared.item.FofItem.{FofItem}
 use Rattle.uc_clause.specs.declared.fault.ClauseFault.{ClauseFault}
 use Rattle.uc_clause.specs.declared.fault.ClauseFault.TheVariants as text
-use Rattle.uc_clause.specs.Reading.{ReadsFile, RefusesFile, is_too_long, isnt_items, IsFault}
+use Rattle.uc_clause.specs.Reading.{IsFault}
+use Rattle.uc_fof.specs.Reading.{ReadsFile, RefusesFile, is_too_long, isnt_items}
 use Rattle.uc_problem.specs.declared.counts.Counts.{Counts}
+use Rattle.uc_problem.specs.declared.flat.FlatClause.{FlatClause}
 use Rattle.uc_problem.specs.declared.fault.LoadFault.{LoadFault}
 use Rattle.uc_problem.specs.declared.fault.LoadFault.TheVariants.{Absent, ReadFault, TooDeep, NoSuchName, ArityClash, Limit, Clause, NoMemory}
 use Rattle.uc_problem.specs.Fetching.{cut}
@@ -53,7 +54,7 @@ all_files None t P f = tt
 all_files (Some files) t P f = λ T g. f files T
 
 -- the same part, by equal files and equal bytes
-pub same_part : (F : List ℕ → Files → Table → Option (List ℕ) → Loaded → Type 0) (h k : Option Files) (b d : List ℕ) (before now : ℕ) (t : Table) (c : Counts) (r : Result (List Sourced) LoadFault) → h ≡ k → b ≡ d → IsPart h before now t c (F b) r → IsPart k before now t c (F d) r
+pub same_part : (F : List ℕ → Files → Table → Option (List ℕ) → Loaded → Type 0) (h k : Option Files) (b d : List ℕ) (before now : ℕ) (t : Table) (c : Counts) (r : Result (List FlatClause) LoadFault) → h ≡ k → b ≡ d → IsPart h before now t c (F b) r → IsPart k before now t c (F d) r
 same_part F h k b d before now t c r e f p = subst (λ (l : List ℕ). IsPart k before now t c (F l) r) f (subst (λ (x : Option Files). IsPart x before now t c (F b) r) e p)
 
 pub none_left : {A : Type 0} (xs : List A) → length xs ≡ 0 → xs ≡ []
@@ -64,7 +65,7 @@ all_before-nil : (loaded : Loaded) → all_before [] loaded ≡ loaded
 all_before-nil (Ok r) = refl
 all_before-nil (Err e) = refl
 
-all_before-append : (xs ys : List Sourced) (loaded : Loaded) → all_before xs (all_before ys loaded) ≡ all_before (xs ++ ys) loaded
+all_before-append : (xs ys : List FlatClause) (loaded : Loaded) → all_before xs (all_before ys loaded) ≡ all_before (xs ++ ys) loaded
 all_before-append xs ys (Ok r) = ap (λ l. Ok (l, r.1)) (sym (append_assoc xs ys r.0))
 all_before-append xs ys (Err e) = refl
 
@@ -72,12 +73,12 @@ all_before-append xs ys (Err e) = refl
 pub whole_is : (bytes whole : List ℕ) → bytes ≡ cut whole → length bytes ≤ 16777216 → bytes ≡ whole
 whole_is bytes whole e h = e ∙ take_all 16777217 whole (omega (arith, ap length e, length-take 16777217 whole))
 
-module _ (holds : Option Files) (folder : List ℕ) (root : Option (List ℕ)) (depth : ℕ) (name : List ℕ) (first_counts : Counts) (all : List Item) where
+module _ (holds : Option Files) (folder : List ℕ) (root : Option (List ℕ)) (depth : ℕ) (name : List ℕ) (first_counts : Counts) (all : List FofItem) where
   -- whatever the items that are left come to, all of them come to that behind these clauses
-  abbrev pub LeftFor : Counts → List Sourced → List Item → Files → Table → Type 0
+  abbrev pub LeftFor : Counts → List FlatClause → List FofItem → Files → Table → Type 0
   LeftFor counts clauses rest files T = (failing : Option (List ℕ)) (loaded : Loaded) → LoadsItems (ReadsAs T) files failing folder root depth name counts rest loaded → LoadsItems (ReadsAs T) files failing folder root depth name first_counts all (all_before clauses loaded)
 
-  abbrev pub Left : Table → Counts → List Sourced → List Item → Type 0
+  abbrev pub Left : Table → Counts → List FlatClause → List FofItem → Type 0
   Left t counts clauses rest = ForFiles holds t (LeftFor counts clauses rest)
 
   left_all : (holds : Option Files) (t : Table) → ForFiles holds t (LeftFor first_counts [] all)
@@ -87,7 +88,7 @@ module _ (holds : Option Files) (folder : List ℕ) (root : Option (List ℕ)) (
   pub begin : (t : Table) → Left t first_counts [] all
   begin t = left_all holds t
 
-  pub go_on : (t u : Table) (before now : ℕ) (counts later : Counts) (clauses more : List Sourced) (i : Item) (rest : List Item) → Grows t u → Left t counts clauses (i ∷ rest) → IsPart holds before now u later (ItemComesTo folder root depth name counts i) (Ok more) → Left u later (clauses ++ more) rest
+  pub go_on : (t u : Table) (before now : ℕ) (counts later : Counts) (clauses more : List FlatClause) (i : FofItem) (rest : List FofItem) → Grows t u → Left t counts clauses (i ∷ rest) → IsPart holds before now u later (ItemComesTo folder root depth name counts i) (Ok more) → Left u later (clauses ++ more) rest
   go_on t u before now counts later clauses more i rest g l p =
       for_both holds t u (LeftFor counts clauses (i ∷ rest)) (λ files T. (failing : Option (List ℕ)) → ItemComesTo folder root depth name counts i files T failing (Ok (more, later))) (LeftFor later (clauses ++ more) rest) g
       (λ files T h left comes failing loaded loads. subst (λ (r : Loaded). LoadsItems (ReadsAs T) files failing folder root depth name first_counts all r) (all_before-append clauses more loaded) (left failing (all_before more loaded) (comes failing rest loaded loads)))
@@ -101,13 +102,13 @@ module _ (holds : Option Files) (folder : List ℕ) (root : Option (List ℕ)) (
     file_reads : (t T : Table) (files : Files) (failing : Option (List ℕ)) (loaded : Loaded) → Grows t T → ReadsFile bytes t all → LoadsItems (ReadsAs T) files failing folder root depth name first_counts all loaded → FileComesTo files T failing loaded
     file_reads t T files failing loaded g r l whole e = reads (subst (λ (b : List ℕ). ReadsFile b T all) (whole_is bytes whole e r.small) (file_later bytes t T all g r)) l
 
-    pub end : (r t : Table) (before now : ℕ) (counts : Counts) (clauses : List Sourced) → Grows r t → ReadsFile bytes r all → Left t counts clauses [] → IsPart holds before now t counts FileComesTo (Ok clauses)
+    pub end : (r t : Table) (before now : ℕ) (counts : Counts) (clauses : List FlatClause) → Grows r t → ReadsFile bytes r all → Left t counts clauses [] → IsPart holds before now t counts FileComesTo (Ok clauses)
     end r t before now counts clauses g read l =
         for_files holds t t (LeftFor counts clauses []) (λ files T. (failing : Option (List ℕ)) → FileComesTo files T failing (Ok (clauses, counts))) (Grows-refl t)
         (λ files T h left failing. file_reads r T files failing (Ok (clauses, counts)) (Grows-trans r t T g h) read (subst (λ (x : Loaded). LoadsItems (ReadsAs T) files failing folder root depth name first_counts all x) (ap (λ l. Ok (l, counts)) (append-nil clauses)) (left failing (Ok ([], counts)) no_item)))
         l
 
-    pub stop : (r t u : Table) (first before now : ℕ) (counts later : Counts) (clauses : List Sourced) (i : Item) (rest : List Item) (e : LoadFault) → first ≤ before → Grows r t → Grows t u → ReadsFile bytes r all → Left t counts clauses (i ∷ rest) → IsPart holds before now u later (ItemComesTo folder root depth name counts i) (Err e) → IsPart holds first now u later FileComesTo (Err e)
+    pub stop : (r t u : Table) (first before now : ℕ) (counts later : Counts) (clauses : List FlatClause) (i : FofItem) (rest : List FofItem) (e : LoadFault) → first ≤ before → Grows r t → Grows t u → ReadsFile bytes r all → Left t counts clauses (i ∷ rest) → IsPart holds before now u later (ItemComesTo folder root depth name counts i) (Err e) → IsPart holds first now u later FileComesTo (Err e)
     stop r t u first before now counts later clauses i rest e h g k read l p =
         refused_part holds first before now t u later (LeftFor counts clauses (i ∷ rest)) (ItemComesTo folder root depth name counts i) FileComesTo e h k l
         (λ files T m left failing comes. file_reads r T files failing (Err e) (Grows-trans r t T g (Grows-trans t u T k m)) read (left failing (Err e) (comes rest)))

@@ -7,6 +7,7 @@ pub mod Includes
 pub mod Sound
 pub mod Growth
 pub mod Occurring
+pub mod Closed
 pub mod Problems
 pub mod Fillings
 pub mod Sides
@@ -20,9 +21,18 @@ pub mod LoadsOnce
 pub mod SignatureOnce
 pub mod HoldsOnce
 pub mod AddedOnce
+pub mod AlikeSymbols
+pub mod ClosedOnce
 pub mod FilledOnce
 pub mod MarksOnce
 pub mod RefusedOnce
+pub mod ConstantsApart
+pub mod ConjectureRead
+pub mod GoalLaw
 pub mod NameKeys
 pub mod Encodings
 pub mod EncodedOnce
+pub mod TakenKeys
+pub mod ClosedTerms
+pub mod ConstantNames
+pub mod SingleConjecture

@@ -3,17 +3,17 @@ use Rattle.std.proofs.Common.{◌≡◌, ℕ, List, Option, Some, None, Result, 
 use Rattle.uc_edge.specs.Files.{Files}
 use Rattle.uc_clause.specs.declared.token.Place.{Place}
 use Rattle.uc_clause.specs.declared.clause.Name.{Name}
-use Rattle.uc_clause.specs.declared.clause.Item.{Item}
-use Rattle.uc_clause.specs.declared.clause.Sourced.{Sourced}
 use Rattle.uc_clause.specs.declared.fault.ClauseFault.{ClauseFault}
+use Rattle.uc_fof.specs.declared.item.FofItem.{FofItem}
 use Rattle.uc_problem.specs.declared.fault.LoadFault.{LoadFault}
 use Rattle.uc_problem.specs.declared.fault.LoadFault.TheVariants.{Clause}
 use Rattle.uc_problem.specs.declared.counts.Counts.{Counts}
-use Rattle.uc_problem.specs.Loading.{Loaded, LoadsFile, LoadsItems, LoadsProblem, reads, refused, no_item, before, all_before, first_held, selected, no_fetch, no_problem, loads}
+use Rattle.uc_problem.specs.declared.flat.FlatClause.{FlatClause}
+use Rattle.uc_problem.specs.Loading.{Loaded, LoadsFile, LoadsItems, LoadsProblem, reads, refused, no_item, before, all_before, first_held, place_if, selected, no_fetch, no_problem, loads}
 use Rattle.uc_problem.specs.Loading as loading
 use Rattle.uc_problem.proofs.Outcomes.{less_or_not, some_once, some_or_none, ok_once, err_once, ok_or_err, is_err_once, is_ok_once, is_ok_or_err, first_once, second_once}
 
-pub given_once : {a b : List Sourced} {m n : Counts} → Path Loaded (Ok (a, m)) (Ok (b, n)) → (a ≡ b) × (m ≡ n)
+pub given_once : {a b : List FlatClause} {m n : Counts} → Path Loaded (Ok (a, m)) (Ok (b, n)) → (a ≡ b) × (m ≡ n)
 given_once e = let both = ok_once e in (first_once both, second_once both)
 
 found_once : {o : Option (List ℕ × List ℕ)} {a b c d : List ℕ} → o ≡ Some (a, b) → o ≡ Some (c, d) → (c ≡ a) × (d ≡ b)
@@ -23,11 +23,11 @@ found_once e f = let both = some_once f e in (first_once both, second_once both)
 none_fails : {name : List ℕ} → Path (Option (List ℕ)) None (Some name) → ⊥
 none_fails e = absurd cc
 
-module _ (Reads : List ℕ → Result (List Item) ClauseFault → Type 0) (reads_once : (bytes : List ℕ) (a b : Result (List Item) ClauseFault) → Reads bytes a → Reads bytes b → a ≡ b) (files : Files) (folder : List ℕ) (root : Option (List ℕ)) where
+module _ (Reads : List ℕ → Result (List FofItem) ClauseFault → Type 0) (reads_once : (bytes : List ℕ) (a b : Result (List FofItem) ClauseFault) → Reads bytes a → Reads bytes b → a ≡ b) (files : Files) (folder : List ℕ) (root : Option (List ℕ)) where
   abbrev File : ℕ → List ℕ → List ℕ → Counts → Loaded → Type 0
   File = LoadsFile Reads files None folder root
 
-  abbrev Items : ℕ → List ℕ → Counts → List Item → Loaded → Type 0
+  abbrev Items : ℕ → List ℕ → Counts → List FofItem → Loaded → Type 0
   Items = LoadsItems Reads files None folder root
 
   -- an included file is one
@@ -37,7 +37,7 @@ module _ (Reads : List ℕ → Result (List Item) ClauseFault → Type 0) (reads
       subst (λ b. File depth found b counts loaded) same.1 (subst (λ n. File depth n others counts loaded) same.0 x)
 
   -- what is given of an included file is one
-  chosen : (name : List ℕ) (names : Option (List (Name × Place))) {a b : List Sourced} {r : Result (List Sourced) LoadFault} → a ≡ b → selected name names b ≡ r → selected name names a ≡ r
+  chosen : (name : List ℕ) (names : Option (List (Name × Place))) {a b : List FlatClause} {r : Result (List FlatClause) LoadFault} → a ≡ b → selected name names b ≡ r → selected name names a ≡ r
   chosen name names {r = r} e f = subst (λ g. selected name names g ≡ r) (sym e) f
 
   mutual
@@ -47,12 +47,16 @@ module _ (Reads : List ℕ → Result (List Item) ClauseFault → Type 0) (reads
     file_once {bytes = bytes} (refused {why = why} r) (reads {items = js} s m) = absurd (ok_or_err (reads_once bytes (Ok js) (Err why) s r))
     file_once {name = name} {bytes = bytes} (refused {why = why} r) (refused {why = other} s) = ap (λ w. Err (Clause name w)) (err_once (reads_once bytes (Err why) (Err other) r s))
 
-    pub items_once : {depth : ℕ} {name : List ℕ} {counts : Counts} {items : List Item} {a b : Loaded} → Items depth name counts items a → Items depth name counts items b → a ≡ b
+    pub items_once : {depth : ℕ} {name : List ℕ} {counts : Counts} {items : List FofItem} {a b : Loaded} → Items depth name counts items a → Items depth name counts items b → a ≡ b
     items_once no_item no_item = refl
-    items_once {name = name} (loading.clause {c = c} h l) (loading.clause k m) = ap (before (record { file = name; clause = c })) (items_once l m)
+    items_once {name = name} (loading.clause {c = c} h l) (loading.clause k m) = ap (before (record { file = name; clause = c; conjecture = None })) (items_once l m)
     items_once (loading.clause h l) (loading.too_many_clauses k) = absurd (less_or_not h k)
     items_once (loading.too_many_clauses k) (loading.clause h l) = absurd (less_or_not h k)
     items_once (loading.too_many_clauses h) (loading.too_many_clauses k) = refl
+    items_once {name = name} (loading.formula {c = c} {conjecture = conjecture} {place = place} h l) (loading.formula k m) = ap (before (record { file = name; clause = c; conjecture = place_if conjecture place })) (items_once l m)
+    items_once (loading.formula h l) (loading.too_many_formulas k) = absurd (less_or_not h k)
+    items_once (loading.too_many_formulas k) (loading.formula h l) = absurd (less_or_not h k)
+    items_once (loading.too_many_formulas h) (loading.too_many_formulas k) = refl
     items_once (loading.fetch_fails da na ta fa) y = absurd (none_fails fa)
     items_once (loading.too_deep da) (loading.fetch_fails db nb tb fb) = absurd (none_fails fb)
     items_once (loading.too_deep da) (loading.too_deep db) = refl

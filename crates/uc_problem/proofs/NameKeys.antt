@@ -1,5 +1,5 @@
 -- Texts and names put to sets of keys.
-use Rattle.std.proofs.Common.{◌≡◌, ℕ, List, [], ◌∷◌, ◌++◌, Bool, true, false, ◌≤◌, length, drop, refl, sym, ap, ◌∙◌}
+use Rattle.std.proofs.Common.{◌≡◌, ℕ, ◌+◌, ◌<◌, List, [], ◌∷◌, ◌++◌, Bool, true, false, ◌≤◌, length, drop, drop-cons, get_or, add-one, refl, sym, ap, ◌∙◌}
 use Rattle.std.specs.Prelude.{◌||◌, ◌&&◌, bytes_eq, if◌then◌else◌, Vec}
 use Rattle.std.specs.List.{list_any}
 use Rattle.std.proofs.lemmas.List.{drop_all}
@@ -85,3 +85,10 @@ has_name-integer words integers new k name text kind e n = go n.integer refl
 -- what is among the members so far or among those behind is among all, once none is left
 pub nothing_behind : {X : Type 0} (test : List X → Bool) (xs : List X) (n : ℕ) (b : Bool) → test [] ≡ false → test xs ≡ (b || test (drop n xs)) → length xs ≤ n → b ≡ test xs
 nothing_behind test xs n b none all end = sym (all ∙ ap (λ r. b || r) (ap test (drop_all n xs end) ∙ none) ∙ or_false b)
+
+-- the member of this number moves from those behind to those so far
+pub one_behind : {X : Type 0} (test : List X → Bool) (one : X → Bool) → ((x : X) (xs : List X) → test (x ∷ xs) ≡ (one x || test xs)) → (xs : List X) (n : ℕ) (x : X) (a b : Bool) → n < length xs → x ≡ get_or xs n x → test xs ≡ (a || test (drop n xs)) → b ≡ (a || one x) → test xs ≡ (b || test (drop (n + 1) xs))
+one_behind test one step xs n x a b less at all e =
+    let here : drop n xs ≡ get_or xs n x ∷ drop (n + 1) xs = rw (add-one, drop-cons xs n x) refl in
+    let split = ap test here ∙ step (get_or xs n x) (drop (n + 1) xs) ∙ ap (λ y. one y || test (drop (n + 1) xs)) (sym at) in
+    all ∙ ap (λ r. a || r) split ∙ sym (or_assoc a (one x) (test (drop (n + 1) xs))) ∙ ap (λ r. r || test (drop (n + 1) xs)) (sym e)

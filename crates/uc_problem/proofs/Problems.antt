@@ -14,52 +14,78 @@ use Rattle.uc_edge.specs.Faults.{Rose}
 use Rattle.uc_clause.specs.declared.fault.ClauseFault.TheVariants as text
 use Rattle.uc_clause.specs.declared.token.Place.{Place}
 use Rattle.uc_clause.specs.declared.clause.Sourced.{Sourced}
+use Rattle.uc_clause.specs.declared.fault.What.TheVariants.{Symbols}
 use Rattle.uc_problem.specs.declared.counts.Counts.{Counts}
 use Rattle.uc_problem.specs.declared.problem.Problem.{Problem}
 use Rattle.uc_problem.specs.declared.fault.LoadFault.{LoadFault}
 use Rattle.uc_problem.specs.declared.fault.LoadFault.TheVariants as fault
 use Rattle.uc_problem.specs.Candidates.{folder_of}
 use Rattle.uc_problem.specs.Fetching.{cut, IsAnswer, IsFetchFault}
-use Rattle.uc_problem.specs.Holds.{ReadsAs, Flattens, Agrees, Refuses, has_clash as clash_held, has_too_many, is_not_flat, IsProblem, IsLoadFault, terms_of, numbers_of, located}
+use Rattle.uc_problem.specs.declared.flat.FlatClause.{FlatClause}
+use Rattle.uc_problem.specs.Conjecture.{flat_terms}
+use Rattle.uc_problem.specs.Holds.{ReadsAs, Gives, Agrees, StandsAt, HasNoSignature, clashes, is_too_many, Refuses, is_not_flat, has_second, is_unsigned, IsProblem, IsLoadFault, terms_of, numbers_of, located}
 use Rattle.uc_problem.specs.Loading.{Loaded, LoadsFile, no_fetch, no_problem, loads}
 use Rattle.uc_problem.specs.Parts.{IsPart}
 use Rattle.uc_problem.specs.Sound.{AreSound}
-use Rattle.uc_problem.specs.Assembly.{IsFlat, StandsAt, HasNoSignature, clashes, is_too_many, wants_memory}
+use Rattle.uc_problem.specs.Assembly.{IsFlat, AreSoundFew, AreSoundFewFlats, Closes, IsUnsigned, has_none, wants_memory, IsUnclosed, has_second as found_second, lacks_memory}
 use Rattle.uc_problem.proofs.Later.{Grows-trans}
 use Rattle.uc_problem.proofs.Items.{later_rise}
-use Rattle.uc_problem.proofs.Sound.{terms_sound}
+use Rattle.uc_problem.proofs.Sound.{terms_sound, flat_terms_sound}
 use Rattle.uc_problem.proofs.Sides.{has_symbol}
-use Rattle.uc_problem.proofs.Growth.{agrees_later, all_gathers_later}
+use Rattle.uc_problem.proofs.Growth.{agrees_later, terms_later, all_gathers_later}
+use Rattle.uc_problem.proofs.Closed.{closed_later}
 
-module _ (root : Option (List ℕ)) (name : List ℕ) (t u : Table) (grows : Grows t u) where
-  pub is_problem : (holds : Option Files) (before now : ℕ) (clauses : List Sourced) (problem : Problem) → IsFlat t holds before now root name (Ok clauses) → problem.clauses ≡ clauses → Agrees u problem → problem.conjecture ≡ None → IsProblem u holds root name problem
-  is_problem None before now clauses problem f e a n = tt
-  is_problem (Some files) before now clauses problem f e a n = λ T g.
-      let flat = f T (Grows-trans t u T grows g) in
-      record { counts = flat.0; flat = subst (λ (ss : List Sourced). Flattens T files root name (Ok (ss, flat.0))) (sym e) flat.1; agrees = agrees_later u T g problem a; conjecture = n }
+-- a problem of clauses that are given is held
+module _ (root : Option (List ℕ)) (name : List ℕ) (t u v : Table) (first : Grows t u) (second : Grows u v) (flats : List FlatClause) (sound : AreSoundFewFlats t flats) (clauses : List Sourced) (few : AreSoundFew u clauses) (conjecture : Option ℕ) (closes : Closes t u flats clauses conjecture) where
+  -- in each table that the closed one grows into they are given
+  gives_in : (files : Files) (before now : ℕ) (T : Table) → Grows u T → IsFlat t (Some files) before now root name (Ok flats) → Gives T files root name clauses conjecture
+  gives_in files before now T g f =
+      let flat = f T (Grows-trans t u T first g) in
+      record { flats = flats; counts = flat.0; flat = flat.1; closed = closed_later u T g flats (terms_later t u first (flat_terms flats) (flat_terms_sound t flats sound.sound)) closes.closed }
 
-  module _ (clauses : List Sourced) (sound : AreSound t clauses) where
-    pub is_refused : (holds : Option Files) (first before now last : ℕ) (why : LoadFault) → IsFlat t holds first before root name (Ok clauses) → HasNoSignature t clauses why → IsLoadFault u holds now last root name why
-    is_refused holds first before now last _ f wants_memory = tt
-    is_refused None first before now last _ f (clashes g s l) = tt
-    is_refused None first before now last _ f (is_too_many g l) = tt
-    is_refused (Some files) first before now last _ f (clashes {term = term} {first = a} {second = b} {pos = pos} {f = h} {file = file} {place = place} g s l) = λ T k.
-        let later = Grows-trans t u T grows k in
-        let flat = f T later in
-        subst (λ (n : List ℕ). Refuses T files root name (fault.ArityClash file place n a b)) (name-grows t T later h (has_symbol t clauses term pos h sound s))
-        (clash_held flat.1 (all_gathers_later t T later (terms_of clauses) (Err (of_terms.ArityClash term pos a b)) (terms_sound t clauses sound) g) s.tree_at s.node_at l)
-    is_refused (Some files) first before now last _ f (is_too_many {term = term} {pos = pos} g l) = λ T k.
-        let later = Grows-trans t u T grows k in
-        let flat = f T later in
-        has_too_many flat.1 (all_gathers_later t T later (terms_of clauses) (Err (of_terms.TooMany term pos)) (terms_sound t clauses sound) g) l
+  is_problem : (holds : Option Files) (before now : ℕ) (problem : Problem) → IsFlat t holds before now root name (Ok flats) → problem.clauses ≡ clauses → problem.conjecture ≡ conjecture → Agrees v problem → IsProblem v holds root name problem
+  is_problem None before now problem f e n a = tt
+  is_problem (Some files) before now problem f e n a = λ T g.
+      let gives = gives_in files before now T (Grows-trans u v T second g) f in
+      record {
+        gives = subst (λ (m : Option ℕ). Gives T files root name problem.clauses m) (sym n) (subst (λ (ss : List Sourced). Gives T files root name ss conjecture) (sym e) gives);
+        agrees = agrees_later v T g problem a;
+      }
 
-    pub refused_by : (holds : Option Files) (first before now last : ℕ) (r : Result Problem LoadFault) → IsFlat t holds first before root name (Ok clauses) → IfErr r (HasNoSignature t clauses) → IfErr r (IsLoadFault u holds now last root name)
-    refused_by holds first before now last (Ok p) f h = tt
-    refused_by holds first before now last (Err e) f h = is_refused holds first before now last e f h
+  pub answered_by : (holds : Option Files) (before now : ℕ) (r : Result Problem LoadFault) → IsFlat t holds before now root name (Ok flats) → IfOk r (λ problem. problem.clauses ≡ clauses) → IfOk r (λ problem. problem.conjecture ≡ conjecture) → IfOk r (Agrees v) → IfOk r (IsProblem v holds root name)
+  answered_by holds before now (Ok p) f e n a = is_problem holds before now p f e n a
+  answered_by holds before now (Err e) f h n a = tt
 
-  pub answered_by : (holds : Option Files) (before now : ℕ) (clauses : List Sourced) (r : Result Problem LoadFault) → IsFlat t holds before now root name (Ok clauses) → IfOk r (λ problem. problem.clauses ≡ clauses) → IfOk r (Agrees u) → IfOk r (λ problem. problem.conjecture ≡ None) → IfOk r (IsProblem u holds root name)
-  answered_by holds before now clauses (Ok p) f e a n = is_problem holds before now clauses p f e a n
-  answered_by holds before now clauses (Err e) f h a n = tt
+  -- their signature fails in each such table
+  no_signature_in : (T : Table) → Grows u T → (why : LoadFault) → HasNoSignature u clauses why → HasNoSignature T clauses why
+  no_signature_in T k _ (clashes {term = term} {first = a} {second = b} {pos = pos} {f = h} {file = file} {place = place} g s l) =
+      subst (λ (n : List ℕ). HasNoSignature T clauses (fault.ArityClash file place n a b)) (name-grows u T k h (has_symbol u clauses term pos h few.sound s))
+      (clashes (all_gathers_later u T k (terms_of clauses) (Err (of_terms.ArityClash term pos a b)) (terms_sound u clauses few.sound) g) s l)
+  no_signature_in T k _ (is_too_many {term = term} {pos = pos} g l) =
+      is_too_many (all_gathers_later u T k (terms_of clauses) (Err (of_terms.TooMany term pos)) (terms_sound u clauses few.sound) g) l
+
+  refused_in : (files : Files) (before now : ℕ) (why : LoadFault) → IsFlat t (Some files) before now root name (Ok flats) → HasNoSignature u clauses why → (T : Table) → Grows v T → Refuses T files root name why
+  refused_in files before now why f h T g =
+      let grows = Grows-trans u v T second g in
+      is_unsigned (gives_in files before now T grows f) (no_signature_in T grows why h)
+
+  is_refused : (holds : Option Files) (before now first_fault last : ℕ) (why : LoadFault) → IsFlat t holds before now root name (Ok flats) → IsUnsigned u clauses why → IsLoadFault v holds first_fault last root name why
+  is_refused holds before now first_fault last _ f wants_memory = tt
+  is_refused None before now first_fault last _ f (has_none (clashes g s l)) = tt
+  is_refused None before now first_fault last _ f (has_none (is_too_many g l)) = tt
+  is_refused (Some files) before now first_fault last _ f (has_none (clashes {first = a} {second = b} {f = h} {file = file} {place = place} g s l)) = refused_in files before now (fault.ArityClash file place (name_of u h) a b) f (clashes g s l)
+  is_refused (Some files) before now first_fault last _ f (has_none (is_too_many {file = file} {place = place} g l)) = refused_in files before now (fault.Limit file place Symbols) f (is_too_many g l)
+
+  pub refused_by : (holds : Option Files) (before now first_fault last : ℕ) (r : Result Problem LoadFault) → IsFlat t holds before now root name (Ok flats) → IfErr r (IsUnsigned u clauses) → IfErr r (IsLoadFault v holds first_fault last root name)
+  refused_by holds before now first_fault last (Ok p) f h = tt
+  refused_by holds before now first_fault last (Err e) f h = is_refused holds before now first_fault last e f h
+
+-- a second conjecture
+module _ (root : Option (List ℕ)) (name : List ℕ) (t u : Table) (grows : Grows t u) (flats : List FlatClause) where
+  pub unclosed : (holds : Option Files) (before now first_fault last : ℕ) (why : LoadFault) → IsFlat t holds before now root name (Ok flats) → IsUnclosed flats why → IsLoadFault u holds first_fault last root name why
+  unclosed holds before now first_fault last _ f lacks_memory = tt
+  unclosed None before now first_fault last _ f (found_second e) = tt
+  unclosed (Some files) before now first_fault last _ f (found_second e) = λ T g. let flat = f T (Grows-trans t u T grows g) in has_second flat.1 e
 
 module _ (root : Option (List ℕ)) (name : List ℕ) where
   -- a problem file that isn't there
@@ -94,7 +120,7 @@ module _ (root : Option (List ℕ)) (name : List ℕ) where
   abbrev pub FileIs : List ℕ → Files → Table → Option (List ℕ) → Loaded → Type 0
   FileIs bytes files T failing loaded = (whole : List ℕ) → bytes ≡ cut whole → LoadsFile (ReadsAs T) files failing (folder_of name) root 0 name whole (record { clauses = 0; files = 0 }) loaded
 
-  pub of_file : (holds : Option Files) (first before now : ℕ) (t : Table) (bytes : List ℕ) (counts : Counts) (r : Result (List Sourced) LoadFault) → first ≤ before → IsAnswer holds first before name (Ok (Some bytes)) → IsPart holds before now t counts (FileIs bytes) r → IsFlat t holds first now root name r
+  pub of_file : (holds : Option Files) (first before now : ℕ) (t : Table) (bytes : List ℕ) (counts : Counts) (r : Result (List FlatClause) LoadFault) → first ≤ before → IsAnswer holds first before name (Ok (Some bytes)) → IsPart holds before now t counts (FileIs bytes) r → IsFlat t holds first now root name r
   of_file None first before now t bytes counts (Ok clauses) h a p = tt
   of_file (Some files) first before now t bytes counts (Ok clauses) h a p = λ T g. (counts, loads a.1 (p T g None a.0 a.2))
   of_file None first before now t bytes counts (Err (fault.ReadFault file)) h a p = (later_rise first before now h p.0, tt)
@@ -124,7 +150,7 @@ module _ (root : Option (List ℕ)) (name : List ℕ) where
   of_file (Some files) first before now t bytes counts (Err (fault.Clause file (text.Limit place w))) h a p = λ T g. is_not_flat (loads a.1 (p T g a.0 a.2))
   of_file holds first before now t bytes counts (Err (fault.Clause file text.NoMemory)) h a p = absurd p
 
-  pub of_fetched : (holds : Option Files) (first before now : ℕ) (t : Table) (file folder bytes shown : List ℕ) (answer : Option (List ℕ)) (counts : Counts) (r : Result (List Sourced) LoadFault) → first ≤ before → file ≡ name → folder ≡ folder_of name → shown ≡ bytes → answer ≡ Some bytes → IsAnswer holds first before file (Ok answer) → IsPart holds before now t counts (λ files T failing loaded. (whole : List ℕ) → shown ≡ cut whole → LoadsFile (ReadsAs T) files failing folder root 0 file whole (record { clauses = 0; files = 0 }) loaded) r → IsFlat t holds first now root name r
+  pub of_fetched : (holds : Option Files) (first before now : ℕ) (t : Table) (file folder bytes shown : List ℕ) (answer : Option (List ℕ)) (counts : Counts) (r : Result (List FlatClause) LoadFault) → first ≤ before → file ≡ name → folder ≡ folder_of name → shown ≡ bytes → answer ≡ Some bytes → IsAnswer holds first before file (Ok answer) → IsPart holds before now t counts (λ files T failing loaded. (whole : List ℕ) → shown ≡ cut whole → LoadsFile (ReadsAs T) files failing folder root 0 file whole (record { clauses = 0; files = 0 }) loaded) r → IsFlat t holds first now root name r
   of_fetched holds first before now t file folder bytes shown answer counts r h e f s q a p =
       of_file holds first before now t bytes counts r h
       (subst (λ (x : Option (List ℕ)). IsAnswer holds first before name (Ok x)) q (subst (λ (n : List ℕ). IsAnswer holds first before n (Ok answer)) e a))

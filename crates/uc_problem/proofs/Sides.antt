@@ -13,9 +13,9 @@ use Rattle.uc_term.proofs.Terms.{length-flat}
 use Rattle.uc_term.proofs.Grown.{has_nodes}
 use Rattle.uc_clause.specs.declared.token.Place.{Place}
 use Rattle.uc_clause.specs.declared.clause.Sourced.{Sourced}
-use Rattle.uc_problem.specs.Holds.{terms_of, located}
+use Rattle.uc_problem.specs.Holds.{terms_of, located, StandsAt}
 use Rattle.uc_problem.specs.Sound.{AreSound}
-use Rattle.uc_problem.specs.Assembly.{StandsAt, HasSymbolAt, HasPlaceAt, first_place}
+use Rattle.uc_problem.specs.Assembly.{HasSymbolAt, HasPlaceAt, first_place}
 use Rattle.uc_problem.proofs.Sound.{terms_sound}
 
 abbrev pub in_file : Sourced → Place → List ℕ × Place

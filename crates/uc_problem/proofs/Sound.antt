@@ -10,21 +10,27 @@ use Rattle.uc_term.proofs.Grown.{arity-grows}
 use Rattle.uc_clause.specs.declared.token.Token.{Token}
 use Rattle.uc_clause.specs.declared.clause.Name.{Name}
 use Rattle.uc_clause.specs.declared.clause.Clause.{Clause}
-use Rattle.uc_clause.specs.declared.clause.Item.{Item}
+use Rattle.uc_clause.specs.declared.clause.Item.{Item as ClauseItem}
 use Rattle.uc_clause.specs.declared.clause.Item.TheVariants as item
 use Rattle.uc_clause.specs.declared.clause.Sourced.{Sourced}
 use Rattle.uc_clause.specs.Terminals.{place_at}
-use Rattle.uc_clause.specs.Parse.{Parse, Parses, leaves, leaves_all, Entry as Part, Formula, formula, inclusion}
-use Rattle.uc_clause.specs.Meaning.{Variables, Means, variable_means, functor_means, MeanAll, none_mean, more_mean, MeansClause, MeansItem, MeanItems, no_items, one_item}
-use Rattle.uc_clause.specs.Reading.{ReadsFile}
+use Rattle.uc_clause.specs.Parse.{Parse, Parses, leaves, leaves_all, Sides, Entry as Part, formula, inclusion}
+use Rattle.uc_clause.specs.Meaning.{Variables, Means, variable_means, functor_means, MeanAll, none_mean, more_mean, MeansSides, MeansItem, places_of}
+use Rattle.uc_fof.specs.declared.item.FofItem.{FofItem}
+use Rattle.uc_fof.specs.declared.item.FofItem.TheVariants.{Item, Formula}
+use Rattle.uc_fof.specs.Parse.{Entry as FofEntry, item as of_clauses, stated}
+use Rattle.uc_fof.specs.Meaning as fof
+use Rattle.uc_fof.specs.Reading.{ReadsFile}
 use Rattle.uc_clause.specs.declared.token.Place.{Place}
 use Rattle.uc_clause.specs.declared.clause.Include.{Include}
 use Rattle.uc_problem.specs.declared.counts.Counts.{Counts}
+use Rattle.uc_problem.specs.declared.flat.FlatClause.{FlatClause}
 use Rattle.uc_problem.specs.declared.fault.LoadFault.{LoadFault}
 use Rattle.uc_problem.specs.Loading.{lists_name, listed_or, selected, first_missing}
 use Rattle.uc_problem.specs.Parts.{IsTaken, IsSelection}
+use Rattle.uc_problem.specs.Conjecture.{flat_terms}
 use Rattle.uc_problem.specs.Holds.{terms_of}
-use Rattle.uc_problem.specs.Sound.{IsSound, AreSound, IsSoundItem, AreSoundItems, IsSoundPart}
+use Rattle.uc_problem.specs.Sound.{IsSound, AreSound, AreSoundFlats, IsSoundItem, AreSoundItems, IsSoundPart}
 
 -- terms in a later table
 pub has_later : (t u : Table) → Grows t u → (f : Sym) → Has t f → Has u f
@@ -47,11 +53,16 @@ module _ (t u : Table) (g : Grows t u) where
   are_sound_later [] h = tt
   are_sound_later (s ∷ ss) h = (sound_later s.clause h.0, are_sound_later ss h.1)
 
-  pub item_later : (i : Item) → IsSoundItem t i → IsSoundItem u i
-  item_later (item.Clause c) h = sound_later c h
-  item_later (item.Include i) h = tt
+  pub flats_sound_later : (ss : List FlatClause) → AreSoundFlats t ss → AreSoundFlats u ss
+  flats_sound_later [] h = tt
+  flats_sound_later (s ∷ ss) h = (sound_later s.clause h.0, flats_sound_later ss h.1)
 
-  pub items_later : (is : List Item) → AreSoundItems t is → AreSoundItems u is
+  pub item_later : (i : FofItem) → IsSoundItem t i → IsSoundItem u i
+  item_later (Item (item.Clause c)) h = sound_later c h
+  item_later (Item (item.Include i)) h = tt
+  item_later (Formula c conjecture place) h = sound_later c h
+
+  pub items_later : (is : List FofItem) → AreSoundItems t is → AreSoundItems u is
   items_later [] h = tt
   items_later (i ∷ is) h = (item_later i h.0, items_later is h.1)
 
@@ -82,40 +93,43 @@ module _ (bytes : List ℕ) (tokens : List Token) (table : Table) where
   length_map f [] = refl
   length_map f (x ∷ xs) = ap suc (length_map f xs)
 
-  clause_sound : (f : Formula) (c : Clause) → MeansClause bytes tokens table f c → IsSound table c
-  clause_sound f c m =
-      let left = f.literal.sides.left in
-      let right = f.literal.sides.right in
-      record {
-        left = means_of m.sides.means_left;
-        right = means_of m.sides.means_right;
-        places = ap length m.places ∙ length_map (place_at bytes tokens) (leaves left ++ leaves right) ∙ omega (arith, length-append (leaves left) (leaves right), leaves_are m.sides.means_left, leaves_are m.sides.means_right);
-      }
+  sides_sound : (sides : Sides) (c : Clause) → MeansSides bytes tokens table sides c.left c.right → c.places ≡ places_of bytes tokens sides → IsSound table c
+  sides_sound sides c m e = record {
+    left = means_of m.means_left;
+    right = means_of m.means_right;
+    places = ap length e ∙ length_map (place_at bytes tokens) (leaves sides.left ++ leaves sides.right) ∙ omega (arith, length-append (leaves sides.left) (leaves sides.right), leaves_are m.means_left, leaves_are m.means_right);
+  }
 
-  item_sound : (e : Part) (i : Item) → MeansItem bytes tokens table e i → IsSoundItem table i
-  item_sound (formula f) (item.Clause c) m = clause_sound f c m
+  item_sound : (e : Part) (i : ClauseItem) → MeansItem bytes tokens table e i → IsSoundItem table (Item i)
+  item_sound (formula f) (item.Clause c) m = sides_sound f.literal.sides c m.sides m.places
   item_sound (inclusion j) (item.Include i) m = tt
   item_sound (formula f) (item.Include i) m = tt
   item_sound (inclusion j) (item.Clause c) m = absurd m
 
-  items_sound : {es : List Part} {is : List Item} → MeanItems bytes tokens table es is → AreSoundItems table is
-  items_sound no_items = tt
-  items_sound (one_item {entry = e} {i = i} m ms) = (item_sound e i m, items_sound ms)
+  entry_sound : (e : FofEntry) (i : FofItem) → fof.MeansItem bytes tokens table e i → IsSoundItem table i
+  entry_sound (of_clauses e) (Item i) m = item_sound e i m
+  entry_sound (stated s) (Formula c conjecture place) m = sides_sound s.literal.sides c m.sides m.places
+  entry_sound (of_clauses e) (Formula c conjecture place) m = absurd m
+  entry_sound (stated s) (Item i) m = absurd m
 
-pub file_sound : (bytes : List ℕ) (table : Table) (is : List Item) → ReadsFile bytes table is → AreSoundItems table is
+  items_sound : {es : List FofEntry} {is : List FofItem} → fof.MeanItems bytes tokens table es is → AreSoundItems table is
+  items_sound fof.no_items = tt
+  items_sound (fof.one_item {entry = e} {i = i} m ms) = (entry_sound e i m, items_sound ms)
+
+pub file_sound : (bytes : List ℕ) (table : Table) (is : List FofItem) → ReadsFile bytes table is → AreSoundItems table is
 file_sound bytes table is r = items_sound bytes r.reads.tokens table r.reads.means
 
 -- parts of lists
-pub sound_both : (t : Table) (xs ys : List Sourced) → AreSound t xs → AreSound t ys → AreSound t (xs ++ ys)
+pub sound_both : (t : Table) (xs ys : List FlatClause) → AreSoundFlats t xs → AreSoundFlats t ys → AreSoundFlats t (xs ++ ys)
 sound_both t [] ys h k = k
 sound_both t (x ∷ xs) ys h k = (h.0, sound_both t xs ys h.1 k)
 
-module _ (t : Table) (keep : Sourced → Bool) where
-  kept : (b : Bool) (x : Sourced) (xs : List Sourced) → IsSound t x.clause → AreSound t xs → AreSound t (cond b (x ∷ xs) xs)
+module _ (t : Table) (keep : FlatClause → Bool) where
+  kept : (b : Bool) (x : FlatClause) (xs : List FlatClause) → IsSound t x.clause → AreSoundFlats t xs → AreSoundFlats t (cond b (x ∷ xs) xs)
   kept true x xs h k = (h, k)
   kept false x xs h k = k
 
-  pub sound_filter : (xs : List Sourced) → AreSound t xs → AreSound t (filter keep xs)
+  pub sound_filter : (xs : List FlatClause) → AreSoundFlats t xs → AreSoundFlats t (filter keep xs)
   sound_filter [] h = tt
   sound_filter (x ∷ xs) h = kept (keep x) x (filter keep xs) h.0 (sound_filter xs h.1)
 
@@ -125,16 +139,22 @@ terms_sound t (s ∷ ss) h zero tree e = let same : s.clause.left ≡ tree = cc 
 terms_sound t (s ∷ ss) h (suc zero) tree e = let same : s.clause.right ≡ tree = cc in subst (IsOf t) same h.0.right
 terms_sound t (s ∷ ss) h (suc (suc i)) tree e = terms_sound t ss h.1 i tree e
 
+pub flat_terms_sound : (t : Table) (ss : List FlatClause) → AreSoundFlats t ss → AreOf t (flat_terms ss)
+flat_terms_sound t [] h i tree e = absurd cc
+flat_terms_sound t (s ∷ ss) h zero tree e = let same : s.clause.left ≡ tree = cc in subst (IsOf t) same h.0.left
+flat_terms_sound t (s ∷ ss) h (suc zero) tree e = let same : s.clause.right ≡ tree = cc in subst (IsOf t) same h.0.right
+flat_terms_sound t (s ∷ ss) h (suc (suc i)) tree e = flat_terms_sound t ss h.1 i tree e
+
 -- parts
 module _ (t : Table) (old new : Counts) where
-  pub taken_sound : (name : List ℕ) (c : Clause) (r : Result (List Sourced) LoadFault) → IsSound t c → IsTaken name c old new r → IfOk r (IsSoundPart t old new)
-  taken_sound name c (Ok ss) s h = rw (h.1, h.2) (record { sound = (s, tt); few = omega arith; within = λ _. omega (arith, h.0) })
-  taken_sound name c (Err e) s h = tt
+  pub taken_sound : (name : List ℕ) (c : Clause) (conjecture : Option Place) (r : Result (List FlatClause) LoadFault) → IsSound t c → IsTaken name c conjecture old new r → IfOk r (IsSoundPart t old new)
+  taken_sound name c conjecture (Ok ss) s h = rw (h.1, h.2) (record { sound = (s, tt); few = omega arith; within = λ _. omega (arith, h.0) })
+  taken_sound name c conjecture (Err e) s h = tt
 
   pub none_sound : old ≡ new → IsSoundPart t old new []
   none_sound e = rw e (record { sound = tt; few = omega arith; within = λ h. h })
 
-  short_filter : (keep : Sourced → Bool) (ss : List Sourced) → length (filter keep ss) ≤ length ss
+  short_filter : (keep : FlatClause → Bool) (ss : List FlatClause) → length (filter keep ss) ≤ length ss
   short_filter keep [] = omega arith
   short_filter keep (s ∷ ss) = go (keep s) (short_filter keep ss)
     where
@@ -142,27 +162,27 @@ module _ (t : Table) (old new : Counts) where
       go true h = omega (arith, h)
       go false h = omega (arith, h)
 
-  abbrev OfFile : List Sourced → Type 0
+  abbrev OfFile : List FlatClause → Type 0
   OfFile = IsSoundPart t (record { clauses = old.clauses; files = old.files + 1 }) new
 
-  listed_sound : (file : List ℕ) (names : List (Name × Place)) (given ss : List Sourced) (m : Option (Name × Place)) → OfFile given → Ok ss ≡ listed_or file names given m → IsSoundPart t old new ss
+  listed_sound : (file : List ℕ) (names : List (Name × Place)) (given ss : List FlatClause) (m : Option (Name × Place)) → OfFile given → Ok ss ≡ listed_or file names given m → IsSoundPart t old new ss
   listed_sound file names given ss None p e =
-      let keep = λ (s : Sourced). lists_name names s.clause.name in
+      let keep = λ (s : FlatClause). lists_name names s.clause.name in
       let same : ss ≡ filter keep given = cc in
       rw same (record { sound = sound_filter t keep given p.sound; few = omega (arith, p.few, short_filter keep given); within = p.within })
   listed_sound file names given ss (Some m) p e = absurd cc
 
-  chosen_sound : (file : List ℕ) (names : Option (List (Name × Place))) (given ss : List Sourced) → OfFile given → Ok ss ≡ selected file names given → IsSoundPart t old new ss
+  chosen_sound : (file : List ℕ) (names : Option (List (Name × Place))) (given ss : List FlatClause) → OfFile given → Ok ss ≡ selected file names given → IsSoundPart t old new ss
   chosen_sound file None given ss p e = let same : ss ≡ given = cc in rw same (record { sound = p.sound; few = p.few; within = p.within })
   chosen_sound file (Some names) given ss p e = listed_sound file names given ss (first_missing given names) p e
 
-  pub selected_sound : (name : List ℕ) (i : Include) (given : List Sourced) (r : Result (List Sourced) LoadFault) → OfFile given → IsSelection name i given r → IfOk r (IsSoundPart t old new)
+  pub selected_sound : (name : List ℕ) (i : Include) (given : List FlatClause) (r : Result (List FlatClause) LoadFault) → OfFile given → IsSelection name i given r → IfOk r (IsSoundPart t old new)
   selected_sound name i given (Ok ss) p e = chosen_sound name i.names given ss p e
   selected_sound name i given (Err e) p h = tt
 
-pub go_on_sound : (t u : Table) (a b d : Counts) (xs ys : List Sourced) → Grows t u → IsSoundPart t a b xs → IsSoundPart u b d ys → IsSoundPart u a d (xs ++ ys)
+pub go_on_sound : (t u : Table) (a b d : Counts) (xs ys : List FlatClause) → Grows t u → IsSoundPart t a b xs → IsSoundPart u b d ys → IsSoundPart u a d (xs ++ ys)
 go_on_sound t u a b d xs ys g p q = record {
-  sound = sound_both u xs ys (are_sound_later t u g xs p.sound) q.sound;
+  sound = sound_both u xs ys (flats_sound_later t u g xs p.sound) q.sound;
   few = omega (arith, p.few, q.few, length-append xs ys);
   within = λ h. q.within (p.within h);
 }

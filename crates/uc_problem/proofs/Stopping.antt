@@ -10,13 +10,14 @@ use Rattle.uc_problem.specs.declared.fault.LoadFault.{LoadFault}
 use Rattle.uc_problem.specs.declared.fault.LoadFault.TheVariants as fault
 use Rattle.uc_problem.specs.Candidates.{folder_of}
 use Rattle.uc_problem.specs.Fetching.{cut, IsAnswer, IsFetchFault}
-use Rattle.uc_problem.specs.Holds.{ReadsAs, has_clash as clash_held, has_too_many}
+use Rattle.uc_problem.specs.declared.flat.FlatClause.{FlatClause}
+use Rattle.uc_problem.specs.Holds.{ReadsAs}
 use Rattle.uc_problem.specs.Loading.{LoadsFile, no_fetch, no_problem, loads}
 use Rattle.uc_problem.specs.Parts.{IsPart}
-use Rattle.uc_problem.specs.Assembly.{IsFlat, HasNoSignature, clashes, is_too_many}
+use Rattle.uc_problem.specs.Assembly.{IsFlat, IsUnsigned, has_none, IsUnclosed, has_second as found_second, lacks_memory}
 use Rattle.uc_problem.specs.Assembly as assembly
-use Rattle.uc_problem.specs.Filling.{WhereTold, FillsProblem}
-use Rattle.uc_problem.specs.Refusing.{stops, has_no_signature, IsStopped, fetch_fails, is_refused, wants_memory}
+use Rattle.uc_problem.specs.Filling.{WhereTold, FillsClosed}
+use Rattle.uc_problem.specs.Refusing.{stops, has_second, has_no_signature, IsStopped, fetch_fails, is_refused, wants_memory}
 use Rattle.uc_problem.proofs.Later.{Grows-refl}
 use Rattle.uc_problem.proofs.Problems.{FileIs}
 use Rattle.uc_problem.proofs.Shapes.{file_shapes}
@@ -75,25 +76,34 @@ module _ (root : Option (List ℕ)) (name : List ℕ) (old : Table) where
     file_stops (fault.Clause file (text.Limit place w)) p = part_stops (fault.Clause file (text.Limit place w)) (p t (Grows-refl t))
     file_stops (fault.Clause file text.NoMemory) p = absurd p
 
-  pub loading_stops : (holds : Option Files) (first before now : ℕ) (t : Table) (bytes : List ℕ) (counts : Counts) (r : Result (List Sourced) LoadFault) → IsAnswer holds first before name (Ok (Some bytes)) → IsPart holds before now t counts (FileIs root name bytes) r → IfErr r (StopsWhereTold holds)
+  pub loading_stops : (holds : Option Files) (first before now : ℕ) (t : Table) (bytes : List ℕ) (counts : Counts) (r : Result (List FlatClause) LoadFault) → IsAnswer holds first before name (Ok (Some bytes)) → IsPart holds before now t counts (FileIs root name bytes) r → IfErr r (StopsWhereTold holds)
   loading_stops holds first before now t bytes counts (Ok clauses) a p = tt
   loading_stops None first before now t bytes counts (Err why) a p = tt
   loading_stops (Some files) first before now t bytes counts (Err why) a p = file_stops t bytes counts files first before now a why p
 
-  pub fetched_stops : (holds : Option Files) (first before now : ℕ) (t : Table) (file folder bytes shown : List ℕ) (answer : Option (List ℕ)) (counts : Counts) (r : Result (List Sourced) LoadFault) → file ≡ name → folder ≡ folder_of name → shown ≡ bytes → answer ≡ Some bytes → IsAnswer holds first before file (Ok answer) → IsPart holds before now t counts (λ files T failing loaded. (whole : List ℕ) → shown ≡ cut whole → LoadsFile (ReadsAs T) files failing folder root 0 file whole (record { clauses = 0; files = 0 }) loaded) r → IfErr r (StopsWhereTold holds)
+  pub fetched_stops : (holds : Option Files) (first before now : ℕ) (t : Table) (file folder bytes shown : List ℕ) (answer : Option (List ℕ)) (counts : Counts) (r : Result (List FlatClause) LoadFault) → file ≡ name → folder ≡ folder_of name → shown ≡ bytes → answer ≡ Some bytes → IsAnswer holds first before file (Ok answer) → IsPart holds before now t counts (λ files T failing loaded. (whole : List ℕ) → shown ≡ cut whole → LoadsFile (ReadsAs T) files failing folder root 0 file whole (record { clauses = 0; files = 0 }) loaded) r → IfErr r (StopsWhereTold holds)
   fetched_stops holds first before now t file folder bytes shown answer counts r e f s q a p =
       loading_stops holds first before now t bytes counts r
       (subst (λ (x : Option (List ℕ)). IsAnswer holds first before name (Ok x)) q (subst (λ (n : List ℕ). IsAnswer holds first before n (Ok answer)) e a))
       (rw (e, f, s) at p)
 
-  -- the clauses that are loaded have no signature
-  module _ (t : Table) (distinct : IsDistinct t) (clauses : List Sourced) where
-    unsigned : (files : Files) (before now : ℕ) (why : LoadFault) → IsFlat t (Some files) before now root name (Ok clauses) → FillsProblem files root name old t → HasNoSignature t clauses why → IsStopped files root name old why
-    unsigned files before now _ f fills (clashes g s l) = is_refused (has_no_signature fills distinct (clash_held (f t (Grows-refl t)).1 g s.tree_at s.node_at l))
-    unsigned files before now _ f fills (is_too_many g l) = is_refused (has_no_signature fills distinct (has_too_many (f t (Grows-refl t)).1 g l))
-    unsigned files before now _ f fills assembly.wants_memory = wants_memory
+  -- there is a second conjecture
+  module _ (t : Table) (flats : List FlatClause) where
+    two : (files : Files) (before now : ℕ) (why : LoadFault) → IsFlat t (Some files) before now root name (Ok flats) → IsUnclosed flats why → IsStopped files root name old why
+    two files before now _ f (found_second e) = is_refused (has_second (f t (Grows-refl t)).1 e)
+    two files before now _ f lacks_memory = wants_memory
 
-    pub unsigned_by : (holds : Option Files) (before now : ℕ) (r : Result Problem LoadFault) → IsFlat t holds before now root name (Ok clauses) → WhereTold holds (λ files. FillsProblem files root name old t) → IfErr r (HasNoSignature t clauses) → IfErr r (StopsWhereTold holds)
-    unsigned_by holds before now (Ok problem) f fills h = tt
-    unsigned_by None before now (Err why) f fills h = tt
-    unsigned_by (Some files) before now (Err why) f fills h = unsigned files before now why f fills h
+    pub unclosed_stops : (holds : Option Files) (before now : ℕ) (why : LoadFault) → IsFlat t holds before now root name (Ok flats) → IsUnclosed flats why → StopsWhereTold holds why
+    unclosed_stops None before now why f u = tt
+    unclosed_stops (Some files) before now why f u = two files before now why f u
+
+  -- the clauses that are loaded have no signature
+  module _ (t : Table) (distinct : IsDistinct t) (clauses : List Sourced) (conjecture : Option ℕ) where
+    unsigned : (files : Files) (why : LoadFault) → FillsClosed files root name old t clauses conjecture → IsUnsigned t clauses why → IsStopped files root name old why
+    unsigned files _ fills (has_none h) = is_refused (has_no_signature fills distinct h)
+    unsigned files _ fills assembly.wants_memory = wants_memory
+
+    pub unsigned_by : (holds : Option Files) (r : Result Problem LoadFault) → WhereTold holds (λ files. FillsClosed files root name old t clauses conjecture) → IfErr r (IsUnsigned t clauses) → IfErr r (StopsWhereTold holds)
+    unsigned_by holds (Ok problem) fills h = tt
+    unsigned_by None (Err why) fills h = tt
+    unsigned_by (Some files) (Err why) fills h = unsigned files why fills h

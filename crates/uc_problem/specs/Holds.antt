@@ -12,23 +12,24 @@ use Rattle.uc_term.specs.declared.fault.TermFault.TheVariants as of_terms
 use Rattle.uc_edge.specs.Files.{Files}
 use Rattle.uc_edge.specs.Faults.{Rose}
 use Rattle.uc_clause.specs.declared.token.Place.{Place}
-use Rattle.uc_clause.specs.declared.clause.Item.{Item}
 use Rattle.uc_clause.specs.declared.clause.Sourced.{Sourced}
 use Rattle.uc_clause.specs.declared.fault.ClauseFault.{ClauseFault}
 use Rattle.uc_clause.specs.declared.fault.ClauseFault.TheVariants as unread
 use Rattle.uc_clause.specs.declared.fault.What.TheVariants.{Symbols}
-use Rattle.uc_clause.specs.Reading.{ReadsFile, RefusesFile}
+use Rattle.uc_fof.specs.declared.item.FofItem.{FofItem}
+use Rattle.uc_fof.specs.Reading.{ReadsOrRefusesFile}
 use Rattle.uc_problem.specs.declared.fault.LoadFault.{LoadFault}
 use Rattle.uc_problem.specs.declared.fault.LoadFault.TheVariants as fault
 use Rattle.uc_problem.specs.declared.problem.Problem.{Problem}
 use Rattle.uc_problem.specs.Candidates.{folder_of}
 use Rattle.uc_problem.specs.declared.counts.Counts.{Counts}
+use Rattle.uc_problem.specs.declared.flat.FlatClause.{FlatClause}
 use Rattle.uc_problem.specs.Loading.{Loaded, LoadsProblem}
+use Rattle.uc_problem.specs.Conjecture.{conjectures, second_conjecture, AreClosed}
 
 -- what a file's text comes to with symbols in this table
-abbrev pub ReadsAs : Table → List ℕ → Result (List Item) ClauseFault → Type 0
-ReadsAs table bytes (Ok items) = ReadsFile bytes table items
-ReadsAs table bytes (Err why) = RefusesFile bytes why
+abbrev pub ReadsAs : Table → List ℕ → Result (List FofItem) ClauseFault → Type 0
+ReadsAs table bytes answer = ReadsOrRefusesFile bytes table answer
 
 -- the flat list of a problem's clauses, or the refusal, where no fetch fails
 abbrev pub Flattens : Table → Files → Option (List ℕ) → List ℕ → Loaded → Type 0
@@ -56,13 +57,18 @@ pub record Agrees (table : Table) (problem : Problem) : Type 0 where
   pub over : AreOf table (terms_of problem.clauses)
   pub signature : IsSignatureOf table (terms_of problem.clauses) problem.signature
 
--- the library holds this problem under this name: its clauses in flat order, and what follows from them; none of them was a
--- conjecture
-pub record Holds (table : Table) (files : Files) (root : Option (List ℕ)) (name : List ℕ) (problem : Problem) : Type 0 where
+-- the library gives these clauses under this name, of which the one of this number was a conjecture, where there was one
+pub record Gives (table : Table) (files : Files) (root : Option (List ℕ)) (name : List ℕ) (clauses : List Sourced) (conjecture : Option ℕ) : Type 0 where
+  pub flats : List FlatClause
   pub counts : Counts
-  pub flat : Flattens table files root name (Ok (problem.clauses, counts))
+  pub flat : Flattens table files root name (Ok (flats, counts))
+  pub closed : AreClosed table flats clauses conjecture
+
+-- the library holds this problem under this name: its clauses in flat order, with constants in the place of its conjecture's
+-- variables, and what follows from them
+pub record Holds (table : Table) (files : Files) (root : Option (List ℕ)) (name : List ℕ) (problem : Problem) : Type 0 where
+  pub gives : Gives table files root name problem.clauses problem.conjecture
   pub agrees : Agrees table problem
-  pub conjecture : problem.conjecture ≡ None
 
 -- the file and the place of a node of one of the terms, by the term's number and the node's
 abbrev pub located : List Sourced → ℕ → ℕ → Option (List ℕ × Place)
@@ -71,11 +77,24 @@ located (s ∷ ss) zero node = option_map (λ place. (s.file, place)) (slice_get
 located (s ∷ ss) (suc zero) node = option_map (λ place. (s.file, place)) (slice_get s.clause.places (nodes s.clause.left + node))
 located (s ∷ ss) (suc (suc n)) node = located ss n node
 
--- the library holds no problem under this name, for this reason: the first in the order of loading, and at last the signature's
+-- a symbol stands at this place of the term of this number
+pub record StandsAt (clauses : List Sourced) (term : ℕ) (pos : Pos) (f : Sym) : Type 0 where
+  pub tree : Tree
+  pub count : ℕ
+  pub tree_at : slice_get (terms_of clauses) term ≡ Some tree
+  pub node_at : slice_get (flat tree) pos.0 ≡ Some (App f count)
+
+-- the clauses have no signature: by the first fault of one, at the file and the place where it stands
+pub data HasNoSignature (table : Table) (clauses : List Sourced) : LoadFault → Type 0 where
+  clashes : {term first second : ℕ} {pos : Pos} {f : Sym} {file : List ℕ} {place : Place} → Gathers table [] (occurrences_of (terms_of clauses)) (Err (of_terms.ArityClash term pos first second)) → StandsAt clauses term pos f → located clauses term pos.0 ≡ Some (file, place) → HasNoSignature table clauses (fault.ArityClash file place (name_of table f) first second)
+  is_too_many : {term : ℕ} {pos : Pos} {file : List ℕ} {place : Place} → Gathers table [] (occurrences_of (terms_of clauses)) (Err (of_terms.TooMany term pos)) → located clauses term pos.0 ≡ Some (file, place) → HasNoSignature table clauses (fault.Limit file place Symbols)
+
+-- The library holds no problem under this name, for this reason: the first in the order of loading, then a second conjecture, and at
+-- last the signature's.
 pub data Refuses (table : Table) (files : Files) (root : Option (List ℕ)) (name : List ℕ) : LoadFault → Type 0 where
   is_not_flat : {why : LoadFault} → Flattens table files root name (Err why) → Refuses table files root name why
-  has_clash : {clauses : List Sourced} {counts : Counts} {term first second n : ℕ} {pos : Pos} {t : Tree} {f : Sym} {file : List ℕ} {place : Place} → Flattens table files root name (Ok (clauses, counts)) → Gathers table [] (occurrences_of (terms_of clauses)) (Err (of_terms.ArityClash term pos first second)) → slice_get (terms_of clauses) term ≡ Some t → slice_get (flat t) pos.0 ≡ Some (App f n) → located clauses term pos.0 ≡ Some (file, place) → Refuses table files root name (fault.ArityClash file place (name_of table f) first second)
-  has_too_many : {clauses : List Sourced} {counts : Counts} {term : ℕ} {pos : Pos} {file : List ℕ} {place : Place} → Flattens table files root name (Ok (clauses, counts)) → Gathers table [] (occurrences_of (terms_of clauses)) (Err (of_terms.TooMany term pos)) → located clauses term pos.0 ≡ Some (file, place) → Refuses table files root name (fault.Limit file place Symbols)
+  has_second : {flats : List FlatClause} {counts : Counts} {first second : List ℕ × Place} {rest : List (List ℕ × Place)} → Flattens table files root name (Ok (flats, counts)) → conjectures flats ≡ first ∷ second ∷ rest → Refuses table files root name (second_conjecture second)
+  is_unsigned : {clauses : List Sourced} {conjecture : Option ℕ} {why : LoadFault} → Gives table files root name clauses conjecture → HasNoSignature table clauses why → Refuses table files root name why
 
 -- this holds of the files, where they are told, in this table and in each that it grows into
 abbrev pub ForFiles : Option Files → Table → (Files → Table → Type 0) → Type 0

@@ -1,10 +1,12 @@
 pub mod Candidates
 pub mod Loading
+pub mod Conjecture
 pub mod Holds
 pub mod Fetching
 pub mod Parts
 pub mod Sound
 pub mod Assembly
+pub mod Closing
 pub mod Marks
 pub mod NameSets
 pub mod Encodes

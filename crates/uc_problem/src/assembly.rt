@@ -5,7 +5,7 @@ ghost use Rattle.uc_term.specs.Table.{Grows};
 ghost use Rattle.uc_term.specs.Signatures.{IsSignatureOf};
 ghost use Rattle.uc_problem.specs.Holds.{Agrees, terms_of, numbers_of};
 ghost use Rattle.uc_problem.specs.Filling.{AddsOne};
-ghost use Rattle.uc_problem.specs.Assembly.{AreSoundFew, HasNoSignature};
+ghost use Rattle.uc_problem.specs.Assembly.{AreSoundFew, IsUnsigned};
 
 use crate::locating::refusal;
 use crate::{LoadFault, Problem};
@@ -13,17 +13,19 @@ use std::alloc::{AllocError, Global};
 use uc_clause::Sourced;
 use uc_term::{Seq, Signature, Symbols, Term};
 
-// The problem of these clauses: which of them are axioms and which are goals, and their signature.
+// The problem of these clauses: which of them are axioms and which are goals, and their signature. The one of this number was a
+// conjecture, where there is one.
 pub(crate) fn assemble(
     alloc: Global,
     clauses: Seq<Sourced>,
+    conjecture: Option<u32>,
     symbols: &mut Symbols,
 ) -> Result<Problem, LoadFault>
     requires { AreSoundFew symbols.old clauses }
     ensures clauses { IfOk result (λ problem. problem.clauses ≡ clauses) }
     ensures agrees { IfOk result (Agrees symbols.new) }
-    ensures conjecture { IfOk result (λ problem. problem.conjecture ≡ None) }
-    ensures refused { IfErr result (HasNoSignature symbols.old clauses) }
+    ensures conjecture { IfOk result (λ problem. problem.conjecture ≡ conjecture) }
+    ensures refused { IfErr result (IsUnsigned symbols.old clauses) }
     ensures grows { Grows symbols.old symbols.new }
     ensures least { IfOk result (λ problem. AddsOne symbols.old symbols.new problem.signature.least) }
 {
@@ -35,7 +37,7 @@ pub(crate) fn assemble(
         axioms,
         goals,
         signature,
-        conjecture: None,
+        conjecture,
     })
 }
 
@@ -61,7 +63,7 @@ fn signature_of(
 ) -> Result<Signature, LoadFault>
     requires { AreSoundFew symbols.old clauses.now }
     ensures signature { IfOk result (IsSignatureOf symbols.new (terms_of clauses.now)) }
-    ensures refused { IfErr result (HasNoSignature symbols.old clauses.now) }
+    ensures refused { IfErr result (IsUnsigned symbols.old clauses.now) }
     ensures grows { Grows symbols.old symbols.new }
     ensures least { IfOk result (λ signature. AddsOne symbols.old symbols.new signature.least) }
 {

@@ -53,7 +53,7 @@ pub enum LoadFault {
         place: Place,
         what: What,
     },
-    /// The file isn't read.
+    /// The file isn't read, or a second conjecture stands in it.
     #[error("{fault}")]
     Clause {
         file: Text,

@@ -6,17 +6,18 @@ ghost use Rattle.uc_term.specs.Table.{Grows};
 ghost use Rattle.uc_problem.specs.Fetching.{cut, IsFaulted};
 ghost use Rattle.uc_problem.specs.Holds.{ReadsAs};
 ghost use Rattle.uc_problem.specs.Filling.{WhereTold, FillsFile, FillsItem, FillsInclude};
-ghost use Rattle.uc_problem.specs.Loading.{LoadsFile};
+ghost use Rattle.uc_problem.specs.Loading.{LoadsFile, place_if};
 ghost use Rattle.uc_problem.specs.Parts.{IsPart, ItemComesTo, IsNotRead, IsTaken, IsSelection};
 ghost use Rattle.uc_problem.specs.Sound.{IsSoundItem, IsSoundPart};
 
 use crate::candidates::candidates;
 use crate::fetch::fetch_first;
 use crate::selection::select;
-use crate::{Counts, LoadFault};
+use crate::{Counts, FlatClause, LoadFault};
 use std::alloc::{AllocError, Global};
-use uc_clause::{Clause, ClauseFault, Include, Item, Sourced, What, read_items};
+use uc_clause::{Clause, ClauseFault, Include, Item, Place, What};
 use uc_edge::Library;
+use uc_fof::{FofItem, read_formulas};
 use uc_term::{Seq, Symbols, Text};
 
 const MAX_DEPTH: u32 = 16;
@@ -43,7 +44,7 @@ pub(crate) fn load_file<L: Library>(
     name: &Text,
     bytes: &[u8],
     depth: u32,
-) -> Result<Seq<Sourced>, LoadFault>
+) -> Result<Seq<FlatClause>, LoadFault>
     ensures part { IsPart (L.holds library.old) (L.faults library.old) (L.faults library.new) symbols.new counts.new (λ files T failing loaded. (whole : List ℕ) → bytes.now ≡ cut whole → LoadsFile (ReadsAs T) files failing search.entry.folder.now (option_copied search.entry.root) depth name.now whole counts.old loaded) result }
     ensures sound { IfOk result (IsSoundPart symbols.new counts.old counts.new) }
     ensures grows { Grows symbols.old symbols.new }
@@ -52,7 +53,7 @@ pub(crate) fn load_file<L: Library>(
     ensures later { L.faults library.old ≤ L.faults library.new }
     ensures counted { IsFaulted result (L.faults library.old) (L.faults library.new) (L.failed_at library.old) (L.failed_at library.new) }
 {
-    let items = match read_items(alloc, bytes, symbols) {
+    let items = match read_formulas(alloc, bytes, symbols) {
         Ok(items) => items,
         Err(fault) => return Err(not_read(alloc, name, fault)),
     };
@@ -87,8 +88,8 @@ fn load_item<L: Library>(
     counts: &mut Counts,
     name: &Text,
     depth: u32,
-    item: Item,
-) -> Result<Seq<Sourced>, LoadFault>
+    item: FofItem,
+) -> Result<Seq<FlatClause>, LoadFault>
     ensures part { IsPart (L.holds library.old) (L.faults library.old) (L.faults library.new) symbols.new counts.new (ItemComesTo search.entry.folder.now (option_copied search.entry.root) depth name.now counts.old item) result }
     ensures sound { IsSoundItem symbols.old item → IfOk result (IsSoundPart symbols.new counts.old counts.new) }
     ensures grows { Grows symbols.old symbols.new }
@@ -98,23 +99,42 @@ fn load_item<L: Library>(
     ensures counted { IsFaulted result (L.faults library.old) (L.faults library.new) (L.failed_at library.old) (L.failed_at library.new) }
 {
     match item {
-        Item::Clause(clause) => take_clause(alloc, counts, name, clause),
-        Item::Include(include) => {
+        FofItem::Item(Item::Clause(clause)) => take_clause(alloc, counts, name, clause, None),
+        FofItem::Item(Item::Include(include)) => {
             load_include(
                 alloc, library, search, symbols, counts, name, depth, &include,
             )
         }
+        FofItem::Formula {
+            clause,
+            conjecture,
+            role_place,
+        } => take_clause(
+            alloc,
+            counts,
+            name,
+            clause,
+            place_if(conjecture, role_place),
+        ),
     }
 }
 
-// A clause of the file of this name.
+// Where a conjecture says so.
+fn place_if(conjecture: bool, place: Place) -> Option<Place>
+    ensures { result ≡ place_if conjecture place }
+{
+    if conjecture { Some(place) } else { None }
+}
+
+// A clause of the file of this name, and where it says `conjecture`, if it does.
 fn take_clause(
     alloc: Global,
     counts: &mut Counts,
     name: &Text,
     clause: Clause,
-) -> Result<Seq<Sourced>, LoadFault>
-    ensures { IsTaken name.now clause counts.old counts.new result }
+    conjecture: Option<Place>,
+) -> Result<Seq<FlatClause>, LoadFault>
+    ensures { IsTaken name.now clause conjecture counts.old counts.new result }
 {
     if counts.clauses >= MAX_CLAUSES {
         return Err(LoadFault::Limit {
@@ -125,9 +145,10 @@ fn take_clause(
     }
     counts.clauses += 1;
     let mut clauses = Seq::new(alloc);
-    clauses.push(Sourced {
+    clauses.push(FlatClause {
         file: name.copy(alloc)?,
         clause,
+        conjecture,
     })?;
     Ok(clauses)
 }
@@ -143,8 +164,8 @@ fn load_include<L: Library>(
     name: &Text,
     depth: u32,
     include: &Include,
-) -> Result<Seq<Sourced>, LoadFault>
-    ensures part { IsPart (L.holds library.old) (L.faults library.old) (L.faults library.new) symbols.new counts.new (ItemComesTo search.entry.folder.now (option_copied search.entry.root) depth name.now counts.old (Item.Include include.now)) result }
+) -> Result<Seq<FlatClause>, LoadFault>
+    ensures part { IsPart (L.holds library.old) (L.faults library.old) (L.faults library.new) symbols.new counts.new (ItemComesTo search.entry.folder.now (option_copied search.entry.root) depth name.now counts.old (FofItem.Item (Item.Include include.now))) result }
     ensures sound { IfOk result (IsSoundPart symbols.new counts.old counts.new) }
     ensures grows { Grows symbols.old symbols.new }
     ensures fills { IfOk result (λ _. WhereTold (L.holds library.old) (λ files. FillsInclude files search.entry.folder.now (option_copied search.entry.root) include.now symbols.old symbols.new)) }

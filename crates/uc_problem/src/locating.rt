@@ -2,9 +2,9 @@
 
 ghost use Rattle.std.specs.Prelude.{◌≡◌, ◌<◌, ◌≤◌, length, slice_get, Some, IfOk};
 ghost use Rattle.uc_term.specs.Signatures.{IsSignatureFault};
-ghost use Rattle.uc_problem.specs.Holds.{terms_of, located};
+ghost use Rattle.uc_problem.specs.Holds.{terms_of, located, StandsAt, HasNoSignature};
 ghost use Rattle.uc_problem.specs.Sound.{AreSound};
-ghost use Rattle.uc_problem.specs.Assembly.{StandsAt, HasSymbolAt, HasPlaceAt, HasNoSignature, first_place};
+ghost use Rattle.uc_problem.specs.Assembly.{HasSymbolAt, HasPlaceAt, first_place};
 
 use crate::LoadFault;
 use std::alloc::{AllocError, Global};

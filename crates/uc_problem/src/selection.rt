@@ -2,15 +2,15 @@
 
 ghost use Rattle.std.specs.Prelude.{◌≡◌, IfOk, List, MatchOption, Some, None, filter};
 ghost use Rattle.uc_clause.specs.declared.clause.Name.{Name};
-ghost use Rattle.uc_clause.specs.declared.clause.Sourced.{Sourced};
+ghost use Rattle.uc_problem.specs.declared.flat.FlatClause.{FlatClause};
 ghost use Rattle.uc_problem.specs.Loading.{gives_name, lists_name, first_missing};
 ghost use Rattle.uc_problem.specs.NameSets.{has_name};
 ghost use Rattle.uc_problem.specs.Parts.{IsSelection};
 
-use crate::LoadFault;
 use crate::names::Names;
+use crate::{FlatClause, LoadFault};
 use std::alloc::{AllocError, Global};
-use uc_clause::{Include, Name, Place, Sourced};
+use uc_clause::{Include, Name, Place};
 use uc_term::{Seq, Text};
 
 // The clauses that an include of the file of this name keeps of those that the included file gives.
@@ -18,8 +18,8 @@ pub(crate) fn select(
     alloc: Global,
     name: &Text,
     include: &Include,
-    given: Seq<Sourced>,
-) -> Result<Seq<Sourced>, LoadFault>
+    given: Seq<FlatClause>,
+) -> Result<Seq<FlatClause>, LoadFault>
     ensures { IsSelection name.now include.now given result }
 {
     let Some(names) = &include.names else {
@@ -38,7 +38,7 @@ pub(crate) fn select(
 // The first listed name that no clause has.
 fn first_missing<'a>(
     alloc: Global,
-    clauses: &[Sourced],
+    clauses: &[FlatClause],
     names: &'a [(Name, Place)],
 ) -> Result<Option<&'a (Name, Place)>, AllocError>
     ensures { IfOk result (λ first. MatchOption first (first_missing clauses.now names.entry.now ≡ None) (λ missing. first_missing clauses.now names.entry.now ≡ Some missing.now)) }
@@ -49,7 +49,7 @@ fn first_missing<'a>(
 
 // The first listed name that isn't in a set.
 fn first_outside<'a>(given: &Names, names: &'a [(Name, Place)]) -> Option<&'a (Name, Place)>
-    ensures { (clauses : List Sourced) → ((name : Name) → has_name given.now.words.keys given.now.integers.keys name ≡ gives_name clauses name) → MatchOption result (first_missing clauses names.entry.now ≡ None) (λ missing. first_missing clauses names.entry.now ≡ Some missing.now) }
+    ensures { (clauses : List FlatClause) → ((name : Name) → has_name given.now.words.keys given.now.integers.keys name ≡ gives_name clauses name) → MatchOption result (first_missing clauses names.entry.now ≡ None) (λ missing. first_missing clauses names.entry.now ≡ Some missing.now) }
 {
     for listed in names {
         if !given.contains(&listed.0) {
@@ -63,8 +63,8 @@ fn first_outside<'a>(given: &Names, names: &'a [(Name, Place)]) -> Option<&'a (N
 fn kept_of(
     alloc: Global,
     names: &[(Name, Place)],
-    given: Seq<Sourced>,
-) -> Result<Seq<Sourced>, AllocError>
+    given: Seq<FlatClause>,
+) -> Result<Seq<FlatClause>, AllocError>
     ensures { IfOk result (λ kept. kept ≡ filter (λ s. lists_name names.now s.clause.name) given) }
 {
     let listed = names_listed(alloc, names)?;
@@ -75,26 +75,26 @@ fn kept_of(
 fn kept_among(
     alloc: Global,
     listed: &Names,
-    given: Seq<Sourced>,
-) -> Result<Seq<Sourced>, AllocError>
+    given: Seq<FlatClause>,
+) -> Result<Seq<FlatClause>, AllocError>
     ensures { IfOk result (λ kept. kept ≡ filter (λ s. has_name listed.now.words.keys listed.now.integers.keys s.clause.name) given) }
 {
     let mut kept = Seq::new(alloc);
-    for sourced in given.into_vec() {
-        if listed.contains(&sourced.clause.name) {
-            kept.push(sourced)?;
+    for flat in given.into_vec() {
+        if listed.contains(&flat.clause.name) {
+            kept.push(flat)?;
         }
     }
     Ok(kept)
 }
 
 // The names of the clauses.
-fn names_of(alloc: Global, clauses: &[Sourced]) -> Result<Names, AllocError>
+fn names_of(alloc: Global, clauses: &[FlatClause]) -> Result<Names, AllocError>
     ensures { IfOk result (λ set. (name : Name) → has_name set.words.keys set.integers.keys name ≡ gives_name clauses.now name) }
 {
     let mut given = Names::new(alloc);
-    for sourced in clauses {
-        given.insert(alloc, &sourced.clause.name)?;
+    for flat in clauses {
+        given.insert(alloc, &flat.clause.name)?;
     }
     Ok(given)
 }

@@ -59,7 +59,7 @@ module _ (files : Files) (before now : ℕ) (command : Command) (name : List ℕ
     shown : (answer : Searched) → Searches symbols problem.signature.symbols problem.clauses command.budget command.size answer → Shows symbols problem.signature.symbols problem.clauses command.size answer
     shown answer x = searches_show symbols problem.signature.symbols problem.clauses command.budget (problem_known symbols problem held.holds.agrees) command.size answer most x
 
-    finds : (answer : Searched) → searched_status answer ≡ 0 → Shows symbols problem.signature.symbols problem.clauses command.size answer → FindsModel files command.root name command.size (searched_lines symbols name command.size command.budget answer)
+    finds : (answer : Searched) → searched_status answer ≡ 0 → Shows symbols problem.signature.symbols problem.clauses command.size answer → FindsModel files command.root name command.size (searched_lines symbols problem name command.size command.budget answer)
     finds (Found table) e least = record {
       symbols = symbols;
       distinct = distinct;

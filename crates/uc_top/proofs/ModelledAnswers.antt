@@ -38,6 +38,6 @@ module _ (symbols : SymbolTable) (problem : Problem) (size : ℕ) (found : Searc
       let is : IsTableOf symbols problem.signature.symbols table = (least table e).is_table in
       as_many_rows symbols table.size problem.signature.symbols table.cells is.rows ∙ sym (ap length is.symbols_are)
 
-pub modelled : (symbols : SymbolTable) (command : Command) (name : List ℕ) (problem : Problem) (found : Searched) (r : Result Answer AllocError) → Searches symbols problem.signature.symbols problem.clauses command.budget command.size found → IfOk r (λ answer. (answer.status ≡ searched_status found) × (joined answer.lines ≡ searched_lines symbols name command.size command.budget found)) → IfOk r (λ answer. IsModelled symbols command name problem answer.status (joined answer.lines))
+pub modelled : (symbols : SymbolTable) (command : Command) (name : List ℕ) (problem : Problem) (found : Searched) (r : Result Answer AllocError) → Searches symbols problem.signature.symbols problem.clauses command.budget command.size found → IfOk r (λ answer. (answer.status ≡ searched_status found) × (joined answer.lines ≡ searched_lines symbols problem name command.size command.budget found)) → IfOk r (λ answer. IsModelled symbols command name problem answer.status (joined answer.lines))
 modelled symbols command name problem found (Ok answer) searches line = rw (line.0, line.1) (is_searched searches)
 modelled symbols command name problem found (Err fault) searches line = tt

@@ -10,4 +10,4 @@ use Rattle.uc_top.specs.ModelAnswers.{IsModelled, is_searched}
 pub modelled_once : (symbols : SymbolTable) (command : Command) (name : List ℕ) (problem : Problem) {s t : ℕ} {a b : List ℕ} → IsModelled symbols command name problem s a → IsModelled symbols command name problem t b → (s ≡ t) × (a ≡ b)
 modelled_once symbols command name problem (is_searched {answer = first} x) (is_searched {answer = second} y) =
     let one : first ≡ second = searches_once symbols problem.signature.symbols problem.clauses command.budget command.size first second x y in
-    (ap searched_status one, ap (searched_lines symbols name command.size command.budget) one)
+    (ap searched_status one, ap (searched_lines symbols problem name command.size command.budget) one)

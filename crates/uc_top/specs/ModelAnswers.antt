@@ -10,4 +10,4 @@ use Rattle.uc_answer.specs.ModelLines.{searched_status, searched_lines}
 -- The search goes through the tables of the problem's signature, up to the size and with the budget that the words name, and what it
 -- comes to is told. The problem file has this name, and the symbols are those of the table that loading the problem leaves.
 pub data IsModelled (symbols : SymbolTable) (command : Command) (name : List ℕ) (problem : Problem) : ℕ → List ℕ → Type 0 where
-  is_searched : {answer : Searched} → Searches symbols problem.signature.symbols problem.clauses command.budget command.size answer → IsModelled symbols command name problem (searched_status answer) (searched_lines symbols name command.size command.budget answer)
+  is_searched : {answer : Searched} → Searches symbols problem.signature.symbols problem.clauses command.budget command.size answer → IsModelled symbols command name problem (searched_status answer) (searched_lines symbols problem name command.size command.budget answer)

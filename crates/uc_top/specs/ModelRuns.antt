@@ -1,5 +1,5 @@
 -- How a run of `model` ends, and what its answers promise.
-use Rattle.std.specs.Prelude.{ℕ, ◌≡◌, List, [], ◌∷◌, ◌++◌, codes, Option}
+use Rattle.std.specs.Prelude.{ℕ, ◌≡◌, List, [], ◌∷◌, ◌++◌, Option}
 use Rattle.std.specs.Io.KnownBytes.{Appends}
 use Rattle.uc_term.specs.Table.{Table as SymbolTable, IsDistinct}
 use Rattle.uc_term.specs.Conversion.{SomeFollows}
@@ -15,7 +15,7 @@ use Rattle.uc_words.specs.declared.command.Command.{Command}
 use Rattle.uc_words.specs.declared.command.Verb.TheVariants as verb
 use Rattle.uc_words.specs.Reads.{Reads}
 use Rattle.uc_answer.specs.Lines.{memory_line}
-use Rattle.uc_answer.specs.StatusLines.{status_line}
+use Rattle.uc_answer.specs.StatusLines.{status_line, saturated_word}
 use Rattle.uc_answer.specs.ModelLines.{searched_status, searched_lines}
 use Rattle.uc_top.specs.Loaded.{IsLoaded}
 
@@ -29,7 +29,7 @@ pub record FindsModel (files : Files) (root : Option (List ℕ)) (name : List �
   pub table : Table
   pub is_least : IsLeastModel symbols problem.signature.symbols problem.clauses size table
   pub none_follows : SomeFollows (axioms_of problem.clauses) (goals_of problem.clauses) → ⊥
-  pub text_is : text ≡ status_line (codes "Satisfiable") name ++ table_text symbols table
+  pub text_is : text ≡ status_line (saturated_word problem) name ++ table_text symbols table
 
 -- These files have a problem under this name, and no table up to this size is a model of it.
 pub record LacksModel (files : Files) (root : Option (List ℕ)) (name : List ℕ) (size : ℕ) : Type 0 where
@@ -51,7 +51,7 @@ KeepsModelWord files words old new result = (command : Command) (name : List ℕ
 -- How `model` ends for a problem: with what the search comes to, or for want of memory, which is free. The symbols are those of the
 -- table that loading the problem leaves.
 pub data ModelEnds (symbols : SymbolTable) (command : Command) (name : List ℕ) (problem : Problem) (old new : Option (List ℕ)) : ℕ → Type 0 where
-  tells_searched : {answer : Searched} → Searches symbols problem.signature.symbols problem.clauses command.budget command.size answer → Appends old new (searched_lines symbols name command.size command.budget answer) → ModelEnds symbols command name problem old new (searched_status answer)
+  tells_searched : {answer : Searched} → Searches symbols problem.signature.symbols problem.clauses command.budget command.size answer → Appends old new (searched_lines symbols problem name command.size command.budget answer) → ModelEnds symbols command name problem old new (searched_status answer)
   lacks_memory : Appends old new memory_line → ModelEnds symbols command name problem old new 7
 
 -- Where the words are those of `model` and the files hold the problem, `model` ends so.

@@ -78,5 +78,5 @@ fn modelled_answer(
 {
     let (size, budget) = (command.size, command.budget);
     let searched = search(alloc, problem, size, budget, symbols)?;
-    searched_answer(alloc, name, size, budget, &searched, symbols)
+    searched_answer(alloc, problem, name, size, budget, &searched, symbols)
 }

@@ -1,4 +1,3 @@
-use Rattle.std.proofs.Common.{sym, ◌∙◌}
 use Rattle.uc_ordering.specs.Chosen.{meaning_is}
 use Rattle.uc_answer.proofs.SaturatedCertificates.{few_axioms, given_facts_over, given_axioms_over, given_found, made_for, many_files, of_table, told_text}
 use Rattle.uc_answer.proofs.certificate_lines.certificate_text.Goals as goal

@@ -1,7 +1,7 @@
 use Rattle.std.proofs.Common.{length, ap, ◌∙◌, arith}
 use Rattle.std.proofs.lemmas.Result.{err_from_is_err_and}
 use Rattle.uc_problem.specs.Holds.{terms_of}
-use Rattle.uc_problem.specs.Assembly.{wants_memory}
+use Rattle.uc_problem.specs.Assembly.{has_none, wants_memory}
 use Rattle.uc_problem.proofs.Sound.{are_sound_later, terms_sound}
 use Rattle.uc_problem.proofs.Sides.{length_terms}
 use Rattle.uc_problem.proofs.Problems.{fault_later}
@@ -38,3 +38,6 @@ pub returns-in-Ok-clause-least : goal.returns-in-Ok-clause-least
 returns-in-Ok-clause-least c =
     let terms = terms_later c.args.symbols.now c.of.new.symbols c.in-Ok.ensures.grows (terms_of c.args.clauses.now) (terms_sound c.args.symbols.now c.args.clauses.now c.requires.sound) in
     adds_least c.of.new.symbols c.args.symbols.now (terms_of c.args.clauses.now) c.in-Ok.signature terms (rw (c.as_slice.ensures.value, c.in_ok-terms.ensures) at c.in-Ok.ensures.ok) c.in-Ok.ensures.only
+
+pub returns-clause-refused : goal.returns-clause-refused
+returns-clause-refused c = has_none (rw c.in-Err.ensures.kept at c.in_ok-refusal-in-Err.ensures)

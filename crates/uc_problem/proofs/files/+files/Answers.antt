@@ -6,21 +6,24 @@ use Rattle.uc_problem.specs.Fetching.{cut}
 use Rattle.uc_problem.specs.Loading.{LoadsFile}
 use Rattle.uc_problem.specs.Holds.{ReadsAs}
 use Rattle.uc_problem.specs.Parts.{ItemComesTo}
-use Rattle.uc_problem.proofs.Faulting.{kept_on, same_refusal, no_failure, unread_fails, taken_faulted, selection_faulted}
+use Rattle.uc_problem.proofs.Faulting.{kept_on, same_refusal, no_failure, unread_fails, selection_faulted}
 use Rattle.uc_problem.proofs.Later.{Grows-refl, Grows-trans}
 use Rattle.uc_problem.proofs.Items.{begin, go_on, end, stop, unread, none_left, same_part}
-use Rattle.uc_problem.proofs.Includes.{taken, deep, many, failed, missing_of, held_of_names, inside_stops, chosen}
-use Rattle.uc_problem.proofs.Fillings.{leaves_all, leaves_one, leaves_none, taken_filled, found_filled}
-use Rattle.uc_problem.proofs.Sound.{none_sound, file_sound, go_on_sound, items_later, taken_sound, selected_sound}
+use Rattle.uc_clause.specs.declared.clause.Item.TheVariants as Item
+use Rattle.uc_fof.specs.declared.item.FofItem.TheVariants as FofItem
+use Rattle.uc_problem.specs.Loading.{place_if}
+use Rattle.uc_problem.proofs.Includes.{clause_gives, formula_gives, taken, deep, many, failed, missing_of, held_of_names, inside_stops, chosen}
+use Rattle.uc_problem.proofs.Fillings.{leaves_all, leaves_one, leaves_none, found_filled}
+use Rattle.uc_problem.proofs.Sound.{none_sound, file_sound, go_on_sound, items_later, selected_sound}
 use Rattle.uc_problem.proofs.files.+files.Goals as goal
 
 pub load_file-returns-in-Err-clause-part : goal.load_file-returns-in-Err-clause-part
-load_file-returns-in-Err-clause-part g t c = unread (g.L.Library.holds c.args.library.now) c.args.search.folder.now (option_copied c.args.search.root) c.args.depth c.args.name.now c.args.counts.now [] c.args.bytes.now c.args.counts.now c.read_items.new.symbols (g.L.Library.faults c.args.library.now) (g.L.Library.faults c.args.library.now) c.args.counts.now c.in-Err.fault c.not_read.result c.in-Err.ensures.refused c.not_read.ensures
+load_file-returns-in-Err-clause-part g t c = unread (g.L.Library.holds c.args.library.now) c.args.search.folder.now (option_copied c.args.search.root) c.args.depth c.args.name.now c.args.counts.now [] c.args.bytes.now c.args.counts.now c.read_formulas.new.symbols (g.L.Library.faults c.args.library.now) (g.L.Library.faults c.args.library.now) c.args.counts.now c.in-Err.fault c.not_read.result c.in-Err.ensures.refused c.not_read.ensures
 
 pub load_file-returns-in_err-more-clause-part : goal.load_file-returns-in_err-more-clause-part
 load_file-returns-in_err-more-clause-part g t c =
     let p = err_from_is_err_and c.from_residual.result c.from_residual.ensures.1 in
-    rw (p.1, p.2) (stop (g.L.Library.holds c.args.library.now) c.args.search.folder.now (option_copied c.args.search.root) c.args.depth c.args.name.now c.args.counts.now c.into_iter-item-iterator.result.rest.items c.args.bytes.now c.args.counts.now c.read_items.new.symbols c.loop-item.symbols c.load_item.new.symbols
+    rw (p.1, p.2) (stop (g.L.Library.holds c.args.library.now) c.args.search.folder.now (option_copied c.args.search.root) c.args.depth c.args.name.now c.args.counts.now c.into_iter-item-iterator.result.rest.items c.args.bytes.now c.args.counts.now c.read_formulas.new.symbols c.loop-item.symbols c.load_item.new.symbols
     (g.L.Library.faults c.args.library.now) (g.L.Library.faults c.loop-item.library) (g.L.Library.faults c.load_item.new.library) c.loop-item.counts c.load_item.new.counts c.loop-item.clauses c.in-Some.item c.next.new.self.rest.items c.in_err-more.field-0.0
     c.loop-item.invariant.later c.loop-item.invariant.grows c.in_err-more.ensures.grows
     (rw (c.into_iter-item-iterator.ensures.into_iter_gives.0, c.into_vec-item-items.ensures) c.in-Ok.ensures.reads)
@@ -32,11 +35,11 @@ load_file-loop-item-init g t c = record {
   same = refl;
   later = omega arith;
   counted = (refl, refl);
-  grows = Grows-refl c.read_items.new.symbols;
-  left = rw c.new-clauses.ensures (begin (g.L.Library.holds c.args.library.now) c.args.search.folder.now (option_copied c.args.search.root) c.args.depth c.args.name.now c.args.counts.now c.into_iter-item-iterator.result.rest.items c.read_items.new.symbols);
-  fills = leaves_all c.args.search.folder.now (option_copied c.args.search.root) (g.L.Library.holds c.args.library.now) c.into_iter-item-iterator.result.rest.items c.read_items.new.symbols;
-  sound = rw c.new-clauses.ensures (none_sound c.read_items.new.symbols c.args.counts.now c.args.counts.now refl);
-  rest = file_sound c.args.bytes.now c.read_items.new.symbols c.into_iter-item-iterator.result.rest.items (rw (c.into_iter-item-iterator.ensures.into_iter_gives.0, c.into_vec-item-items.ensures) c.in-Ok.ensures.reads);
+  grows = Grows-refl c.read_formulas.new.symbols;
+  left = rw c.new-clauses.ensures (begin (g.L.Library.holds c.args.library.now) c.args.search.folder.now (option_copied c.args.search.root) c.args.depth c.args.name.now c.args.counts.now c.into_iter-item-iterator.result.rest.items c.read_formulas.new.symbols);
+  fills = leaves_all c.args.search.folder.now (option_copied c.args.search.root) (g.L.Library.holds c.args.library.now) c.into_iter-item-iterator.result.rest.items c.read_formulas.new.symbols;
+  sound = rw c.new-clauses.ensures (none_sound c.read_formulas.new.symbols c.args.counts.now c.args.counts.now refl);
+  rest = file_sound c.args.bytes.now c.read_formulas.new.symbols c.into_iter-item-iterator.result.rest.items (rw (c.into_iter-item-iterator.ensures.into_iter_gives.0, c.into_vec-item-items.ensures) c.in-Ok.ensures.reads);
 }
 
 pub load_file-loop-item-preserved : goal.load_file-loop-item-preserved
@@ -48,7 +51,7 @@ load_file-loop-item-preserved g t c = record {
   left = rw c.in_ok-append.ensures.ok (go_on (g.L.Library.holds c.args.library.now) c.args.search.folder.now (option_copied c.args.search.root) c.args.depth c.args.name.now c.args.counts.now c.into_iter-item-iterator.result.rest.items c.loop-item.symbols c.load_item.new.symbols (g.L.Library.faults c.loop-item.library) (g.L.Library.faults c.load_item.new.library) c.loop-item.counts c.load_item.new.counts c.loop-item.clauses c.in_ok-more.more c.in-Some.item c.next.new.self.rest.items c.in_ok-more.ensures.grows
       (rw c.in-Some.ensures.steps.0 at c.loop-item.invariant.left)
       (rw c.loop-item.invariant.same at c.in_ok-more.ensures.part));
-  fills = leaves_one c.args.search.folder.now (option_copied c.args.search.root) (g.L.Library.holds c.args.library.now) c.into_iter-item-iterator.result.rest.items c.read_items.new.symbols c.in-Some.item c.next.new.self.rest.items c.loop-item.symbols c.load_item.new.symbols
+  fills = leaves_one c.args.search.folder.now (option_copied c.args.search.root) (g.L.Library.holds c.args.library.now) c.into_iter-item-iterator.result.rest.items c.read_formulas.new.symbols c.in-Some.item c.next.new.self.rest.items c.loop-item.symbols c.load_item.new.symbols
       (rw c.in-Some.ensures.steps.0 at c.loop-item.invariant.fills)
       (rw c.loop-item.invariant.same at c.in_ok-more.ensures.fills);
   sound = rw c.in_ok-append.ensures.ok (go_on_sound c.loop-item.symbols c.load_item.new.symbols c.args.counts.now c.loop-item.counts c.load_item.new.counts c.loop-item.clauses c.in_ok-more.more c.in_ok-more.ensures.grows c.loop-item.invariant.sound
@@ -59,14 +62,14 @@ load_file-loop-item-preserved g t c = record {
 pub load_file-returns-clause-part : goal.load_file-returns-clause-part
 load_file-returns-clause-part g t c =
     let none = none_left c.loop-item.item-iterator.rest.items (sym c.loop-item.item-iterator.rest.ok.0 ∙ c.in-None.ensures.steps.0) in
-    end (g.L.Library.holds c.args.library.now) c.args.search.folder.now (option_copied c.args.search.root) c.args.depth c.args.name.now c.args.counts.now c.into_iter-item-iterator.result.rest.items c.args.bytes.now c.args.counts.now c.read_items.new.symbols c.loop-item.symbols (g.L.Library.faults c.args.library.now) (g.L.Library.faults c.loop-item.library) c.loop-item.counts c.loop-item.clauses c.loop-item.invariant.grows
+    end (g.L.Library.holds c.args.library.now) c.args.search.folder.now (option_copied c.args.search.root) c.args.depth c.args.name.now c.args.counts.now c.into_iter-item-iterator.result.rest.items c.args.bytes.now c.args.counts.now c.read_formulas.new.symbols c.loop-item.symbols (g.L.Library.faults c.args.library.now) (g.L.Library.faults c.loop-item.library) c.loop-item.counts c.loop-item.clauses c.loop-item.invariant.grows
     (rw (c.into_iter-item-iterator.ensures.into_iter_gives.0, c.into_vec-item-items.ensures) c.in-Ok.ensures.reads)
     (rw none at c.loop-item.invariant.left)
 
 pub load_file-returns-clause-fills : goal.load_file-returns-clause-fills
 load_file-returns-clause-fills g t c =
     let none = none_left c.loop-item.item-iterator.rest.items (sym c.loop-item.item-iterator.rest.ok.0 ∙ c.in-None.ensures.steps.0) in
-    leaves_none c.args.search.folder.now (option_copied c.args.search.root) (g.L.Library.holds c.args.library.now) c.args.bytes.now c.into_iter-item-iterator.result.rest.items c.args.symbols.now c.read_items.new.symbols c.loop-item.symbols c.in-Ok.ensures.interns
+    leaves_none c.args.search.folder.now (option_copied c.args.search.root) (g.L.Library.holds c.args.library.now) c.args.bytes.now c.into_iter-item-iterator.result.rest.items c.args.symbols.now c.read_formulas.new.symbols c.loop-item.symbols c.in-Ok.ensures.interns
     (rw (c.into_iter-item-iterator.ensures.into_iter_gives.0, c.into_vec-item-items.ensures) c.in-Ok.ensures.reads)
     (rw none at c.loop-item.invariant.fills)
 
@@ -103,23 +106,14 @@ load_include-returns-clause-part g t c =
     (rw (c.in_ok-found.ensures.same, c.as_bytes-bytes.ensures) at c.in_ok-given.ensures.part)
     c.select.ensures
 
-pub load_item-returns-in-Clause-clause-part : goal.load_item-returns-in-Clause-clause-part
-load_item-returns-in-Clause-clause-part g t c = rw c.in-Clause.is (taken (g.L.Library.holds c.args.library.now) c.args.search.folder.now (option_copied c.args.search.root) c.args.depth c.args.name.now c.args.counts.now c.in-Clause.clause c.args.symbols.now (g.L.Library.faults c.args.library.now) (g.L.Library.faults c.args.library.now) c.take_clause.new.counts c.take_clause.result c.take_clause.ensures)
-
 pub load_include-returns-clause-sound : goal.load_include-returns-clause-sound
 load_include-returns-clause-sound g t c = selected_sound c.load_file.new.symbols c.args.counts.now c.load_file.new.counts c.args.name.now c.args.include.now c.in_ok-given.given c.select.result c.in_ok-given.ensures.sound c.select.ensures
-
-pub load_item-returns-in-Clause-clause-sound : goal.load_item-returns-in-Clause-clause-sound
-load_item-returns-in-Clause-clause-sound g t c = λ h. taken_sound c.args.symbols.now c.args.counts.now c.take_clause.new.counts c.args.name.now c.in-Clause.clause c.take_clause.result (rw c.in-Clause.is at h) c.take_clause.ensures
 
 pub load_include-returns-clause-fills : goal.load_include-returns-clause-fills
 load_include-returns-clause-fills g t c =
     found_filled c.args.search.folder.now (option_copied c.args.search.root) c.args.include.now (g.L.Library.faults c.args.library.now) (g.L.Library.faults c.fetch_first.new.library) c.args.symbols.now c.load_file.new.symbols (g.L.Library.holds c.args.library.now) c.as_slice.result.now c.in_ok-found.field-0 c.in-Some.found c.select.result
     (c.as_slice.ensures ∙ c.in_ok-names.ensures ∙ ap (candidates c.args.search.folder.now (option_copied c.args.search.root)) c.as_bytes.ensures) c.in-Some.is c.in_ok-found.ensures.first
     (rw (c.in_ok-found.ensures.same, c.as_bytes-bytes.ensures) at c.in_ok-given.ensures.fills)
-
-pub load_item-returns-in-Clause-clause-fills : goal.load_item-returns-in-Clause-clause-fills
-load_item-returns-in-Clause-clause-fills g t c = rw c.in-Clause.is (taken_filled c.args.search.folder.now (option_copied c.args.search.root) (g.L.Library.holds c.args.library.now) c.in-Clause.clause c.args.symbols.now c.take_clause.result)
 
 pub load_file-returns-in_err-more-clause-counted : goal.load_file-returns-in_err-more-clause-counted
 load_file-returns-in_err-more-clause-counted g t c =
@@ -128,9 +122,6 @@ load_file-returns-in_err-more-clause-counted g t c =
 
 pub load_file-returns-in-Err-clause-counted : goal.load_file-returns-in-Err-clause-counted
 load_file-returns-in-Err-clause-counted g t c = no_failure c.not_read.result (unread_fails c.args.name.now c.in-Err.fault c.not_read.result c.not_read.ensures) (refl, refl)
-
-pub load_item-returns-in-Clause-clause-counted : goal.load_item-returns-in-Clause-clause-counted
-load_item-returns-in-Clause-clause-counted g t c = taken_faulted c.args.name.now c.in-Clause.clause c.args.counts.now c.take_clause.new.counts c.take_clause.result _ _ c.take_clause.ensures
 
 pub load_include-returns-in_err-found-clause-counted : goal.load_include-returns-in_err-found-clause-counted
 load_include-returns-in_err-found-clause-counted g t c =
@@ -144,3 +135,11 @@ load_include-returns-in_err-given-clause-counted g t c =
 
 pub load_include-returns-clause-counted : goal.load_include-returns-clause-counted
 load_include-returns-clause-counted g t c = selection_faulted c.args.name.now c.args.include.now c.in_ok-given.given c.select.result c.select.ensures (kept_on None _ _ c.in_ok-found.ensures.counted c.in_ok-given.ensures.counted)
+
+pub load_item-returns-in-Item-Clause-clause-part : goal.load_item-returns-in-Item-Clause-clause-part
+load_item-returns-in-Item-Clause-clause-part g t c =
+    rw (c.in-Item-Clause.is, c.in-Item-Clause.field-0-is) (taken (g.L.Library.holds c.args.library.now) c.args.search.folder.now (option_copied c.args.search.root) c.args.depth c.args.name.now c.args.counts.now (FofItem.Item (Item.Clause c.in-Item-Clause.clause)) c.in-Item-Clause.clause None c.args.symbols.now (g.L.Library.faults c.args.library.now) (g.L.Library.faults c.args.library.now) c.take_clause.new.counts c.take_clause.result (clause_gives (g.L.Library.holds c.args.library.now) c.args.search.folder.now (option_copied c.args.search.root) c.args.depth c.args.name.now c.args.counts.now c.in-Item-Clause.clause) c.take_clause.ensures)
+
+pub load_item-returns-in-Formula-clause-part : goal.load_item-returns-in-Formula-clause-part
+load_item-returns-in-Formula-clause-part g t c =
+    rw c.in-Formula.is (taken (g.L.Library.holds c.args.library.now) c.args.search.folder.now (option_copied c.args.search.root) c.args.depth c.args.name.now c.args.counts.now (FofItem.Formula c.in-Formula.clause c.in-Formula.conjecture c.in-Formula.role_place) c.in-Formula.clause (place_if c.in-Formula.conjecture c.in-Formula.role_place) c.args.symbols.now (g.L.Library.faults c.args.library.now) (g.L.Library.faults c.args.library.now) c.take_clause-in-Formula.new.counts c.take_clause-in-Formula.result (formula_gives (g.L.Library.holds c.args.library.now) c.args.search.folder.now (option_copied c.args.search.root) c.args.depth c.args.name.now c.args.counts.now c.in-Formula.clause c.in-Formula.conjecture c.in-Formula.role_place) (rw c.place_if.ensures at c.take_clause-in-Formula.ensures))

@@ -1,5 +1,5 @@
 use Rattle.std.proofs.Common.{refl, inl, inr}
-use Rattle.uc_problem.specs.Assembly.{is_too_many}
+use Rattle.uc_problem.specs.Holds.{is_too_many}
 use Rattle.uc_problem.proofs.Occurring.{clash_at, too_many_at, no_other}
 use Rattle.uc_problem.proofs.Sides.{has_place, has_symbol}
 use Rattle.uc_problem.proofs.Problems.{has_clash}

@@ -5,5 +5,5 @@ use Rattle.uc_problem.specs.Loading.{gives_name}
 use Rattle.uc_problem.specs.NameSets.{has_name}
 use Rattle.uc_problem.proofs.selection.names_of.Given as goal
 
-abbrev pub invariant-loop-sourced : goal.invariant-loop-sourced
-invariant-loop-sourced l = (name : Name) → gives_name l.clauses name ≡ (has_name l.given.words.keys l.given.integers.keys name || gives_name (drop l.sourced-index l.clauses) name)
+abbrev pub invariant-loop-flat : goal.invariant-loop-flat
+invariant-loop-flat l = (name : Name) → gives_name l.clauses name ≡ (has_name l.given.words.keys l.given.integers.keys name || gives_name (drop l.flat-index l.clauses) name)
