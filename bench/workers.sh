@@ -25,8 +25,8 @@ search() {
             BEGIN { printf "%s %s, %d workers: %s in %.1f s, %.2f times as fast, with %.2f processors, %.1f processor seconds\n", problem, options, workers, status, t, one / t, used / t, used }'
     done
 }
-search examples/group-not-commutative.p --budget 55000
-search bench/beside/combinators.p --budget 8000 --pairs 8000000
+search examples/group-not-commutative.p --budget 65000
+search examples/harder/ring-derivation.p --budget 15000 --pairs 8000000
 search bench/beside/ac.p --budget 12000 --pairs 8000000
 runnable() {
     python3 - "$@" <<'END'
