@@ -4,3 +4,4 @@ pub mod Laws
 pub mod Precedence
 pub mod Places
 pub mod Renamed
+pub mod Remembered

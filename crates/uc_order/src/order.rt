@@ -32,6 +32,20 @@ pub trait Order {
         ensures less { (result ≡ Cmp.Less) ↔ (meaning self.now).greater (tree_of t.now) (tree_of s.now) }
         ensures equal { (result ≡ Cmp.Equal) ↔ (tree_of s.now ≡ tree_of t.now) };
 
+    /// How the two terms of a numbered pair compare, as `compare` says. The answer is that of the terms, whatever the number
+    /// is: an order that remembers how pairs compare looks its answer up by it. It takes no memory.
+    fn compare_pair(&self, number: u32, s: &[Node], t: &[Node]) -> Cmp
+        requires s_whole { IsWhole s.now }
+        requires t_whole { IsWhole t.now }
+        requires s_small { length s.now ≤ MAX_INSTANCE }
+        requires t_small { length t.now ≤ MAX_INSTANCE }
+        ensures greater { (result ≡ Cmp.Greater) ↔ (meaning self.now).greater (tree_of s.now) (tree_of t.now) }
+        ensures less { (result ≡ Cmp.Less) ↔ (meaning self.now).greater (tree_of t.now) (tree_of s.now) }
+        ensures equal { (result ≡ Cmp.Equal) ↔ (tree_of s.now ≡ tree_of t.now) }
+    {
+        self.compare(s, t)
+    }
+
     /// How the two terms compare under an order of their variables, in which the variables of a class are equal. It
     /// takes no memory.
     fn compare_under(&self, cases: &VarOrder, s: &[Node], t: &[Node]) -> Cmp
