@@ -7,4 +7,5 @@ pub mod Alive
 pub mod Listing
 pub mod Matching
 pub mod Deaths
+pub mod Marks
 pub mod Lending

@@ -232,6 +232,14 @@ impl Front {
         self.count
     }
 
+    /// How many facts are born in it, whether they are dead or not. It takes no memory.
+    pub fn births(&self) -> u32
+        ensures value { result ≡ length (born self.now.entries) }
+        ensures few { result ≤ 2 ^ 31 }
+    {
+        base_of(self.segments.as_slice(), self.segments.len())
+    }
+
     /// Whether there is no entry.
     pub fn is_empty(&self) -> bool
         ensures { IsTrue result ↔ (self.now.entries ≡ []) }
