@@ -40,8 +40,8 @@ pub fn overlaps<O: Order>(
     // what follows for each of them
     ensures formed { IfOk result (All (IsFormedOf a.now b.now)) }
 {
-    let a_way = way_of(a, order);
-    let b_way = way_of(b, order);
+    let a_way = way_of(outer, a, order);
+    let b_way = way_of(inner, b, order);
     overlaps_by(alloc, outer, a, a_way, inner, b, b_way, order)
 }
 

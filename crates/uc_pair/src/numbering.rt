@@ -23,8 +23,9 @@ pub(crate) fn number(
     // more names behind change nothing
     ensures numbered { IfOk result (λ t. (rest : List ℕ) → t ≡ placed_by (names.new.items ++ rest) offset term.now) }
 {
-    let mut list = Vec::new(alloc);
     let nodes = term.as_nodes();
+    let mut list = Vec::new(alloc);
+    list.reserve(nodes.len())?;
     for node in nodes {
         list.push(number_node(*node, names, offset)?)?;
     }

@@ -77,11 +77,11 @@ impl<'a> Read<'a> {
     }
 }
 
-/// How the order compares the left side of an equation to the right one.
-pub fn way_of<O: Order>(equation: &Equation, order: &O) -> Cmp
+/// How the order compares the left side of a fact to the right one. The answer is theirs, whatever the fact's number is.
+pub fn way_of<O: Order>(fact: u32, equation: &Equation, order: &O) -> Cmp
     ensures { IsWayOf (O.meaning order.now).greater equation.now result }
 {
-    order.compare(equation.left.as_nodes(), equation.right.as_nodes())
+    order.compare_pair(fact, equation.left.as_nodes(), equation.right.as_nodes())
 }
 
 /// Whether a term is another one, or less.

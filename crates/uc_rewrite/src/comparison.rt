@@ -44,8 +44,9 @@ pub trait Comparison {
         requires t_known { VariablesAre (knows self.now) (tree_of t.now) }
         ensures { IsTrue result ↔ greater self.now (tree_of s.now) (tree_of t.now) };
 
-    /// What the two sides of a fact tell of their instances. It takes no memory.
-    fn of_sides(&self, from: &Term, to: &Term) -> Falling
+    /// What the two sides of a fact tell of their instances. The answer is theirs, whatever the fact's number is. It takes no
+    /// memory.
+    fn of_sides(&self, fact: u32, from: &Term, to: &Term) -> Falling
         ensures { Tells (greater self.now) from.now to.now result };
 
     /// The constant that stands for the variables that only one side of a fact has.
@@ -70,8 +71,8 @@ impl<'a, O: Order> Comparison for ByOrder<'a, O> {
         self.order.compare(s, t) == Cmp::Greater
     }
 
-    fn of_sides(&self, from: &Term, to: &Term) -> Falling {
-        told_by_sides(self.order, from, to)
+    fn of_sides(&self, fact: u32, from: &Term, to: &Term) -> Falling {
+        told_by_sides(self.order, fact, from, to)
     }
 
     fn least(&self) -> Sym {
@@ -100,8 +101,8 @@ impl<'a, O: Order> Comparison for UnderCases<'a, O> {
     }
 
     // The order of the variables says nothing of those of a fact, but what is greater without it is greater under it.
-    fn of_sides(&self, from: &Term, to: &Term) -> Falling {
-        told_by_sides(self.order, from, to)
+    fn of_sides(&self, fact: u32, from: &Term, to: &Term) -> Falling {
+        told_by_sides(self.order, fact, from, to)
     }
 
     fn least(&self) -> Sym {
@@ -112,13 +113,13 @@ impl<'a, O: Order> Comparison for UnderCases<'a, O> {
 /// What the two sides of a fact tell of their instances, by an order and by it under each order of variables: an order keeps
 /// to instances, and what is greater is so under every order of variables. A variable that occurs in the other side needn't
 /// be compared: its instances are subterms.
-fn told_by_sides<O: Order>(order: &O, from: &Term, to: &Term) -> Falling
+fn told_by_sides<O: Order>(order: &O, fact: u32, from: &Term, to: &Term) -> Falling
     ensures { TellsAll (O.meaning order.now) from.now to.now result }
 {
     if is_variable_of(from, to) {
         return Falling::Never;
     }
-    match order.compare(from.as_nodes(), to.as_nodes()) {
+    match order.compare_pair(fact, from.as_nodes(), to.as_nodes()) {
         Cmp::Greater => Falling::Always,
         Cmp::Less => Falling::Never,
         Cmp::Equal => Falling::Never,

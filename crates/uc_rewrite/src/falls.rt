@@ -36,7 +36,7 @@ impl<'a, C: Comparison, I: Index> Test for Falls<'a, C, I> {
 
     fn rules_out(&self, fact: u32, side: Side) -> bool {
         match self.rules.index.pair(fact) {
-            Some((left, right)) => never_falls(self.rules.comparison, side, left, right),
+            Some((left, right)) => never_falls(self.rules.comparison, fact, side, left, right),
             None => false,
         }
     }
@@ -45,7 +45,7 @@ impl<'a, C: Comparison, I: Index> Test for Falls<'a, C, I> {
         let Some((from, to)) = sides(self.rules.index, found) else {
             unreachable!()
         };
-        match self.rules.comparison.of_sides(from, to) {
+        match self.rules.comparison.of_sides(found.fact, from, to) {
             Falling::Always => Ok(true),
             Falling::Never => Ok(false),
             Falling::Unclear => {
@@ -73,19 +73,25 @@ pub fn sides<'a, I: Index>(index: &'a I, found: &Found) -> Option<(&'a Term, &'a
 }
 
 /// Whether no instance of a side of an equation is greater than that of the other one, as far as the sides tell.
-fn never_falls<C: Comparison>(comparison: &C, side: Side, left: &Term, right: &Term) -> bool
+fn never_falls<C: Comparison>(
+    comparison: &C,
+    fact: u32,
+    side: Side,
+    left: &Term,
+    right: &Term,
+) -> bool
     ensures { IsTrue result → Tells (C.greater comparison.now) (side_of side (record { left = left.now; right = right.now })) (other_side_of side (record { left = left.now; right = right.now })) Never }
 {
     match side {
-        Side::Left => never_falls_from(comparison, left, right),
-        Side::Right => never_falls_from(comparison, right, left),
+        Side::Left => never_falls_from(comparison, fact, left, right),
+        Side::Right => never_falls_from(comparison, fact, right, left),
     }
 }
 
-fn never_falls_from<C: Comparison>(comparison: &C, from: &Term, to: &Term) -> bool
+fn never_falls_from<C: Comparison>(comparison: &C, fact: u32, from: &Term, to: &Term) -> bool
     ensures { IsTrue result → Tells (C.greater comparison.now) from.now to.now Never }
 {
-    match comparison.of_sides(from, to) {
+    match comparison.of_sides(fact, from, to) {
         Falling::Never => true,
         Falling::Always => false,
         Falling::Unclear => false,

@@ -28,6 +28,19 @@ pub struct Normal {
     pub stop: Stop,
 }
 
+impl Normal {
+    /// An equal one.
+    pub fn copy(&self, alloc: Global) -> Result<Normal, AllocError>
+        ensures { IfOk result (λ normal. normal ≡ self.now) }
+    {
+        Ok(Normal {
+            term: self.term.copy(alloc)?,
+            chain: self.chain.copy(alloc)?,
+            stop: self.stop,
+        })
+    }
+}
+
 /// Normalises a term by the facts that live in an index. Each step is the first possible one: at the first position in
 /// postorder, the arguments from left to right and then the term itself; there by the least fact; there from left to right
 /// before from right to left. A step is possible where the instance of one side is greater than that of the other side, in

@@ -3,7 +3,7 @@ use Rattle.uc_pair.proofs.Names.{Numbered, numbered_starts, numbered_goes_on, nu
 use Rattle.uc_pair.proofs.numbering.number.Goals as goal
 
 pub loop-node-init : goal.loop-node-init
-loop-node-init c = numbered_starts c.as_nodes-nodes.result.now c.args.names.now.items c.args.offset c.new-list.result.items c.new-list.ensures.items
+loop-node-init c = numbered_starts c.as_nodes-nodes.result.now c.args.names.now.items c.args.offset c.reserve.new.self.items (c.reserve.ensures.items ∙ c.new-list.ensures.items)
 
 pub loop-node-preserved : goal.loop-node-preserved
 loop-node-preserved c =
