@@ -1,7 +1,7 @@
 //! The book: whole histories of small problems.
 
 pub(crate) mod settings;
-mod turns;
+pub(crate) mod turns;
 
 ghost use Rattle.std.specs.Prelude.{◌≡◌, ◌∷◌, []};
 ghost use Rattle.uc_book.specs.Answers.{IsSameBook};

@@ -5,6 +5,8 @@
 #[cfg(test)]
 mod alphabet;
 #[cfg(test)]
+mod bank;
+#[cfg(test)]
 mod books;
 #[cfg(test)]
 mod fronts;

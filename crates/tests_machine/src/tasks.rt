@@ -11,6 +11,7 @@ use crate::fronts::{first_dies, front_of};
 use std::alloc::Global;
 use std::sync::Wait;
 use std::test::Fail;
+use uc_bank::Bank;
 use uc_fact::{By, Chain, Equation, Fact, Origin, Overlap, Side, Step, Stop};
 use uc_machine::{Finding, Job};
 use uc_order::Order;
@@ -72,7 +73,8 @@ fn found_on<O: Order>(
     if !can_be_done(job, facts, axioms, front, order) {
         return Err(Fail::from("nothing of this number"));
     }
-    Ok(finding_of(alloc, job, shelf, front, axioms, order)?)
+    let mut bank = Bank::new(alloc, shelf, order);
+    Ok(finding_of(alloc, &mut bank, job, front, axioms)?)
 }
 
 fn found_by(

@@ -8,7 +8,7 @@ mod laws;
 mod rounds;
 mod working;
 
-pub use computing::compute;
+pub use computing::{compute, compute_in};
 pub use facts::{all_facts, live_numbers, live_system};
 pub use laws::{limits_have_causes, one_search, search_is_a_run, searches_are_bounded};
 pub use rounds::{end_round, search_alone, search_counting};

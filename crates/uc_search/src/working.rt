@@ -8,9 +8,10 @@ ghost use Rattle.uc_machine.specs.Events.{commits_by};
 ghost use Rattle.uc_machine.specs.State.{Out};
 ghost use Rattle.uc_search.specs.Working.{Counts, IsSamePass, IsToCompute, EndsAlone, EndsTask, TurnsTo, task_out, CommitsResult};
 
-use crate::computing::compute;
+use crate::computing::compute_in;
 use std::alloc::{AllocError, Global};
 use std::sync::Wait;
+use uc_bank::Bank;
 use uc_book::{Book, CommitFault, Drawn, Pass, Task};
 use uc_order::Order;
 use uc_problem::Encoded;
@@ -62,8 +63,9 @@ pub fn work_alone<R: Wait, O: Order>(
     ensures count { Counts pass.old pass.new book.old.state book.new.state }
 {
     has_few_commits(book, pass);
+    let mut bank = Bank::new(alloc, shelf, order);
     for turn in 0..TURNS {
-        if let Turn::Ends(why) = take_turn(rt, alloc, book, shelf, problem, order, pass) {
+        if let Turn::Ends(why) = take_turn(rt, alloc, book, &mut bank, problem, pass) {
             return why;
         }
     }
@@ -76,25 +78,25 @@ fn take_turn<R: Wait, O: Order>(
     rt: &R,
     alloc: Global,
     book: &mut Book<O>,
-    shelf: &Shelf,
+    bank: &mut Bank<O>,
     problem: &Encoded,
-    order: &O,
     pass: &mut Pass,
 ) -> Turn
     requires pass { pass.old.opening ≡ book.old.opening }
     requires problem { book.old.opening.problem ≡ problem.now }
-    requires shelf { book.old.opening.shelf ≡ shelf.now }
-    requires order { book.old.order ≡ order.now }
+    requires shelf { book.old.opening.shelf ≡ bank.old.shelf }
+    requires order { book.old.order ≡ bank.old.order }
     requires none_out { book.old.state.out ≡ [] }
     ensures turned { TurnsTo (O.meaning book.old.order) (opening_of book.old.opening) pass.old.worker book.old.state result book.new.state }
     ensures none_out { book.new.state.out ≡ [] }
+    ensures bank { bank.new ≡ bank.old }
     ensures book { IsSameBook book.old book.new }
     ensures pass { IsSamePass pass.old pass.new }
     ensures count { Counts pass.old pass.new book.old.state book.new.state }
 {
     has_few_commits(book, pass);
     match book.draw(alloc, pass) {
-        Ok(Drawn::Task(task)) => end_task(rt, alloc, book, shelf, problem, order, pass, &task),
+        Ok(Drawn::Task(task)) => end_task(rt, alloc, book, bank, problem, pass, &task),
         Ok(Drawn::Drained) => Turn::Ends(Ended::Drained),
         Ok(Drawn::Closed(_)) => Turn::Ends(Ended::Closed),
         Ok(Drawn::Idle(_)) => unreachable!(),
@@ -107,27 +109,27 @@ fn end_task<R: Wait, O: Order>(
     rt: &R,
     alloc: Global,
     book: &mut Book<O>,
-    shelf: &Shelf,
+    bank: &mut Bank<O>,
     problem: &Encoded,
-    order: &O,
     pass: &mut Pass,
     task: &Task,
 ) -> Turn
     requires pass { pass.old.opening ≡ book.old.opening }
     requires problem { book.old.opening.problem ≡ problem.now }
-    requires shelf { book.old.opening.shelf ≡ shelf.now }
-    requires order { book.old.order ≡ order.now }
+    requires shelf { book.old.opening.shelf ≡ bank.old.shelf }
+    requires order { book.old.order ≡ bank.old.order }
     requires task { IsToCompute (O.meaning book.old.order) book.old.opening task.now }
     requires front { task.now.front ≡ book.old.front }
     requires out { book.old.state.out ≡ task_out pass.old.worker task.now ∷ [] }
     ensures turned { EndsTask (O.meaning book.old.order) (opening_of book.old.opening) (task_out pass.old.worker task.now) book.old.state result book.new.state }
     ensures none_out { book.new.state.out ≡ [] }
+    ensures bank { bank.new ≡ bank.old }
     ensures book { IsSameBook book.old book.new }
     ensures pass { IsSamePass pass.old pass.new }
     ensures count { Counts pass.old pass.new book.old.state book.new.state }
 {
     has_few_commits(book, pass);
-    match finish(rt, alloc, book, shelf, problem, order, pass, task) {
+    match finish(rt, alloc, book, bank, problem, pass, task) {
         Ok(()) => Turn::Worked,
         Err(_) => {
             put_back(book, pass, task.ticket);
@@ -142,28 +144,28 @@ fn finish<R: Wait, O: Order>(
     rt: &R,
     alloc: Global,
     book: &mut Book<O>,
-    shelf: &Shelf,
+    bank: &mut Bank<O>,
     problem: &Encoded,
-    order: &O,
     pass: &mut Pass,
     task: &Task,
 ) -> Result<(), AllocError>
     requires pass { pass.old.opening ≡ book.old.opening }
     requires problem { book.old.opening.problem ≡ problem.now }
-    requires shelf { book.old.opening.shelf ≡ shelf.now }
-    requires order { book.old.order ≡ order.now }
+    requires shelf { book.old.opening.shelf ≡ bank.old.shelf }
+    requires order { book.old.order ≡ bank.old.order }
     requires task { IsToCompute (O.meaning book.old.order) book.old.opening task.now }
     requires front { task.now.front ≡ book.old.front }
     requires out { book.old.state.out ≡ task_out pass.old.worker task.now ∷ [] }
     ensures commits { OnOk result (CommitsResult (O.meaning book.old.order) (opening_of book.old.opening) (task_out pass.old.worker task.now) book.old.state book.new.state) }
     ensures none_out { OnOk result (book.new.state.out ≡ []) }
     ensures err { OnErr result ((book.new ≡ book.old) × (pass.new ≡ pass.old)) }
+    ensures bank { bank.new ≡ bank.old }
     ensures book { IsSameBook book.old book.new }
     ensures pass { IsSamePass pass.old pass.new }
     ensures count { OnOk result (Counts pass.old pass.new book.old.state book.new.state) }
 {
     has_front_of_state(book);
-    let done = compute(alloc, task, shelf, problem, order)?;
+    let done = compute_in(alloc, bank, task, problem)?;
     match book.commit(rt, alloc, pass, done) {
         Ok(_) => {
             has_few_commits(book, pass);

@@ -2,15 +2,16 @@
 
 ghost use Rattle.std.specs.Prelude.{◌≡◌, IfOk, List, ℕ};
 ghost use Rattle.uc_term.specs.declared.equation.Equation.{Equation};
+ghost use Rattle.uc_shelf.specs.Fronts.{IsOf};
 ghost use Rattle.uc_machine.specs.Results.{IsResult, stop_of};
 ghost use Rattle.uc_machine.specs.declared.task.Job.TheVariants.{Goal, More};
 
 use std::alloc::{AllocError, Global};
+use uc_bank::{Bank, normalise_in};
 use uc_fact::Stop;
 use uc_machine::Finding;
 use uc_order::Order;
-use uc_rewrite::normalise;
-use uc_shelf::View;
+use uc_shelf::Front;
 use uc_term::Term;
 
 /// The most steps from the two ends of a goal together.
@@ -19,17 +20,19 @@ const MOST_STEPS: u32 = 4096;
 /// The two ends of a goal are normalised, the left one first, with 4,096 steps together.
 pub fn both_ends<O: Order>(
     alloc: Global,
+    bank: &mut Bank<O>,
     left: &Term,
     right: &Term,
-    view: &View,
-    order: &O,
+    front: &Front,
 ) -> Result<Finding, AllocError>
-    ensures goal { IfOk result (λ finding. (axioms : List Equation) (g : ℕ) → IsResult (O.meaning order.now) axioms view.now (Goal g left.now right.now) finding) }
-    ensures more { IfOk result (λ finding. (axioms : List Equation) (g : ℕ) → IsResult (O.meaning order.now) axioms view.now (More g left.now right.now) finding) }
+    requires of { IsOf bank.old.shelf front.now }
+    ensures goal { IfOk result (λ finding. (axioms : List Equation) (g : ℕ) → IsResult (O.meaning bank.old.order) axioms front.now.entries (Goal g left.now right.now) finding) }
+    ensures more { IfOk result (λ finding. (axioms : List Equation) (g : ℕ) → IsResult (O.meaning bank.old.order) axioms front.now.entries (More g left.now right.now) finding) }
+    ensures bank { bank.new ≡ bank.old }
 {
-    let left = normalise(alloc, left, view, order, MOST_STEPS)?;
+    let left = normalise_in(alloc, bank, left, front, MOST_STEPS)?;
     let rest = MOST_STEPS - left.chain.steps.len() as u32;
-    let right = normalise(alloc, right, view, order, rest)?;
+    let right = normalise_in(alloc, bank, right, front, rest)?;
     Ok(Finding::Ends {
         left: left.chain,
         right: right.chain,

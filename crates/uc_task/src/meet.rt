@@ -128,7 +128,7 @@ fn meetings<O: Order>(
 ) -> Result<Seq<Formed>, AllocError>
     ensures { IfOk result (λ list. (entries : List Entry) → AreMeetings (O.meaning order.now) entries number own.now (map lent_of facts.now) list) }
 {
-    let way = way_of(own, order);
+    let way = way_of(number, own, order);
     let mut list = Seq::new(alloc);
     for fact in facts {
         add_overlaps(alloc, &mut list, number, own, way, fact, order)?;
@@ -155,7 +155,7 @@ fn add_overlaps<O: Order>(
         return Ok(());
     }
     let theirs = fact.equation;
-    let their_way = way_of(theirs, order);
+    let their_way = way_of(other, theirs, order);
     list.append(overlaps_by(alloc, other, theirs, their_way, number, own, way, order)?)?;
     list.append(overlaps_by(alloc, number, own, way, other, theirs, their_way, order)?)?;
     Ok(())

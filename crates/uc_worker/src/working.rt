@@ -10,11 +10,12 @@ use crate::naming::NamesOrder;
 use std::alloc::{AllocError, Global};
 use std::sync::ledger::Ledger;
 use std::sync::{Condvar, Mutex, Wait};
+use uc_bank::Bank;
 use uc_book::{CommitFault, Drawn, Task};
 use uc_edge::Gate;
 use uc_order::Order;
 use uc_problem::Encoded;
-use uc_search::{Ended, compute};
+use uc_search::{Ended, compute_in};
 use uc_shelf::Shelf;
 
 /// Draws task after task under the lock, computes each with no lock and commits its result under the lock. Where a task is out
@@ -38,13 +39,14 @@ pub fn work<'a, O: Order, K: NamesOrder<O>, C: Ledger, G: Gate, R: Wait>(
     ensures worker { hand.new.worker ≡ hand.old.worker }
     ensures commits { hand.old.commits ≤ hand.new.commits }
 {
+    let mut bank = Bank::new(alloc, shelf, order);
     for _ in rt.forever() {
         let mut guard = held.lock(rt);
         match guard.draw(alloc, hand) {
             Ok(Drawn::Task(task)) => {
                 drop(guard);
                 gate.pass(hand.worker(), task.ticket);
-                let ended = finish(rt, alloc, held, shelf, problem, order, hand, &task);
+                let ended = finish(rt, alloc, held, &mut bank, problem, hand, &task);
                 if ended.is_err() {
                     let _ = held.lock(rt).reclaim(hand, task.ticket);
                     ready.notify_all();
@@ -78,20 +80,20 @@ fn finish<'a, O: Order, K: NamesOrder<O>, C: Ledger, R: Wait>(
     rt: &R,
     alloc: Global,
     held: &Mutex<Held<'a, O, K, C>>,
-    shelf: &Shelf,
+    bank: &mut Bank<O>,
     problem: &Encoded,
-    order: &O,
     hand: &mut Hand<K>,
     task: &Task,
 ) -> Result<(), AllocError>
     requires problem { problem.now ≡ K.opening.problem }
-    requires shelf { shelf.now ≡ K.opening.shelf }
-    requires order { Some order.now ≡ K.order }
-    requires task { IsToCompute (O.meaning order.now) K.opening task.now }
+    requires shelf { bank.old.shelf ≡ K.opening.shelf }
+    requires order { Some bank.old.order ≡ K.order }
+    requires task { IsToCompute (O.meaning bank.old.order) K.opening task.now }
+    ensures bank { bank.new ≡ bank.old }
     ensures worker { hand.new.worker ≡ hand.old.worker }
     ensures commits { hand.old.commits ≤ hand.new.commits }
 {
-    let done = compute(alloc, task, shelf, problem, order)?;
+    let done = compute_in(alloc, bank, task, problem)?;
     match held.lock(rt).commit(rt, alloc, hand, done) {
         Ok(_) => Ok(()),
         Err((_, CommitFault::NotOut(_))) => Ok(()),

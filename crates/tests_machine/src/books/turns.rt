@@ -8,6 +8,7 @@ ghost use Rattle.uc_book.specs.Answers.{IsRight, IsSameBook};
 use std::alloc::{AllocError, Global};
 use std::sync::Wait;
 use std::test::Fail;
+use uc_bank::Bank;
 use uc_book::{Book, CommitFault, Done, Drawn, Opened, Pass, Task, copy_job};
 use uc_order::Order;
 use uc_problem::Encoded;
@@ -31,7 +32,8 @@ fn compute<O: Order>(
     ensures right { IfOk result (IsRight (O.meaning order.now)) }
 {
     let axioms = problem.axioms.as_slice();
-    let found = finding_of(alloc, &task.job, shelf, &task.front, axioms, order)?;
+    let mut bank = Bank::new(alloc, shelf, order);
+    let found = finding_of(alloc, &mut bank, &task.job, &task.front, axioms)?;
     let (budget, limit) = (task.opening.budget(), task.opening.limit());
     Ok(Done {
         ticket: task.ticket,

@@ -1,4 +1,4 @@
-use Rattle.std.proofs.Common.{refl, subst, arith}
+use Rattle.std.proofs.Common.{refl, ◌∙◌, subst, arith}
 use Rattle.uc_search.specs.declared.working.Turn.TheVariants.{Worked}
 use Rattle.uc_book.specs.Openings.{opening_of}
 use Rattle.uc_search.specs.Working.{TurnsTo, no_turn}
@@ -16,6 +16,7 @@ loop-turn-init g c = record {
   book = record { opening = refl; order = refl; enrolled = refl };
   pass = record { worker = refl; opening = refl };
   count = counts_nothing c.args.pass.now c.args.book.now.state c.has_few_commits.ensures.pass c.has_few_commits.ensures.history;
+  bank = refl;
 }
 
 pub loop-turn-preserved : goal.loop-turn-preserved
@@ -32,6 +33,7 @@ loop-turn-preserved g c =
       book = same_book_on a b c.take_turn.new.book c.loop-turn.invariant.book c.take_turn.ensures.book;
       pass = same_pass_on c.args.pass.now c.loop-turn.pass c.take_turn.new.pass c.loop-turn.invariant.pass c.take_turn.ensures.pass;
       count = counts_on c.args.pass.now c.loop-turn.pass c.take_turn.new.pass a.state b.state c.take_turn.new.book.state c.loop-turn.invariant.pass.worker c.loop-turn.invariant.count c.take_turn.ensures.count;
+      bank = c.take_turn.ensures.bank ∙ c.loop-turn.invariant.bank;
     }
 
 pub returns-in-Ends-clause-ended : goal.returns-in-Ends-clause-ended

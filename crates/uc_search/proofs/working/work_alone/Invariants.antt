@@ -13,6 +13,7 @@ invariant-loop-turn g l = record {
   book : IsSameBook l.initial.book l.book;
   pass : IsSamePass l.initial.pass l.pass;
   count : Counts l.initial.pass l.pass l.initial.book.state l.book.state;
+  bank : l.bank ≡ l.initial.bank;
 }
 
 abbrev pub decreases-loop-turn : goal.decreases-loop-turn
