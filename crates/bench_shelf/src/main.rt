@@ -1,9 +1,11 @@
-//! Asks a front of facts by chance which of them a term is an instance of, to be timed. Of the three words the first one says how
-//! many facts there are, the second for how many terms all that are found are made and then the first one, and the third for how
-//! many terms the first one alone is made.
+//! Asks a front of facts by chance which of them a term is an instance of, to be timed. Of the four words the first one says how
+//! many facts there are, the second for how many terms all that are found are made and then the first one, the third for how
+//! many terms the first one alone is made, and the fourth how many times the front is compared with its copy.
 #![tactic(auto)]
 
 mod facts;
+
+ghost use Rattle.uc_shelf.specs.Fronts.{IsOf};
 
 use facts::{Random, fill, term_by_chance};
 use std::alloc::Global;
@@ -16,9 +18,9 @@ use uc_shelf::{Front, Shelf, View};
 use uc_term::Term;
 
 // The number that each word says, 0 where it says none.
-fn numbers(rt: &(impl Env + AllocGlobal)) -> io::Result<[u64; 3]> {
+fn numbers(rt: &(impl Env + AllocGlobal)) -> io::Result<[u64; 4]> {
     let mut words = env::args(rt)?.skip(1);
-    let mut numbers = [0; 3];
+    let mut numbers = [0; 4];
     for number in &mut numbers {
         *number = match words.next() {
             Some(word) => word.parse::<u64>().unwrap_or(0),
@@ -98,7 +100,19 @@ fn ask(view: &View, alloc: Global, random: &mut Random, all: u64, first: u64) ->
     Some(found)
 }
 
-fn work<R: Wait>(rt: &R, alloc: Global, numbers: [u64; 3]) -> Option<u64> {
+// How many times of so many a front is the same as its copy.
+fn compare(shelf: &Shelf, alloc: Global, front: &Front, times: u64) -> Option<u64>
+    requires { IsOf shelf.now front.now }
+{
+    let copy = front.copy(alloc).ok()?;
+    let mut same: u64 = 0;
+    for round in 0..times {
+        same = same.saturating_add(shelf.same(front, &copy) as u64);
+    }
+    Some(same)
+}
+
+fn work<R: Wait>(rt: &R, alloc: Global, numbers: [u64; 4]) -> Option<u64> {
     let mut random = Random { state: 7 };
     let shelf = Shelf::new(alloc).ok()?;
     let mut front = Front::empty(alloc);
@@ -106,7 +120,12 @@ fn work<R: Wait>(rt: &R, alloc: Global, numbers: [u64; 3]) -> Option<u64> {
         return None;
     }
     let view = shelf.view(&front);
-    ask(&view, alloc, &mut random, numbers[1], numbers[2])
+    let found = ask(&view, alloc, &mut random, numbers[1], numbers[2])?;
+    let same = compare(&shelf, alloc, &front, numbers[3])?;
+    if same != numbers[3] {
+        return None;
+    }
+    Some(found)
 }
 
 fn main(rt: HostRuntime) -> io::Result<()> {

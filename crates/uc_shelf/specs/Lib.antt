@@ -1,4 +1,5 @@
 pub mod Sights
+pub mod Rows
 pub mod Segments
 pub mod Fronts
 pub mod Entries

@@ -191,8 +191,22 @@ impl Shelf {
         true
     }
 
-    /// Tells that two segments have the same places, so that their entries are equal.
+    /// Tells that two segments have the same places, so that their entries are equal: at once where the places of each stand
+    /// one behind another on the shelf, and else by each of them.
     fn same_segment(&self, a: &Segment, b: &Segment) -> bool
+        requires a_of { AreAt self.now a.now.homes }
+        requires b_of { AreAt self.now b.now.homes }
+        ensures { IsTrue result → a.now.entries ≡ b.now.entries }
+    {
+        if a.starts_like(self, b) {
+            true
+        } else {
+            self.same_one_by_one(a, b)
+        }
+    }
+
+    /// Tells that two segments have the same places, by a look at each of them.
+    fn same_one_by_one(&self, a: &Segment, b: &Segment) -> bool
         requires a_of { AreAt self.now a.now.homes }
         requires b_of { AreAt self.now b.now.homes }
         ensures { IsTrue result → a.now.entries ≡ b.now.entries }

@@ -16,6 +16,7 @@
 
 mod entry;
 mod front;
+mod row;
 mod same;
 mod segment;
 mod shelf;

@@ -1,5 +1,5 @@
 use Rattle.std.proofs.Common.{◌≡◌, length, take}
-use Rattle.uc_shelf.proofs.shelf.Shelf.same_segment.Given as goal
+use Rattle.uc_shelf.proofs.shelf.Shelf.same_one_by_one.Given as goal
 
 abbrev pub invariant-loop-k : goal.invariant-loop-k
 invariant-loop-k l = record {

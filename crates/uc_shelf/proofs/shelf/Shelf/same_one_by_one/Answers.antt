@@ -1,5 +1,5 @@
 use Rattle.uc_shelf.proofs.Places.{front_more}
-use Rattle.uc_shelf.proofs.shelf.Shelf.same_segment.Goals as goal
+use Rattle.uc_shelf.proofs.shelf.Shelf.same_one_by_one.Goals as goal
 
 pub loop-k-preserved : goal.loop-k-preserved
 loop-k-preserved c =
