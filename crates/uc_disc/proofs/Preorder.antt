@@ -83,6 +83,14 @@ module _ (ps : List Place) (supported : AreSupported [] ps) where
       pub fails_cut : (bound : ℕ) → bound ≤ m.least → FailsAt ns ps i m.skip bound
       fails_cut bound h j q r a b g is k = absurd (omega (arith, mark.least j q r a b g is))
 
+      -- the trails of the places below begin with that of the place
+      pub front_below : (j : ℕ) → ((r : ℕ) → p.label ≡ Leaf r → ⊥) → i < j → j < m.skip → take (d + 1) (before ps j) ≡ take d (before ps i) ++ p.label ∷ []
+      front_below j other after b =
+          let w = take d (before ps i) ++ p.label ∷ [] in
+          let e : before ps (i + 1) ≡ w = before_next ps i p here ∙ ap (λ z. take d (before ps i) ++ z) (added_one p.label other) in
+          let long : length w ≡ d + 1 = omega (arith, length-append (take d (before ps i)) (p.label ∷ []), taken i p here) in
+          kept (d + 1) (i + 1) (j - (i + 1)) j (omega arith) (omega (arith, mark.within)) (λ k' q' a' b' g'. omega (arith, mark.below k' p q' here (omega arith) (omega arith) g')) ∙ ap (take (d + 1)) e ∙ take_of_length-le w (d + 1) (omega arith)
+
       pub fails_skip : (bound : ℕ) → ((r : ℕ) → p.label ≡ Leaf r → ⊥) → Fails ns (take d (before ps i) ++ p.label ∷ []) → FailsAt ns ps i m.skip bound
       fails_skip bound other f j q r a b g is k = go (let z : (j ≡ i) ⊎ (i < j) = grind arith in z)
         where
@@ -90,10 +98,9 @@ module _ (ps : List Place) (supported : AreSupported [] ps) where
           go (inl same) = fails_here bound other j q r a (omega arith) g is k
           go (inr after) =
               let w = take d (before ps i) ++ p.label ∷ [] in
-              let e : before ps (i + 1) ≡ w = before_next ps i p here ∙ ap (λ z. take d (before ps i) ++ z) (added_one p.label other) in
               let long : length w ≡ d + 1 = omega (arith, length-append (take d (before ps i)) (p.label ∷ []), taken i p here) in
               let below : d < q.depth = mark.below j p q here after b g in
-              let kept_here : take (d + 1) (before ps j) ≡ w = kept (d + 1) (i + 1) (j - (i + 1)) j (omega arith) (omega (arith, mark.within)) (λ k' q' a' b' g'. omega (arith, mark.below k' p q' here (omega arith) (omega arith) g')) ∙ ap (take (d + 1)) e ∙ take_of_length-le w (d + 1) (omega arith) in
+              let kept_here : take (d + 1) (before ps j) ≡ w = front_below j other after b in
               fails_longer ns w (take q.depth (before ps j)) f (ap (λ z. take z (take q.depth (before ps j))) long ∙ take-take-le (d + 1) q.depth (before ps j) (omega arith) ∙ kept_here) (omega (arith, taken j q g))
 
 pub fails_both : (ns : List Node) (ps : List Place) (a b c bound : ℕ) → FailsAt ns ps a b bound → FailsAt ns ps b c bound → FailsAt ns ps a c bound

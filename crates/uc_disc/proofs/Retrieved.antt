@@ -22,7 +22,7 @@ use Rattle.uc_disc.specs.declared.search.Best.{Best}
 use Rattle.uc_disc.specs.Spelling.{labels_of}
 use Rattle.uc_disc.specs.Trail.{on, trail, before, Spells, AreSpelled, leaf, leaves, numbers_below}
 use Rattle.uc_disc.specs.Standing.{Stands, Fails, StandsAt, FailsAt, IsLeafAt}
-use Rattle.uc_disc.specs.Retrieving.{GivesNone, Gives, IsFirstFrom, IsBest, IsBetter, NoneBefore}
+use Rattle.uc_disc.specs.Retrieving.{GivesNone, Gives, IsFirstFrom, IsBest, IsBestBefore, IsBetter}
 use Rattle.std.proofs.Common.{MatchOption}
 use Rattle.uc_term.specs.declared.equation.Equation.{Equation}
 use Rattle.uc_term.specs.declared.equation.Side.{Side}
@@ -94,15 +94,14 @@ module _ (Accepted : Found → Type 0) (t : Tree) where
   pub first_from_start : (rules : List Rule) (answer : Answer) → IsFirstFrom Accepted t rules 0 (Some answer) → FirstThat Accepted t rules (Some answer.found)
   first_from_start rules answer f = rw (f.1.found_is) (first_gives rules answer.rule f.1.rule f.1.pairs f.1.is f.1.is_match (subst Accepted f.1.found_is f.1.accepted) f.2)
 
--- how far a search is
-pub record Searching (Accepted : Found → Type 0) (ns : List Node) (rules : List Rule) (ps : List Place) (from i : ℕ) (best : Best) (at : List ℕ) : Type 0 where
+-- how far a search in the places before one is
+pub record Searching (Accepted : Found → Type 0) (ns : List Node) (rules : List Rule) (ps : List Place) (from stop i : ℕ) (best : Best) (at : List ℕ) : Type 0 where
   pub stands : StandsAt ns ps i at
-  pub is_leaf : IsLeafAt ns ps i
-  pub best_is : IsBest Accepted (tree_of ns) rules from best.bound best.answer
-  pub none : NoneBefore Accepted (tree_of ns) rules ps i from best.bound
+  pub is_leaf : i < stop → IsLeafAt ns ps i
+  pub so_far : IsBestBefore Accepted (tree_of ns) rules ps from i best
 
 -- the walk's loop
-module _ (Accepted : Found → Type 0) (ns : List Node) (w : IsWhole ns) (rules : List Rule) (ps : List Place) (spelled : AreSpelled rules [] ps) (each : IsPermutation (numbers_below (length rules)) (leaves ps)) (from : ℕ) where
+module _ (Accepted : Found → Type 0) (ns : List Node) (w : IsWhole ns) (rules : List Rule) (ps : List Place) (spelled : AreSpelled rules [] ps) (each : IsPermutation (numbers_below (length rules)) (leaves ps)) (from stop : ℕ) where
   -- a leaf that can't be reached gives nothing
   fails_none : (j : ℕ) (p : Place) (r : ℕ) → slice_get ps j ≡ Some p → p.label ≡ Leaf r → Fails ns (take p.depth (before ps j)) → GivesNone Accepted (tree_of ns) rules r
   fails_none j p r e is f rule pairs g m a =
@@ -112,50 +111,61 @@ module _ (Accepted : Found → Type 0) (ns : List Node) (w : IsWhole ns) (rules 
       f rule.from (image pairs) (ap (λ z. take z (labels_of rule.from)) (ap length path) ∙ take_of_length-le (labels_of rule.from) (length (labels_of rule.from)) (omega arith) ∙ sym path) m.gives
 
   -- a leaf that is reached has a match
-  pub reached : (i : ℕ) (best : Best) (at : List ℕ) → Searching Accepted ns rules ps from i best at → (p : Place) (r : ℕ) → slice_get ps i ≡ Some p → p.label ≡ Leaf r → (rule : Rule) × (slice_get rules r ≡ Some rule) × HasMatch rule.from (tree_of ns)
+  pub reached : (i : ℕ) (best : Best) (at : List ℕ) → Searching Accepted ns rules ps from stop i best at → (p : Place) (r : ℕ) → slice_get ps i ≡ Some p → p.label ≡ Leaf r → (rule : Rule) × (slice_get rules r ≡ Some rule) × HasMatch rule.from (tree_of ns)
   reached i best at s p r e is =
       let l = leaf_at rules ps i p r spelled e is in
       (l.0, l.1, walked ns w l.0.from at (subst (λ (z : List Label). Stands ns z at) l.2 (s.stands p e)))
 
   -- the leaf at which a search stands
-  pub leaf_here : (i : ℕ) (best : Best) (at : List ℕ) → Searching Accepted ns rules ps from i best at → (d : Place) → i < length ps → (rule : ℕ) → ((r : ℕ) → (get_or ps i d).label ≡ Leaf r → rule ≡ r) → (slice_get ps i ≡ Some (get_or ps i d)) × ((get_or ps i d).label ≡ Leaf rule)
-  leaf_here i best at s d h rule e =
-      let here = slice_get-get_or ps i d h in
-      let l = s.is_leaf (get_or ps i d) here in
+  pub leaf_here : (i : ℕ) (best : Best) (at : List ℕ) → Searching Accepted ns rules ps from stop i best at → (d : Place) → stop ≤ length ps → i < stop → (rule : ℕ) → ((r : ℕ) → (get_or ps i d).label ≡ Leaf r → rule ≡ r) → (slice_get ps i ≡ Some (get_or ps i d)) × ((get_or ps i d).label ≡ Leaf rule)
+  leaf_here i best at s d short h rule e =
+      let here = slice_get-get_or ps i d (omega arith) in
+      let l = s.is_leaf h (get_or ps i d) here in
       (here, l.1 ∙ ap Leaf (sym (e l.0 l.1)))
 
   pub rule_there : (i : ℕ) (p : Place) (r : ℕ) → slice_get ps i ≡ Some p → p.label ≡ Leaf r → r < length rules
   rule_there i p r e is = slice_get_within rules r _ (leaf_at rules ps i p r spelled e is).1
 
-  pub first_found : (best : Best) (j : ℕ) (at : List ℕ) → IsBest Accepted (tree_of ns) rules from best.bound best.answer → StandsAt ns ps j at → IsLeafAt ns ps j → FailsAt ns ps 0 j best.bound → Searching Accepted ns rules ps from j best at
-  first_found best j at b st l f = record { stands = st; is_leaf = l; best_is = b; none = λ k p r h e is u v. fails_none k p r e is (f k p r (omega arith) h e is v) }
-
-  pub next_found : (i : ℕ) (best : Best) (at : List ℕ) → Searching Accepted ns rules ps from i best at → (p : Place) (r : ℕ) → slice_get ps i ≡ Some p → p.label ≡ Leaf r → (new : Best) → IsBetter Accepted (tree_of ns) rules from r best.bound new → (j : ℕ) (at' : List ℕ) → StandsAt ns ps j at' → IsLeafAt ns ps j → FailsAt ns ps (i + 1) j new.bound → Searching Accepted ns rules ps from j new at'
-  next_found i best at s p r e is new b j at' st l f = record {
-    stands = st;
-    is_leaf = l;
-    best_is = b.best;
-    none = λ k q r' h g is' u v. go k q r' h g is' u v (let z : (k < i) ⊎ ((k ≡ i) ⊎ (i + 1 ≤ k)) = grind arith in z);
-  }
+  -- leaves that can't be reached make no better answer
+  pub none_past : (a b : ℕ) (best : Best) → IsBestBefore Accepted (tree_of ns) rules ps from a best → FailsAt ns ps a b best.bound → IsBestBefore Accepted (tree_of ns) rules ps from b best
+  none_past a b best s f = record { best_is = s.best_is; none = λ k p r h e is u v. go k p r h e is u v (let z : (k < a) ⊎ (a ≤ k) = grind arith in z) }
     where
-      go : (k : ℕ) (q : Place) (r' : ℕ) → k < j → slice_get ps k ≡ Some q → q.label ≡ Leaf r' → from ≤ r' → r' < new.bound → (k < i) ⊎ ((k ≡ i) ⊎ (i + 1 ≤ k)) → GivesNone Accepted (tree_of ns) rules r'
-      go k q r' h g is' u v (inl c) = s.none k q r' c g is' u (omega (arith, b.no_worse))
-      go k q r' h g is' u v (inr (inl c)) =
+      go : (k : ℕ) (p : Place) (r : ℕ) → k < b → slice_get ps k ≡ Some p → p.label ≡ Leaf r → from ≤ r → r < best.bound → (k < a) ⊎ (a ≤ k) → GivesNone Accepted (tree_of ns) rules r
+      go k p r h e is u v (inl c) = s.none k p r c e is u v
+      go k p r h e is u v (inr c) = fails_none k p r e is (f k p r c h e is v)
+
+  pub none_at_start : (best : Best) → IsBest Accepted (tree_of ns) rules from best.bound best.answer → IsBestBefore Accepted (tree_of ns) rules ps from 0 best
+  none_at_start best b = record { best_is = b; none = λ k p r h e is u v. absurd (omega arith) }
+
+  pub first_found : (start : ℕ) (best : Best) (j : ℕ) (at : List ℕ) → IsBestBefore Accepted (tree_of ns) rules ps from start best → StandsAt ns ps j at → (j < stop → IsLeafAt ns ps j) → FailsAt ns ps start j best.bound → Searching Accepted ns rules ps from stop j best at
+  first_found start best j at b st l f = record { stands = st; is_leaf = l; so_far = none_past start j best b f }
+
+  pub next_found : (i : ℕ) (best : Best) (at : List ℕ) → Searching Accepted ns rules ps from stop i best at → (p : Place) (r : ℕ) → slice_get ps i ≡ Some p → p.label ≡ Leaf r → (new : Best) → IsBetter Accepted (tree_of ns) rules from r best.bound new → (j : ℕ) (at' : List ℕ) → StandsAt ns ps j at' → (j < stop → IsLeafAt ns ps j) → FailsAt ns ps (i + 1) j new.bound → Searching Accepted ns rules ps from stop j new at'
+  next_found i best at s p r e is new b j at' st l f = record { stands = st; is_leaf = l; so_far = none_past (i + 1) j new here f }
+    where
+      go : (k : ℕ) (q : Place) (r' : ℕ) → slice_get ps k ≡ Some q → q.label ≡ Leaf r' → from ≤ r' → r' < new.bound → (k < i) ⊎ (k ≡ i) → GivesNone Accepted (tree_of ns) rules r'
+      go k q r' g is' u v (inl c) = s.so_far.none k q r' c g is' u (omega (arith, b.no_worse))
+      go k q r' g is' u v (inr c) =
           let g' : slice_get ps i ≡ Some q = subst (λ (z : ℕ). slice_get ps z ≡ Some q) c g in
           let same : p ≡ q = cc in
           let one : Leaf r ≡ Leaf r' = sym is ∙ ap (λ (z : Place). z.label) same ∙ is' in
           let number : r ≡ r' = cc in
           subst (GivesNone Accepted (tree_of ns) rules) number (b.seen (omega arith) (omega arith))
-      go k q r' h g is' u v (inr (inr c)) = fails_none k q r' g is' (f k q r' c h g is' v)
 
-  all_none : (i : ℕ) (best : Best) (at : List ℕ) → Searching Accepted ns rules ps from i best at → length ps ≤ i → (k : ℕ) → from ≤ k → k < best.bound → GivesNone Accepted (tree_of ns) rules k
-  all_none i best at s h k u v rule pairs e m a =
+      here : IsBestBefore Accepted (tree_of ns) rules ps from (i + 1) new
+      here = record { best_is = b.best; none = λ k q r' h g is' u v. go k q r' g is' u v (let z : (k < i) ⊎ (k ≡ i) = grind arith in z) }
+
+  pub search_over : (i : ℕ) (best : Best) (at : List ℕ) → Searching Accepted ns rules ps from stop i best at → stop ≤ i → IsBestBefore Accepted (tree_of ns) rules ps from stop best
+  search_over i best at s h = record { best_is = s.so_far.best_is; none = λ k p r a e is u v. s.so_far.none k p r (omega arith) e is u v }
+
+  all_none : (best : Best) → IsBestBefore Accepted (tree_of ns) rules ps from (length ps) best → (k : ℕ) → from ≤ k → k < best.bound → GivesNone Accepted (tree_of ns) rules k
+  all_none best s k u v rule pairs e m a =
       let l = each_leaf (length rules) ps k each (slice_get_within rules k rule e) in
-      s.none l.0 l.1 k (omega (arith, slice_get_within ps l.0 l.1 l.2)) l.2 l.3 u v rule pairs e m a
+      s.none l.0 l.1 k (slice_get_within ps l.0 l.1 l.2) l.2 l.3 u v rule pairs e m a
 
-  pub search_ends : (i : ℕ) (bound : ℕ) (answer : Option Answer) (at : List ℕ) → Searching Accepted ns rules ps from i (record { answer = answer; bound = bound }) at → length ps ≤ i → IsFirstFrom Accepted (tree_of ns) rules from answer
-  search_ends i bound None at s h = λ k u rule pairs e m a. all_none i (record { answer = None; bound = bound }) at s h k u (omega (arith, s.best_is, slice_get_within rules k rule e)) rule pairs e m a
-  search_ends i bound (Some x) at s h = (s.best_is.1, s.best_is.2, λ k u v. all_none i (record { answer = Some x; bound = bound }) at s h k u (omega (arith, s.best_is.0)))
+  pub search_ends : (bound : ℕ) (answer : Option Answer) → IsBestBefore Accepted (tree_of ns) rules ps from (length ps) (record { answer = answer; bound = bound }) → IsFirstFrom Accepted (tree_of ns) rules from answer
+  search_ends bound None s = λ k u rule pairs e m a. all_none (record { answer = None; bound = bound }) s k u (omega (arith, s.best_is, slice_get_within rules k rule e)) rule pairs e m a
+  search_ends bound (Some x) s = (s.best_is.1, s.best_is.2, λ k u v. all_none (record { answer = Some x; bound = bound }) s k u (omega (arith, s.best_is.0)))
 
 pub err_of : {T E : Type 0} (r : Result T E) (P : Type 0) → P → OnErr r P
 err_of (Ok x) P p = tt

@@ -49,6 +49,11 @@ module _ (Accepted : Found → Type 0) (t : Tree) (rules : List Rule) where
   abbrev pub NoneBefore : List Place → ℕ → ℕ → ℕ → Type 0
   NoneBefore ps i from bound = (j : ℕ) (p : Place) (r : ℕ) → j < i → slice_get ps j ≡ Some p → p.label ≡ Leaf r → from ≤ r → r < bound → GivesNone r
 
+  -- the best answer of the leaves before a place
+  pub record IsBestBefore (ps : List Place) (from i : ℕ) (best : Best) : Type 0 where
+    pub best_is : IsBest from best.bound best.answer
+    pub none : NoneBefore ps i from best.bound
+
 -- the term is an instance of the rule's side
 abbrev pub Matches : Tree → List Rule → ℕ → Type 0
 Matches t rules k = (rule : Rule) → slice_get rules k ≡ Some rule → HasMatch rule.from t

@@ -4,6 +4,8 @@
 //! A side is spelled as labels in prefix order; sides with a common front share its places. The places stand in one list in
 //! preorder, each with its depth and a mark: the next place that isn't below it, and the least rule below it, by which whole
 //! branches are passed over. A walk takes no memory until it stands at a leaf, so that the term is known to be an instance.
+//! Where the root has many branches, a table says where those under each symbol begin, and a walk goes over those under
+//! variables and under the term's first symbol alone.
 //!
 //! [`Tree`] is an `Index` of its equations, with the answers of a scan over them. `specs/` says what makes a list of places a
 //! tree.
@@ -12,6 +14,7 @@
 mod build;
 mod ends;
 mod facts;
+mod heads;
 mod place;
 mod search;
 mod seats;

@@ -7,10 +7,13 @@ ghost use Rattle.uc_fact.specs.Live.{rules_of};
 ghost use Rattle.uc_fact.specs.Retrieval.{IsFound, FindsNothing};
 ghost use Rattle.uc_disc.specs.Numbered.{lives};
 ghost use Rattle.uc_disc.specs.Trail.{IsTree};
-ghost use Rattle.uc_disc.specs.Retrieving.{IsTried, IsFirstFrom, IsBest, IsBetter};
+ghost use Rattle.uc_disc.specs.Standing.{AreEnds};
+ghost use Rattle.uc_disc.specs.Heads.{IsRoot, AreHeads};
+ghost use Rattle.uc_disc.specs.Retrieving.{IsTried, IsFirstFrom, IsBest, IsBetter, IsBestBefore};
 
 use crate::ends::fill_ends;
 use crate::facts::{side_of_rule, side_term};
+use crate::heads::{Head, Part, part_of, start_at};
 use crate::place::{Mark, Place, leaf_rule};
 use crate::walk::next_leaf;
 use std::alloc::{AllocError, Global};
@@ -118,13 +121,57 @@ fn better<T: Test>(
     }
 }
 
-/// Finds the first rule from a number on that gives something that passes the test. Where no rule gives anything, this
-/// takes no memory.
+/// Tries the rules of the leaves in a part of the tree to which the term leads, where they would be better than the best
+/// answer so far, and returns the best one. Where no rule gives anything, this takes no memory.
+fn best_in<T: Test>(
+    facts: &[(u32, Equation)],
+    places: &[Place],
+    marks: &[Mark],
+    alloc: Global,
+    best: Best,
+    from: u32,
+    term: &[Node],
+    test: &T,
+    ends: &[u16],
+    at: &mut [u16],
+    part: Part,
+) -> Result<Best, AllocError>
+    requires whole { IsWhole term.now }
+    requires small { length term.now ≤ MAX_NODES }
+    requires ends { AreEnds term.now ends.now }
+    requires room_ends { length term.now ≤ length ends.now }
+    requires tree { IsTree (rules_of (lives facts.now)) places.now marks.now (length at.old - 1) }
+    requires room { 1 < length at.old }
+    requires few { length facts.now < 2 ^ 31 }
+    requires can { (found : AnyFound) → IsFound (tree_of term.now) (rules_of (lives facts.now)) found → T.can_test test.now found }
+    requires within { (part.start ≤ length places.now) × (part.stop ≤ length places.now) }
+    requires root { IsRoot places.now part.start }
+    requires best { IsBestBefore (T.accepts test.now) (tree_of term.now) (rules_of (lives facts.now)) places.now from part.start best }
+    ensures value { IfOk result (IsBestBefore (T.accepts test.now) (tree_of term.now) (rules_of (lives facts.now)) places.now from part.stop) }
+    ensures memory { OnErr result (FindsNothing (tree_of term.now) (rules_of (lives facts.now)) → ⊥) }
+    ensures long { length at.new ≡ length at.old }
+{
+    at[0] = 0;
+    let mut best = best;
+    let mut i = next_leaf(
+        places, marks, term, ends, at, part.start, part.stop, best.bound,
+    );
+    while i < part.stop {
+        let rule = leaf_rule(places[i].label);
+        best = better(facts, alloc, best, from, rule, term, test)?;
+        i = next_leaf(places, marks, term, ends, at, i + 1, part.stop, best.bound);
+    }
+    Ok(best)
+}
+
+/// Finds the first rule from a number on that gives something that passes the test: under variables, and under the term's
+/// first symbol. Where no rule gives anything, this takes no memory.
 #[inline]
 fn first_in<T: Test>(
     facts: &[(u32, Equation)],
     places: &[Place],
     marks: &[Mark],
+    heads: &[Head],
     alloc: Global,
     from: u32,
     term: &[Node],
@@ -136,6 +183,7 @@ fn first_in<T: Test>(
     requires small { length term.now ≤ MAX_NODES }
     requires room_ends { length term.now ≤ length ends.old }
     requires tree { IsTree (rules_of (lives facts.now)) places.now marks.now (length at.old - 1) }
+    requires heads { AreHeads places.now heads.now (length places.now) }
     requires room { 1 < length at.old }
     requires few { length facts.now < 2 ^ 31 }
     requires can { (found : AnyFound) → IsFound (tree_of term.now) (rules_of (lives facts.now)) found → T.can_test test.now found }
@@ -143,18 +191,22 @@ fn first_in<T: Test>(
     ensures memory { OnErr result (FindsNothing (tree_of term.now) (rules_of (lives facts.now)) → ⊥) }
 {
     fill_ends(term, ends);
-    at[0] = 0;
-    let mut best = Best {
+    let none = Best {
         answer: None,
         bound: u32::MAX,
     };
-    let mut i = next_leaf(places, marks, term, ends, at, 0, best.bound);
-    while i < places.len() {
-        let rule = leaf_rule(places[i].label);
-        best = better(facts, alloc, best, from, rule, term, test)?;
-        i = next_leaf(places, marks, term, ends, at, i + 1, best.bound);
-    }
-    Ok(best.answer)
+    let variables = Part {
+        start: 0,
+        stop: start_at(heads, 0, places.len()),
+    };
+    let best = best_in(
+        facts, places, marks, alloc, none, from, term, test, ends, at, variables,
+    )?;
+    let part = part_of(heads, places, term);
+    let last = best_in(
+        facts, places, marks, alloc, best, from, term, test, ends, at, part,
+    )?;
+    Ok(last.answer)
 }
 
 /// Does the same with little room, for small terms in a shallow tree.
@@ -162,6 +214,7 @@ fn first_shallow<T: Test>(
     facts: &[(u32, Equation)],
     places: &[Place],
     marks: &[Mark],
+    heads: &[Head],
     alloc: Global,
     from: u32,
     term: &[Node],
@@ -170,6 +223,7 @@ fn first_shallow<T: Test>(
     requires whole { IsWhole term.now }
     requires small { length term.now ≤ 64 }
     requires tree { IsTree (rules_of (lives facts.now)) places.now marks.now 63 }
+    requires heads { AreHeads places.now heads.now (length places.now) }
     requires few { length facts.now < 2 ^ 31 }
     requires can { (found : AnyFound) → IsFound (tree_of term.now) (rules_of (lives facts.now)) found → T.can_test test.now found }
     ensures value { IfOk result (IsFirstFrom (T.accepts test.now) (tree_of term.now) (rules_of (lives facts.now)) from) }
@@ -178,7 +232,7 @@ fn first_shallow<T: Test>(
     let mut ends = [0u16; 64];
     let mut at = [0u16; 64];
     first_in(
-        facts, places, marks, alloc, from, term, test, &mut ends, &mut at,
+        facts, places, marks, heads, alloc, from, term, test, &mut ends, &mut at,
     )
 }
 
@@ -188,12 +242,14 @@ fn first_deep<T: Test>(
     facts: &[(u32, Equation)],
     places: &[Place],
     marks: &[Mark],
+    heads: &[Head],
     alloc: Global,
     from: u32,
     term: &[Node],
     test: &T,
 ) -> Result<Option<Answer>, AllocError>
     requires tree { IsTree (rules_of (lives facts.now)) places.now marks.now 4097 }
+    requires heads { AreHeads places.now heads.now (length places.now) }
     requires whole { IsWhole term.now }
     requires small { length term.now ≤ MAX_NODES }
     requires few { length facts.now < 2 ^ 31 }
@@ -204,7 +260,7 @@ fn first_deep<T: Test>(
     let mut ends = [0u16; 4096];
     let mut at = [0u16; 4098];
     first_in(
-        facts, places, marks, alloc, from, term, test, &mut ends, &mut at,
+        facts, places, marks, heads, alloc, from, term, test, &mut ends, &mut at,
     )
 }
 
@@ -214,6 +270,7 @@ pub fn first_from<T: Test>(
     facts: &[(u32, Equation)],
     places: &[Place],
     marks: &[Mark],
+    heads: &[Head],
     deep: usize,
     alloc: Global,
     from: u32,
@@ -221,6 +278,7 @@ pub fn first_from<T: Test>(
     test: &T,
 ) -> Result<Option<Answer>, AllocError>
     requires tree { IsTree (rules_of (lives facts.now)) places.now marks.now deep }
+    requires heads { AreHeads places.now heads.now (length places.now) }
     requires shallow { deep ≤ 4097 }
     requires whole { IsWhole term.now }
     requires small { length term.now ≤ MAX_NODES }
@@ -230,8 +288,8 @@ pub fn first_from<T: Test>(
     ensures memory { OnErr result (FindsNothing (tree_of term.now) (rules_of (lives facts.now)) → ⊥) }
 {
     if deep < 64 && term.len() <= 64 {
-        first_shallow(facts, places, marks, alloc, from, term, test)
+        first_shallow(facts, places, marks, heads, alloc, from, term, test)
     } else {
-        first_deep(facts, places, marks, alloc, from, term, test)
+        first_deep(facts, places, marks, heads, alloc, from, term, test)
     }
 }

@@ -6,6 +6,7 @@ ghost use Rattle.uc_disc.specs.Numbered.{lives};
 
 use crate::build::{depth_of, marks_of, places_of, spell_all};
 use crate::facts::copy_facts;
+use crate::heads::{Head, heads_of};
 use crate::place::{Mark, Place};
 use crate::search::{Any, first_from};
 use crate::seats::{place_of, seats_of};
@@ -23,6 +24,7 @@ pub struct Tree {
     seats: Vec<u32>,
     places: Vec<Place>,
     marks: Vec<Mark>,
+    heads: Vec<Head>,
     deep: usize,
 }
 
@@ -33,6 +35,7 @@ impl Model for Tree {
     ghost use Rattle.uc_term.specs.declared.equation.Equation.{Equation as AnyEquation};
     ghost use Rattle.uc_fact.specs.Live.{AreRising, rules_of};
     ghost use Rattle.uc_disc.specs.Numbered.{lives};
+    ghost use Rattle.uc_disc.specs.Heads.{AreHeads};
     ghost use Rattle.uc_disc.specs.Trail.{IsTree};
 
     ghost Value = { List (ℕ × AnyEquation) };
@@ -41,7 +44,7 @@ impl Model for Tree {
 
     ghost view = { λ t. t.facts.items };
 
-    ghost invariant = { λ t. AreRising (lives t.facts.items) × (length t.facts.items < 2 ^ 31) × IsTree (rules_of (lives t.facts.items)) t.places.items t.marks.items t.deep × (t.deep ≤ 4097) };
+    ghost invariant = { λ t. AreRising (lives t.facts.items) × (length t.facts.items < 2 ^ 31) × IsTree (rules_of (lives t.facts.items)) t.places.items t.marks.items t.deep × (t.deep ≤ 4097) × AreHeads t.places.items t.heads.items (length t.places.items) };
 }
 
 impl Tree {
@@ -64,6 +67,7 @@ impl Tree {
         list.sort()?;
         let places = places_of(alloc, list.as_slice())?;
         let marks = marks_of(alloc, places.as_slice())?;
+        let heads = heads_of(alloc, places.as_slice(), marks.as_slice())?;
         let deep = depth_of(places.as_slice());
         let seats = seats_of(alloc, facts.as_slice())?;
         Ok(Tree {
@@ -71,6 +75,7 @@ impl Tree {
             seats,
             places,
             marks,
+            heads,
             deep,
         })
     }
@@ -97,6 +102,7 @@ impl Index for Tree {
             self.facts.as_slice(),
             self.places.as_slice(),
             self.marks.as_slice(),
+            self.heads.as_slice(),
             self.deep,
             alloc,
             from,
@@ -119,6 +125,7 @@ impl Index for Tree {
             self.facts.as_slice(),
             self.places.as_slice(),
             self.marks.as_slice(),
+            self.heads.as_slice(),
             self.deep,
             alloc,
             0,

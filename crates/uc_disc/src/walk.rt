@@ -79,8 +79,8 @@ fn follow(term: &[Node], ends: &[u16], at: &mut [u16], depth: usize, label: Labe
     }
 }
 
-/// Finds the next leaf, from a place on, to which the term leads and whose rule is below a bound; or the end. It takes no
-/// memory.
+/// Finds the next leaf, from one place on and before another, to which the term leads and whose rule is below a bound; or a
+/// place behind those. It takes no memory.
 #[inline]
 pub fn next_leaf(
     places: &[Place],
@@ -89,6 +89,7 @@ pub fn next_leaf(
     ends: &[u16],
     at: &mut [u16],
     start: usize,
+    stop: usize,
     bound: u32,
 ) -> usize
     requires tree { IsShaped places.now marks.now (length at.old - 1) }
@@ -96,16 +97,16 @@ pub fn next_leaf(
     requires small { length term.now ≤ MAX_NODES }
     requires ends { AreEnds term.now ends.now }
     requires room_ends { length term.now ≤ length ends.now }
-    requires within { start ≤ length places.now }
+    requires within { (start ≤ length places.now) × (stop ≤ length places.now) }
     requires stands { StandsAt term.now places.now start at.old }
     ensures within { (start ≤ result) × (result ≤ length places.now) }
     ensures stands { StandsAt term.now places.now result at.new }
     ensures fails { FailsAt term.now places.now start result bound }
-    ensures leaf { IsLeafAt term.now places.now result }
+    ensures leaf { result < stop → IsLeafAt term.now places.now result }
     ensures long { length at.new ≡ length at.old }
 {
     let mut i = start;
-    while i < places.len() {
+    while i < stop {
         if marks[i].least >= bound {
             i = marks[i].skip;
         } else {

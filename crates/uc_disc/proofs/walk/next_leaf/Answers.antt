@@ -1,6 +1,6 @@
 use Rattle.std.proofs.Common.{◌≡◌, ◌+◌, ◌<◌, ◌≤◌, ℕ, length, true, false, List, sym, ap, ◌∙◌, arith, subst, get_or, take, [], Some}
 use Rattle.std.specs.Prelude.{slice_get}
-use Rattle.std.proofs.lemmas.Option.{slice_get-get_or, slice_get_within, get_or_from_slice_get}
+use Rattle.std.proofs.lemmas.Option.{slice_get-get_or, get_or_from_slice_get}
 use Rattle.uc_term.specs.declared.node.Node.{Node}
 use Rattle.uc_disc.specs.declared.place.Label.TheVariants.{Variable, Leaf}
 use Rattle.uc_disc.specs.declared.place.Place.{Place}
@@ -62,14 +62,11 @@ module _ (ns : List Node) (ps : List Place) (ms : List Mark) (deep : ℕ) (tree 
   is_leaf : (r : ℕ) → p.label ≡ Leaf r → IsLeafAt ns ps i
   is_leaf r e q g = (r, ap (λ (z : Place). z.label) (let same : q ≡ p = sym (get_or_from_slice_get ps i q dp g) in same) ∙ e)
 
-past_end : (ns : List Node) (ps : List Place) (i : ℕ) → length ps ≤ i → IsLeafAt ns ps i
-past_end ns ps i h q g = absurd (omega (arith, slice_get_within ps i q g))
-
 pub loop-i-preserved-then-marks-i : goal.loop-i-preserved-then-marks-i
-loop-i-preserved-then-marks-i c = (cut c.args.term.now c.args.places.now c.args.marks.now _ c.requires.tree c.args.start c.args.bound c.loop-i.i c.loop-i.at c.loop-i.invariant.0 c.loop-i-test.true (record { label = Variable 0; depth = 0 }) _ c.if-marks-i.true, c.loop-i.invariant.1)
+loop-i-preserved-then-marks-i c = (cut c.args.term.now c.args.places.now c.args.marks.now _ c.requires.tree c.args.start c.args.bound c.loop-i.i c.loop-i.at c.loop-i.invariant.0 (omega (arith, c.loop-i-test.true, c.requires.within.1)) (record { label = Variable 0; depth = 0 }) _ c.if-marks-i.true, c.loop-i.invariant.1)
 
 pub returns-in-Leaf-clause-leaf : goal.returns-in-Leaf-clause-leaf
-returns-in-Leaf-clause-leaf c = is_leaf c.args.term.now c.args.places.now c.args.marks.now _ c.requires.tree c.args.start c.args.bound c.loop-i.i c.loop-i.at c.loop-i.invariant.0 c.loop-i-test.true _ (record { skip = 0; least = 0 }) c.in-Leaf.field-0 c.in-Leaf.is
+returns-in-Leaf-clause-leaf c h = is_leaf c.args.term.now c.args.places.now c.args.marks.now _ c.requires.tree c.args.start c.args.bound c.loop-i.i c.loop-i.at c.loop-i.invariant.0 (omega (arith, c.loop-i-test.true, c.requires.within.1)) _ (record { skip = 0; least = 0 }) c.in-Leaf.field-0 c.in-Leaf.is
 
 pub follow-requires : goal.follow-requires
 follow-requires c = record {
@@ -77,19 +74,19 @@ follow-requires c = record {
   small = c.requires.small;
   ends = c.requires.ends;
   room_ends = c.requires.room_ends;
-  room = omega (arith, c.loop-i.invariant.1, room c.args.term.now c.args.places.now c.args.marks.now _ c.requires.tree c.args.start c.args.bound c.loop-i.i c.loop-i.at c.loop-i.invariant.0 c.loop-i-test.true (record { label = Variable 0; depth = 0 }) (record { skip = 0; least = 0 }));
-  back = back c.args.term.now c.args.places.now c.args.marks.now _ c.requires.tree c.args.start c.args.bound c.loop-i.i c.loop-i.at c.loop-i.invariant.0 c.loop-i-test.true _ (record { skip = 0; least = 0 });
+  room = omega (arith, c.loop-i.invariant.1, room c.args.term.now c.args.places.now c.args.marks.now _ c.requires.tree c.args.start c.args.bound c.loop-i.i c.loop-i.at c.loop-i.invariant.0 (omega (arith, c.loop-i-test.true, c.requires.within.1)) (record { label = Variable 0; depth = 0 }) (record { skip = 0; least = 0 }));
+  back = back c.args.term.now c.args.places.now c.args.marks.now _ c.requires.tree c.args.start c.args.bound c.loop-i.i c.loop-i.at c.loop-i.invariant.0 (omega (arith, c.loop-i-test.true, c.requires.within.1)) _ (record { skip = 0; least = 0 });
   label = c.in_default.not-Leaf;
 }
 
 pub loop-i-preserved-then-follow : goal.loop-i-preserved-then-follow
-loop-i-preserved-then-follow c = (followed c.args.term.now c.args.places.now c.args.marks.now _ c.requires.tree c.args.start c.args.bound c.loop-i.i c.loop-i.at c.loop-i.invariant.0 c.loop-i-test.true _ (record { skip = 0; least = 0 }) c.follow.new.at c.in_default.not-Leaf (rw c.if-follow.true at c.follow.ensures.value), c.follow.ensures.long ∙ c.loop-i.invariant.1)
+loop-i-preserved-then-follow c = (followed c.args.term.now c.args.places.now c.args.marks.now _ c.requires.tree c.args.start c.args.bound c.loop-i.i c.loop-i.at c.loop-i.invariant.0 (omega (arith, c.loop-i-test.true, c.requires.within.1)) _ (record { skip = 0; least = 0 }) c.follow.new.at c.in_default.not-Leaf (rw c.if-follow.true at c.follow.ensures.value), c.follow.ensures.long ∙ c.loop-i.invariant.1)
 
 pub loop-i-preserved : goal.loop-i-preserved
-loop-i-preserved c = (failed c.args.term.now c.args.places.now c.args.marks.now _ c.requires.tree c.args.start c.args.bound c.loop-i.i c.loop-i.at c.loop-i.invariant.0 c.loop-i-test.true _ _ c.follow.new.at c.in_default.not-Leaf (rw c.if-follow.false at c.follow.ensures.value), c.follow.ensures.long ∙ c.loop-i.invariant.1)
+loop-i-preserved c = (failed c.args.term.now c.args.places.now c.args.marks.now _ c.requires.tree c.args.start c.args.bound c.loop-i.i c.loop-i.at c.loop-i.invariant.0 (omega (arith, c.loop-i-test.true, c.requires.within.1)) _ _ c.follow.new.at c.in_default.not-Leaf (rw c.if-follow.false at c.follow.ensures.value), c.follow.ensures.long ∙ c.loop-i.invariant.1)
 
 pub loop-i-smaller : goal.loop-i-smaller
-loop-i-smaller c = omega (arith, c.loop-i-test.true, skip_ahead c.args.term.now c.args.places.now c.args.marks.now _ c.requires.tree c.args.start c.args.bound c.loop-i.i c.loop-i.at c.loop-i.invariant.0 c.loop-i-test.true (record { label = Variable 0; depth = 0 }) (record { skip = 0; least = 0 }))
+loop-i-smaller c = omega (arith, c.loop-i-test.true, c.requires.within.1, skip_ahead c.args.term.now c.args.places.now c.args.marks.now _ c.requires.tree c.args.start c.args.bound c.loop-i.i c.loop-i.at c.loop-i.invariant.0 (omega (arith, c.loop-i-test.true, c.requires.within.1)) (record { label = Variable 0; depth = 0 }) (record { skip = 0; least = 0 }))
 
 pub returns-clause-leaf : goal.returns-clause-leaf
-returns-clause-leaf c = past_end c.args.term.now c.args.places.now c.loop-i.i c.loop-i-test.false
+returns-clause-leaf c h = absurd (omega (arith, h, c.loop-i-test.false))
