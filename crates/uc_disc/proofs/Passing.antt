@@ -4,7 +4,7 @@ use Rattle.std.specs.Prelude.{slice_get}
 use Rattle.std.proofs.lemmas.Option.{slice_get_within, slice_get-get_or}
 use Rattle.uc_term.specs.declared.node.Node.{Node}
 use Rattle.uc_term.specs.declared.node.Sym.{Sym}
-use Rattle.uc_term.specs.declared.node.Node.TheVariants.{App}
+use Rattle.uc_term.specs.declared.node.Node.TheVariants.{App, Var}
 use Rattle.uc_term.specs.Flat.{tree_of, IsWhole}
 use Rattle.uc_term.proofs.Gets.{get_pushed}
 use Rattle.uc_term.proofs.Terms.{length-flat, nodes_pos}
@@ -13,9 +13,10 @@ use Rattle.uc_disc.specs.declared.place.Label.TheVariants.{Variable, Head as AHe
 use Rattle.uc_disc.specs.declared.place.Place.{Place}
 use Rattle.uc_disc.specs.declared.place.Mark.{Mark}
 use Rattle.uc_disc.specs.declared.heads.Head.{Head}
+use Rattle.uc_disc.specs.declared.heads.Part.{Part}
 use Rattle.uc_disc.specs.Trail.{before, AreSupported, IsMark, AreMarks}
 use Rattle.uc_disc.specs.Standing.{Stands, StandsAt, Fails, FailsAt}
-use Rattle.uc_disc.specs.Heads.{IsRoot, BeginsWith, AreUnder, start_at, AreHeads, IsNext, IsPart}
+use Rattle.uc_disc.specs.Heads.{IsRoot, BeginsWith, AreUnder, start_at, AreHeads, IsNext, IsUnder, found, not_found, AreParts}
 use Rattle.uc_disc.proofs.Walks.{take-take-le, get-there, fails_head, fails_longer}
 use Rattle.uc_disc.proofs.Preorder.{supported_at, front_below, fails_none, fails_both}
 
@@ -135,6 +136,10 @@ module _ (ps : List Place) (ms : List Mark) (supported : AreSupported [] ps) (ma
   pub next_heads : (heads slice new : List Head) (f : ℕ) (d : Place) → AreHeads ps heads i → slice ≡ heads → IsNext slice (get_or ps i d).label f → new ≡ heads ++ record { symbol = f; start = i } ∷ [] → AreHeads ps new (get_or ms i dm).skip
   next_heads heads slice new f d t e n g = rw g (more_heads ps supported heads i f n.arity (get_or ps i d) (get_or ms i dm) t (here d) mark n.is (λ k x k'. n.above k x (subst (λ (z : List Head). slice_get z k ≡ Some x) (sym e) k')))
 
+-- another symbol
+pub other_symbol : (f : Sym) (n g : ℕ) → (g ≡ f.0 → ⊥) → (a : ℕ) → App f n ≡ App (record { 0 = g }) a → ⊥
+other_symbol f n g other a e = (let same : f ≡ record { 0 = g } = cc in other (ap (λ (z : Sym). z.0) (sym same)))
+
 -- what fails by its first symbol
 module _ (ns : List Node) (w : IsWhole ns) (ps : List Place) (heads : List Head) (table : AreHeads ps heads (length ps)) (first : Node) (is : slice_get ns 0 ≡ Some first) where
   -- the term begins with another symbol
@@ -159,28 +164,36 @@ module _ (ns : List Node) (w : IsWhole ns) (ps : List Place) (heads : List Head)
       let last : l ≡ k + n + 1 = omega arith in
       rw last (fails_both ns ps (start_at heads k (length ps)) (start_at heads (k + n) (length ps)) (start_at heads (k + n + 1) (length ps)) bound (fails_parts k n (k + n) bound refl (λ j h a b g. other j h a (omega arith) g)) (fails_part (k + n) bound (λ h g. other (k + n) h (omega arith) (omega arith) g)))
 
-  -- where no head has the first symbol, and where one has
-  pub part_none : ((j : ℕ) (h : Head) → slice_get heads j ≡ Some h → IsOther h.symbol) → IsPart ns ps (start_at heads 0 (length ps)) (record { start = length ps; stop = length ps })
-  part_none other = record {
-    start_within = omega arith;
-    stop_within = omega arith;
-    root = root_end ps;
-    between = λ bound. subst (λ (z : ℕ). FailsAt ns ps (start_at heads 0 (length ps)) z bound) (start_past heads (length heads) (length ps) (omega arith)) (fails_parts 0 (length heads) (length heads) bound (omega arith) (λ j h a b g. other j h g));
-    behind = fails_none ns ps (length ps);
+  abbrev end : ℕ
+  end = length ps
+
+  parts_none : (part : Part) → part.start ≡ end → part.stop ≡ end → ((j : ℕ) (h : Head) → slice_get heads j ≡ Some h → IsOther h.symbol) → AreParts ns ps (record { first = start_at heads 0 end; second = part })
+  parts_none part e f other = record {
+    first_within = table.within 0;
+    start_within = omega (arith, e);
+    stop_within = omega (arith, f);
+    root = subst (IsRoot ps) (sym e) (root_end ps);
+    between = λ bound. subst (λ (z : ℕ). FailsAt ns ps (start_at heads 0 end) z bound) (start_past heads (length heads) end (omega arith) ∙ sym e) (fails_parts 0 (length heads) (length heads) bound (omega arith) (λ j h a b g. other j h g));
+    behind = λ bound. subst (λ (z : ℕ). FailsAt ns ps z end bound) (sym f) (fails_none ns ps end bound);
   }
 
-  pub part_some : (k start stop : ℕ) → start ≡ start_at heads k (length ps) → stop ≡ start_at heads (k + 1) (length ps) → k < length heads → ((j : ℕ) (h : Head) → slice_get heads j ≡ Some h → (j ≡ k → ⊥) → IsOther h.symbol) → IsPart ns ps (start_at heads 0 (length ps)) (record { start = start; stop = stop })
-  part_some k start stop e f l other = rw (e, f) (record {
-    start_within = table.within k;
-    stop_within = table.within (k + 1);
-    root = table.roots k;
-    between = λ bound. fails_parts 0 k k bound (omega arith) (λ j h a b g. other j h g (λ z. omega arith));
-    behind = λ bound. subst (λ (z : ℕ). FailsAt ns ps (start_at heads (k + 1) (length ps)) z bound) (start_past heads (k + 1 + length heads) (length ps) (omega arith)) (fails_parts (k + 1) (length heads) (k + 1 + length heads) bound refl (λ j h a b g. other j h g (λ z. omega arith)));
-  })
+  parts_some : (part : Part) (k : ℕ) → part.start ≡ start_at heads k end → part.stop ≡ start_at heads (k + 1) end → ((j : ℕ) (h : Head) → slice_get heads j ≡ Some h → (j ≡ k → ⊥) → IsOther h.symbol) → AreParts ns ps (record { first = start_at heads 0 end; second = part })
+  parts_some part k e f other = record {
+    first_within = table.within 0;
+    start_within = omega (arith, e, table.within k);
+    stop_within = omega (arith, f, table.within (k + 1));
+    root = subst (IsRoot ps) (sym e) (table.roots k);
+    between = λ bound. subst (λ (z : ℕ). FailsAt ns ps (start_at heads 0 end) z bound) (sym e) (fails_parts 0 k k bound (omega arith) (λ j h a b g. other j h g (λ z. omega arith)));
+    behind = λ bound. subst (λ (z : ℕ). FailsAt ns ps z end bound) (sym f) (subst (λ (z : ℕ). FailsAt ns ps (start_at heads (k + 1) end) z bound) (start_past heads (k + 1 + length heads) end (omega arith)) (fails_parts (k + 1) (length heads) (k + 1 + length heads) bound refl (λ j h a b g. other j h g (λ z. omega arith))));
+  }
 
--- another symbol
-pub other_symbol : (f : Sym) (n g : ℕ) → (g ≡ f.0 → ⊥) → (a : ℕ) → App f n ≡ App (record { 0 = g }) a → ⊥
-other_symbol f n g other a e = (let same : f ≡ record { 0 = g } = cc in other (ap (λ (z : Sym). z.0) (sym same)))
+  -- the parts of a term that begins with a symbol, and of a variable
+  pub parts_app : (f : Sym) (n : ℕ) (part : Part) → first ≡ App f n → IsUnder heads f.0 end part → AreParts ns ps (record { first = start_at heads 0 end; second = part })
+  parts_app f n part e (found k s i j) = parts_some part k i j (λ l h g other a q. other_symbol f n h.symbol (λ z. other (s.1 l h g z)) a (sym e ∙ q))
+  parts_app f n part e (not_found s i j) = parts_none part i j (λ l h g a q. other_symbol f n h.symbol (s l h g) a (sym e ∙ q))
+
+  pub parts_var : (x : ℕ) → first ≡ Var x → AreParts ns ps (record { first = start_at heads 0 end; second = record { start = end; stop = end } })
+  parts_var x e = parts_none (record { start = length ps; stop = length ps }) refl refl (λ l h g a q. cc)
 
 -- a term has a first node
 pub some_node : (ns : List Node) → IsWhole ns → 0 < length ns

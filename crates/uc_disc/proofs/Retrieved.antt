@@ -134,6 +134,10 @@ module _ (Accepted : Found → Type 0) (ns : List Node) (w : IsWhole ns) (rules 
       go k p r h e is u v (inl c) = s.none k p r c e is u v
       go k p r h e is u v (inr c) = fails_none k p r e is (f k p r c h e is v)
 
+  -- nor do those behind, if they can't be reached from an earlier place on
+  pub none_left : (a b : ℕ) (best : Best) → IsBestBefore Accepted (tree_of ns) rules ps from a best → b ≤ a → FailsAt ns ps b (length ps) best.bound → IsBestBefore Accepted (tree_of ns) rules ps from (length ps) best
+  none_left a b best s h f = none_past a (length ps) best s (λ j p r k l e is v. f j p r (omega arith) l e is v)
+
   pub none_at_start : (best : Best) → IsBest Accepted (tree_of ns) rules from best.bound best.answer → IsBestBefore Accepted (tree_of ns) rules ps from 0 best
   none_at_start best b = record { best_is = b; none = λ k p r h e is u v. absurd (omega arith) }
 
@@ -166,6 +170,12 @@ module _ (Accepted : Found → Type 0) (ns : List Node) (w : IsWhole ns) (rules 
   pub search_ends : (bound : ℕ) (answer : Option Answer) → IsBestBefore Accepted (tree_of ns) rules ps from (length ps) (record { answer = answer; bound = bound }) → IsFirstFrom Accepted (tree_of ns) rules from answer
   search_ends bound None s = λ k u rule pairs e m a. all_none (record { answer = None; bound = bound }) s k u (omega (arith, s.best_is, slice_get_within rules k rule e)) rule pairs e m a
   search_ends bound (Some x) s = (s.best_is.1, s.best_is.2, λ k u v. all_none (record { answer = Some x; bound = bound }) s k u (omega (arith, s.best_is.0)))
+
+  -- no leaf can be reached
+  pub search_empty : (a b c : ℕ) → a ≡ 0 → c ≤ b → ((bound : ℕ) → FailsAt ns ps a b bound) → ((bound : ℕ) → FailsAt ns ps c (length ps) bound) → IsFirstFrom Accepted (tree_of ns) rules from None
+  search_empty a b c e h between behind =
+      let none : Best = record { answer = None; bound = length rules } in
+      search_ends (length rules) None (none_left b c none (none_past 0 b none (none_at_start none (let z : length rules ≤ length rules = omega arith in z)) (λ j p r k l g is v. between (length rules) j p r (omega (arith, e)) l g is v)) h (behind (length rules)))
 
 pub err_of : {T E : Type 0} (r : Result T E) (P : Type 0) → P → OnErr r P
 err_of (Ok x) P p = tt

@@ -6,6 +6,7 @@ use Rattle.uc_disc.specs.declared.place.Label.TheVariants.{Head as AHead, Leaf}
 use Rattle.uc_disc.specs.declared.place.Place.{Place}
 use Rattle.uc_disc.specs.declared.heads.Head.{Head}
 use Rattle.uc_disc.specs.declared.heads.Part.{Part}
+use Rattle.uc_disc.specs.declared.heads.Parts.{Parts}
 use Rattle.uc_disc.specs.Trail.{before}
 use Rattle.uc_disc.specs.Standing.{FailsAt}
 
@@ -51,11 +52,16 @@ abbrev pub IsSought : List Head → ℕ → Option ℕ → Type 0
 IsSought heads f None = (j : ℕ) (h : Head) → slice_get heads j ≡ Some h → h.symbol ≡ f → ⊥
 IsSought heads f (Some k) = (k < length heads) × ((j : ℕ) (h : Head) → slice_get heads j ≡ Some h → h.symbol ≡ f → j ≡ k)
 
--- the part begins with a branch of the root, and no leaf between a first place and the part, or behind it, has a trail that
--- leads through the term
-pub record IsPart (ns : List Node) (ps : List Place) (first : ℕ) (part : Part) : Type 0 where
-  pub start_within : part.start ≤ length ps
-  pub stop_within : part.stop ≤ length ps
-  pub root : IsRoot ps part.start
-  pub between : (bound : ℕ) → FailsAt ns ps first part.start bound
-  pub behind : (bound : ℕ) → FailsAt ns ps part.stop (length ps) bound
+-- the part of a symbol's head; where there is none, the part is empty, at the end
+pub data IsUnder (heads : List Head) (f end : ℕ) (part : Part) : Type 0 where
+  found : (k : ℕ) → IsSought heads f (Some k) → part.start ≡ start_at heads k end → part.stop ≡ start_at heads (k + 1) end → IsUnder heads f end part
+  not_found : IsSought heads f None → part.start ≡ end → part.stop ≡ end → IsUnder heads f end part
+
+-- the second part begins with a branch of the root, and no leaf that is in neither part has a trail that leads through the term
+pub record AreParts (ns : List Node) (ps : List Place) (parts : Parts) : Type 0 where
+  pub first_within : parts.first ≤ length ps
+  pub start_within : parts.second.start ≤ length ps
+  pub stop_within : parts.second.stop ≤ length ps
+  pub root : IsRoot ps parts.second.start
+  pub between : (bound : ℕ) → FailsAt ns ps parts.first parts.second.start bound
+  pub behind : (bound : ℕ) → FailsAt ns ps parts.second.stop (length ps) bound

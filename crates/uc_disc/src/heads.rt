@@ -4,14 +4,14 @@ ghost use Rattle.std.specs.Prelude.{◌≡◌, ◌<◌, ◌≤◌, ◌+◌, ℕ,
 ghost use Rattle.uc_term.specs.Flat.{IsWhole};
 ghost use Rattle.uc_disc.specs.declared.heads.Head.{Head as AnyHead};
 ghost use Rattle.uc_disc.specs.Trail.{AreSupported, AreMarks};
-ghost use Rattle.uc_disc.specs.Heads.{IsRoot, AreRisingHeads, AreHeads, IsNext, IsSought, IsPart, start_at as start_of_part};
+ghost use Rattle.uc_disc.specs.Heads.{IsRoot, AreRisingHeads, AreHeads, IsNext, IsSought, IsUnder, AreParts, start_at as start_of_part};
 
 use crate::place::{Label, Mark, Place};
 use std::alloc::{AllocError, Global};
 use uc_term::Node;
 
 /// The most branches of the root that a walk goes over one by one.
-const FEW: usize = 8;
+const FEW: usize = 4;
 
 /// A symbol, and where the places of the root's branches under it begin. They end where those of the next head begin.
 #[derive(Clone, Copy)]
@@ -27,17 +27,25 @@ pub struct Part {
     pub stop: usize,
 }
 
-/// Whether the root has more than a few branches.
-fn has_many(places: &[Place], marks: &[Mark]) -> bool
+/// The places that a search goes over: those before one, and a part behind it.
+#[derive(Clone, Copy)]
+pub struct Parts {
+    pub first: usize,
+    pub second: Part,
+}
+
+/// Counts the branches of the root.
+fn count_branches(places: &[Place], marks: &[Mark]) -> usize
     requires marks { AreMarks places.now marks.now }
+    ensures { result ≤ length places.now }
 {
-    let mut i = 0;
     let mut count = 0;
-    while i < places.len() && count <= FEW {
+    let mut i = 0;
+    while i < places.len() {
         i = marks[i].skip;
         count += 1;
     }
-    count > FEW
+    count
 }
 
 /// Finds the first branch of the root that isn't under a variable.
@@ -86,10 +94,11 @@ pub fn heads_of(alloc: Global, places: &[Place], marks: &[Mark]) -> Result<Vec<H
     requires marks { AreMarks places.now marks.now }
     ensures { IfOk result (λ heads. AreHeads places.now heads.items (length places.now)) }
 {
-    let mut heads = Vec::new(alloc);
-    if !has_many(places, marks) {
-        return Ok(heads);
+    let count = count_branches(places, marks);
+    if count <= FEW {
+        return Ok(Vec::new(alloc));
     }
+    let mut heads = Vec::with_capacity(alloc, count)?;
     let mut i = first_head(places, marks);
     while i < places.len() {
         match next_symbol(heads.as_slice(), places[i].label) {
@@ -149,28 +158,44 @@ fn find_head(heads: &[Head], symbol: u32) -> Option<usize>
     Some(k)
 }
 
-/// Finds the part under the term's first symbol. Where there is none, the part is empty.
+/// Finds the part under a symbol. Where there is none, the part is empty.
 #[inline]
-pub fn part_of(heads: &[Head], places: &[Place], term: &[Node]) -> Part
+fn part_under(heads: &[Head], symbol: u32, end: usize) -> Part
+    requires rising { AreRisingHeads heads.now }
+    ensures { IsUnder heads.now symbol end result }
+{
+    match find_head(heads, symbol) {
+        Some(k) => Part {
+            start: start_at(heads, k, end),
+            stop: start_at(heads, k + 1, end),
+        },
+        None => Part {
+            start: end,
+            stop: end,
+        },
+    }
+}
+
+/// Finds the places to go over for a term: those under variables, and those under its first symbol.
+#[inline]
+pub fn parts_of(heads: &[Head], places: &[Place], term: &[Node]) -> Parts
     requires whole { IsWhole term.now }
     requires heads { AreHeads places.now heads.now (length places.now) }
-    ensures { IsPart term.now places.now (start_of_part heads.now 0 (length places.now)) result }
+    ensures { AreParts term.now places.now result }
 {
     let end = places.len();
+    let first = start_at(heads, 0, end);
     match term[0] {
-        Node::App(f, _) => match find_head(heads, f.0) {
-            Some(k) => Part {
-                start: start_at(heads, k, end),
-                stop: start_at(heads, k + 1, end),
-            },
-            None => Part {
+        Node::App(f, _) => Parts {
+            first,
+            second: part_under(heads, f.0, end),
+        },
+        Node::Var(_) => Parts {
+            first,
+            second: Part {
                 start: end,
                 stop: end,
             },
-        },
-        Node::Var(_) => Part {
-            start: end,
-            stop: end,
         },
     }
 }

@@ -8,12 +8,12 @@ ghost use Rattle.uc_fact.specs.Retrieval.{IsFound, FindsNothing};
 ghost use Rattle.uc_disc.specs.Numbered.{lives};
 ghost use Rattle.uc_disc.specs.Trail.{IsTree};
 ghost use Rattle.uc_disc.specs.Standing.{AreEnds};
-ghost use Rattle.uc_disc.specs.Heads.{IsRoot, AreHeads};
+ghost use Rattle.uc_disc.specs.Heads.{IsRoot, AreHeads, AreParts};
 ghost use Rattle.uc_disc.specs.Retrieving.{IsTried, IsFirstFrom, IsBest, IsBetter, IsBestBefore};
 
 use crate::ends::fill_ends;
 use crate::facts::{side_of_rule, side_term};
-use crate::heads::{Head, Part, part_of, start_at};
+use crate::heads::{Head, Part, Parts, parts_of};
 use crate::place::{Mark, Place, leaf_rule};
 use crate::walk::next_leaf;
 use std::alloc::{AllocError, Global};
@@ -91,7 +91,7 @@ fn try_rule<T: Test>(
 
 /// Tries a rule of which the term is an instance, where it would be better than the best answer so far, and returns the
 /// better of the two.
-#[inline]
+#[inline(always)]
 fn better<T: Test>(
     facts: &[(u32, Equation)],
     alloc: Global,
@@ -123,6 +123,7 @@ fn better<T: Test>(
 
 /// Tries the rules of the leaves in a part of the tree to which the term leads, where they would be better than the best
 /// answer so far, and returns the best one. Where no rule gives anything, this takes no memory.
+#[inline(always)]
 fn best_in<T: Test>(
     facts: &[(u32, Equation)],
     places: &[Place],
@@ -164,18 +165,18 @@ fn best_in<T: Test>(
     Ok(best)
 }
 
-/// Finds the first rule from a number on that gives something that passes the test: under variables, and under the term's
-/// first symbol. Where no rule gives anything, this takes no memory.
-#[inline]
+/// Finds the first rule from a number on that gives something that passes the test, in the two parts. Where no rule gives
+/// anything, this takes no memory.
+#[inline(always)]
 fn first_in<T: Test>(
     facts: &[(u32, Equation)],
     places: &[Place],
     marks: &[Mark],
-    heads: &[Head],
     alloc: Global,
     from: u32,
     term: &[Node],
     test: &T,
+    parts: Parts,
     ends: &mut [u16],
     at: &mut [u16],
 ) -> Result<Option<Answer>, AllocError>
@@ -183,7 +184,7 @@ fn first_in<T: Test>(
     requires small { length term.now ≤ MAX_NODES }
     requires room_ends { length term.now ≤ length ends.old }
     requires tree { IsTree (rules_of (lives facts.now)) places.now marks.now (length at.old - 1) }
-    requires heads { AreHeads places.now heads.now (length places.now) }
+    requires parts { AreParts term.now places.now parts }
     requires room { 1 < length at.old }
     requires few { length facts.now < 2 ^ 31 }
     requires can { (found : AnyFound) → IsFound (tree_of term.now) (rules_of (lives facts.now)) found → T.can_test test.now found }
@@ -195,16 +196,28 @@ fn first_in<T: Test>(
         answer: None,
         bound: u32::MAX,
     };
-    let variables = Part {
+    let first = Part {
         start: 0,
-        stop: start_at(heads, 0, places.len()),
+        stop: parts.first,
     };
     let best = best_in(
-        facts, places, marks, alloc, none, from, term, test, ends, at, variables,
+        facts, places, marks, alloc, none, from, term, test, ends, at, first,
     )?;
-    let part = part_of(heads, places, term);
+    if parts.second.start >= parts.second.stop {
+        return Ok(best.answer);
+    }
     let last = best_in(
-        facts, places, marks, alloc, best, from, term, test, ends, at, part,
+        facts,
+        places,
+        marks,
+        alloc,
+        best,
+        from,
+        term,
+        test,
+        ends,
+        at,
+        parts.second,
     )?;
     Ok(last.answer)
 }
@@ -214,16 +227,16 @@ fn first_shallow<T: Test>(
     facts: &[(u32, Equation)],
     places: &[Place],
     marks: &[Mark],
-    heads: &[Head],
     alloc: Global,
     from: u32,
     term: &[Node],
     test: &T,
+    parts: Parts,
 ) -> Result<Option<Answer>, AllocError>
     requires whole { IsWhole term.now }
     requires small { length term.now ≤ 64 }
     requires tree { IsTree (rules_of (lives facts.now)) places.now marks.now 63 }
-    requires heads { AreHeads places.now heads.now (length places.now) }
+    requires parts { AreParts term.now places.now parts }
     requires few { length facts.now < 2 ^ 31 }
     requires can { (found : AnyFound) → IsFound (tree_of term.now) (rules_of (lives facts.now)) found → T.can_test test.now found }
     ensures value { IfOk result (IsFirstFrom (T.accepts test.now) (tree_of term.now) (rules_of (lives facts.now)) from) }
@@ -232,7 +245,7 @@ fn first_shallow<T: Test>(
     let mut ends = [0u16; 64];
     let mut at = [0u16; 64];
     first_in(
-        facts, places, marks, heads, alloc, from, term, test, &mut ends, &mut at,
+        facts, places, marks, alloc, from, term, test, parts, &mut ends, &mut at,
     )
 }
 
@@ -242,14 +255,14 @@ fn first_deep<T: Test>(
     facts: &[(u32, Equation)],
     places: &[Place],
     marks: &[Mark],
-    heads: &[Head],
     alloc: Global,
     from: u32,
     term: &[Node],
     test: &T,
+    parts: Parts,
 ) -> Result<Option<Answer>, AllocError>
     requires tree { IsTree (rules_of (lives facts.now)) places.now marks.now 4097 }
-    requires heads { AreHeads places.now heads.now (length places.now) }
+    requires parts { AreParts term.now places.now parts }
     requires whole { IsWhole term.now }
     requires small { length term.now ≤ MAX_NODES }
     requires few { length facts.now < 2 ^ 31 }
@@ -260,7 +273,7 @@ fn first_deep<T: Test>(
     let mut ends = [0u16; 4096];
     let mut at = [0u16; 4098];
     first_in(
-        facts, places, marks, heads, alloc, from, term, test, &mut ends, &mut at,
+        facts, places, marks, alloc, from, term, test, parts, &mut ends, &mut at,
     )
 }
 
@@ -287,9 +300,13 @@ pub fn first_from<T: Test>(
     ensures value { IfOk result (IsFirstFrom (T.accepts test.now) (tree_of term.now) (rules_of (lives facts.now)) from) }
     ensures memory { OnErr result (FindsNothing (tree_of term.now) (rules_of (lives facts.now)) → ⊥) }
 {
+    let parts = parts_of(heads, places, term);
+    if parts.first == 0 && parts.second.start >= parts.second.stop {
+        return Ok(None);
+    }
     if deep < 64 && term.len() <= 64 {
-        first_shallow(facts, places, marks, heads, alloc, from, term, test)
+        first_shallow(facts, places, marks, alloc, from, term, test, parts)
     } else {
-        first_deep(facts, places, marks, heads, alloc, from, term, test)
+        first_deep(facts, places, marks, alloc, from, term, test, parts)
     }
 }
