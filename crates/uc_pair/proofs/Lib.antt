@@ -1,6 +1,7 @@
 pub mod Walking
 pub mod Names
 pub mod Parts
+pub mod Clashing
 pub mod Replacing
 pub mod Occurring
 pub mod Renaming

@@ -21,7 +21,7 @@ pub(crate) fn first_fit(outer: &Term, inner: &Term) -> Option<u32>
 }
 
 /// Whether a symbol stands at the place, and the part there has the same symbols as the inner side where both have one. It
-/// takes no memory.
+/// takes no memory. Most places fail at their first symbol, so that one is looked at before the part's end is sought.
 pub(crate) fn fits_at(outer: &[Node], place: usize, inner: &[Node]) -> bool
     requires whole_outer { IsWhole outer.now }
     requires whole_inner { IsWhole inner.now }
@@ -33,7 +33,12 @@ pub(crate) fn fits_at(outer: &[Node], place: usize, inner: &[Node]) -> bool
 {
     match outer[place] {
         Node::Var(_) => false,
-        Node::App(_, _) => fits(&outer[place..end_of(outer, place)], inner),
+        Node::App(f, n) => {
+            if is_other_head(inner[0], f, n) {
+                return false;
+            }
+            fits(&outer[place..end_of(outer, place)], inner)
+        }
     }
 }
 
@@ -82,6 +87,19 @@ fn next_places(s: &[Node], t: &[Node], p: usize, q: usize) -> Option<(usize, usi
                 None
             }
         }
+    }
+}
+
+/// Whether the node is another symbol than this one with this number of arguments.
+#[inline]
+fn is_other_head(node: Node, f: Sym, n: u32) -> bool
+    ensures not_var { IsTrue result → (x : ℕ) → node ≡ Node.Var x → ⊥ }
+    ensures not_head { IsTrue result → node ≡ Node.App f n → ⊥ }
+{
+    if let Node::App(g, m) = node {
+        g != f || m != n
+    } else {
+        false
     }
 }
 
