@@ -1,5 +1,5 @@
 #!/usr/bin/env bash
-# How much faster `prove` ends with more workers: three problems, with 1, 2 and 4 workers in turn, in seconds of the clock, and how
+# How much faster `prove` ends with more workers: four problems, with 1, 2 and 4 workers in turn, in seconds of the clock, and how
 # many times faster than with one worker. The ratios mean something only where nothing else uses the processors: beside each time
 # stands how many processors the run had (its processor seconds for each second of the clock), and processor seconds themselves,
 # which tell what more workers cost in all. Then, looked at each fiftieth of a second, how many of the workers could run and how many
@@ -22,12 +22,14 @@ search() {
         read -r seconds used < <(timed "$program" prove --workers "$workers" "$@" "$problem" || true)
         one=${one:-$seconds}
         awk -v problem="$problem" -v options="$*" -v workers="$workers" -v t="$seconds" -v used="$used" -v one="$one" -v status="$(awk 'NR == 1 { print $4 }' "$folder/answer")" '
-            BEGIN { printf "%s %s, %d workers: %s in %.1f s, %.2f times as fast, with %.2f processors, %.1f processor seconds\n", problem, options, workers, status, t, one / t, used / t, used }'
+            BEGIN { sub(".*/tmp[^/]*/", "", problem); printf "%s %s, %d workers: %s in %.1f s, %.2f times as fast, with %.2f processors, %.1f processor seconds\n", problem, options, workers, status, t, one / t, used / t, used }'
     done
 }
 search examples/group-not-commutative.p --budget 65000
 search examples/harder/ring-derivation.p --budget 15000 --pairs 8000000
 search bench/beside/ac.p --budget 12000 --pairs 8000000
+python3 bench/dihedral.py 40 >"$folder/dihedral-40.p"
+search "$folder/dihedral-40.p" --budget 1000000 --pairs 8000000
 runnable() {
     python3 - "$@" <<'END'
 import collections, os, subprocess, sys, time
