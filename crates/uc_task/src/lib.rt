@@ -15,6 +15,7 @@ mod join;
 mod live;
 mod meet;
 mod numbering;
+mod of_fact;
 mod pair;
 mod reducing;
 mod trial;

@@ -76,7 +76,7 @@ fn is_reduced_by<O: Order>(
     if fact.number == number {
         return Ok(false);
     }
-    reduces(alloc, fact.equation, own, order)
+    reduces(alloc, fact.number, fact.equation, own, order)
 }
 
 /// The earlier facts of the list that the equation of this number reduces.
@@ -110,7 +110,7 @@ fn add_kill<O: Order>(
     if fact.number >= number {
         return Ok(());
     }
-    if !reduces(alloc, own, fact.equation, order)? {
+    if !reduces(alloc, number, own, fact.equation, order)? {
         return Ok(());
     }
     list.push(fact.number)?;

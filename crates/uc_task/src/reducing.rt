@@ -4,6 +4,7 @@ ghost use Rattle.std.specs.Prelude.{◌↔◌, IsTrue, IfOk};
 ghost use Rattle.uc_machine.specs.Results.{Reduces, StepsIn};
 ghost use Rattle.uc_task.specs.Reducing.{HasInstance, Gives};
 
+use crate::of_fact::OfFact;
 use std::alloc::{AllocError, Global};
 use std::slice::from_ref;
 use uc_fact::Equation;
@@ -12,34 +13,38 @@ use uc_rewrite::{Scan, is_reducible};
 use uc_term::Term;
 use uc_unify::matches_both;
 
-/// Whether an equation makes an ordered step in a side of another one, or has it as an instance, either way round.
+/// Whether the equation of a fact makes an ordered step in a side of another one, or has it as an instance, either way round.
+/// By the fact's number the order is asked how the two sides of its equation compare; the answer is the same for each number.
 pub fn reduces<O: Order>(
     alloc: Global,
+    number: u32,
     equation: &Equation,
     other: &Equation,
     order: &O,
 ) -> Result<bool, AllocError>
     ensures { IfOk result (λ answer. IsTrue answer ↔ Reduces (O.meaning order.now) equation.now other.now) }
 {
-    if steps_in(alloc, equation, &other.left, order)? {
+    if steps_in(alloc, number, equation, &other.left, order)? {
         return Ok(true);
     }
-    if steps_in(alloc, equation, &other.right, order)? {
+    if steps_in(alloc, number, equation, &other.right, order)? {
         return Ok(true);
     }
     has_instance(alloc, equation, other)
 }
 
-/// Whether an equation makes an ordered step in a term.
+/// Whether the equation of a fact makes an ordered step in a term.
 fn steps_in<O: Order>(
     alloc: Global,
+    number: u32,
     equation: &Equation,
     term: &Term,
     order: &O,
 ) -> Result<bool, AllocError>
     ensures { IfOk result (λ answer. IsTrue answer ↔ StepsIn (O.meaning order.now) equation.now term.now) }
 {
-    if is_reducible(alloc, term, &Scan::new(from_ref(equation)), order)? {
+    let order = OfFact { order, number };
+    if is_reducible(alloc, term, &Scan::new(from_ref(equation)), &order)? {
         Ok(true)
     } else {
         Ok(false)
