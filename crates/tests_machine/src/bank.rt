@@ -60,6 +60,9 @@ const GOAL: Sides = (b"aff", b"a");
 // f(f(a)) = b, f(f(b)) = a
 const GOALS: &[Sides] = &[(b"aff", b"b"), (b"bff", b"a")];
 
+// f(f(a)) = b, which doesn't follow
+const APART: Sides = (b"aff", b"b");
+
 // m(X, Y) = m(Y, X)
 const COMMUTES: Sides = (b"y", b"z");
 
@@ -150,6 +153,56 @@ fn knows_sides<R: Wait>(
     let second = compute_in(alloc, &mut bank, &next, problem)?;
     let is_told = start < middle && middle == order.calls();
     Ok(is_told && is_goal(&task, 0) && is_goal(&next, 1) && !are_same(&first, &second))
+}
+
+// Facts that meet are tried on one another by what is remembered of their sides: where a meeting is computed twice with one bank,
+// the second time nothing is compared.
+#[test]
+fn a_bank_remembers_sides_that_meet(rt: HostRuntime) -> Result<(), Fail> {
+    let at = set_up(rt.alloc(), AXIOMS, &[APART])?;
+    let order = order_that_counts(rt.alloc())?;
+    assert!(rt; knows_meetings(&rt, rt.alloc(), &at, &order, 6)?);
+    Ok(())
+}
+
+// Whether that is so of the meeting of fact 1, which comes after so many turns.
+fn knows_meetings<R: Wait>(
+    rt: &R,
+    alloc: Global,
+    at: &Setting,
+    order: &Counting,
+    before: u32,
+) -> Result<bool, Fail> {
+    let (problem, shelf) = (&at.problem, &at.shelf);
+    let mut book = Book::start(alloc, problem, order, shelf, 9, 9)?;
+    let mut pass = book.enroll(alloc, 0)?;
+    turns(
+        rt, alloc, problem, order, shelf, &mut book, &mut pass, before,
+    )?;
+    let Drawn::Task(task) = book.draw(alloc, &mut pass)? else {
+        return Err(Fail::from("no task"));
+    };
+    let mut bank = Bank::new(alloc, shelf, order);
+    let start = order.calls();
+    let first = compute_in(alloc, &mut bank, &task, problem)?;
+    let middle = order.calls();
+    let second = compute_in(alloc, &mut bank, &task, problem)?;
+    let is_told = start < middle && middle == order.calls();
+    Ok(is_told && is_meeting(&task, 1) && met(&first) && met(&second))
+}
+
+fn met(done: &Done) -> bool {
+    match done.found {
+        Finding::Met { .. } => true,
+        _ => false,
+    }
+}
+
+fn is_meeting(task: &Task, number: u32) -> bool {
+    match task.job {
+        Job::Meet(fact) => fact == number,
+        _ => false,
+    }
 }
 
 fn is_goal(task: &Task, number: u32) -> bool {
