@@ -1,18 +1,16 @@
 -- Tasks that are given: what the parts need for it, and that it is a draw.
-use Rattle.std.proofs.Common.{◌≡◌, ℕ, ◌+◌, ◌<◌, ◌≤◌, ◌^◌, List, length, Bool, true, Option, Some, None, refl, ap, sym, ◌∙◌, arith, subst}
-use Rattle.std.specs.Prelude.{Result, Ok, Err, IfOk, MatchOption, nat_lt, Vec, vec_len, vec_capacity}
-use Rattle.std.proofs.lemmas.Bool.{lt-ltb, ltb-true}
+use Rattle.std.proofs.Common.{◌≡◌, ℕ, ◌+◌, ◌<◌, ◌≤◌, ◌^◌, List, length, Option, Some, None, refl, ap, sym, ◌∙◌, arith, subst}
+use Rattle.std.specs.Prelude.{Vec, vec_len, vec_capacity}
 use Rattle.std.specs.declared.alloc.Global.{Global}
 use Rattle.boxcar.specs.Table.{Shelves}
 use Rattle.uc_term.specs.Tree.{Tree}
-use Rattle.uc_shelf.specs.Fronts.{IsOf}
 use Rattle.uc_shelf.specs.Sights.{Sight}
 use Rattle.uc_shelf.specs.declared.entry.Entry.{Entry}
 use Rattle.uc_machine.specs.declared.task.Job.{Job}
 use Rattle.uc_machine.specs.declared.task.Job.TheVariants.{Goal, More, Meet}
 use Rattle.uc_machine.specs.declared.state.Meeting.{Meeting}
-use Rattle.uc_machine.specs.Lists.{Each, At, map_option}
-use Rattle.uc_machine.specs.State.{Opening, State, Target, first_due, first_unmet, first_continued, queue}
+use Rattle.uc_machine.specs.Lists.{At, first, map_option}
+use Rattle.uc_machine.specs.State.{Opening, State, Target, first_due, first_unmet, first_continued, is_continued, queue}
 use Rattle.uc_machine.specs.Effects.{hands_out, next_ticket}
 use Rattle.uc_machine.specs.Draws.{Drew, Draws, NoneDue, NoneUnmet, HasBudget}
 use Rattle.uc_book.specs.declared.answer.Drawn.TheVariants.{Task as DrawnTask}
@@ -21,9 +19,7 @@ use Rattle.uc_rows.specs.declared.tasks.TaskRow.{TaskRow}
 use Rattle.uc_book.specs.declared.token.Task.{Task}
 use Rattle.uc_book.specs.Openings.{Opened}
 use Rattle.uc_machine.specs.declared.state.Numbers.{Numbers}
-use Rattle.uc_rows.specs.RowViews.{FactsView}
 use Rattle.uc_rows.specs.Bounds.{AreSmall}
-use Rattle.uc_rows.specs.TaskRows.{HasFront}
 use Rattle.uc_book.specs.Answers.{reply_of}
 use Rattle.uc_book.specs.Parts.{state_of, closings, Fit, IsAtHead, IsSteady}
 use Rattle.uc_book.specs.Drawing.{HasRoomToGive, CanGive}
@@ -50,14 +46,16 @@ more_at_head p found jobs a = subst (IsAtHead p) (sym a.one) tt
 pub same_jobs : (kind : ℕ → Tree → Tree → Job) (found : Option (At Target)) (jobs : Job × Job) → AreJobs kind found jobs → jobs.1 ≡ jobs.0
 same_jobs kind found jobs a = a.other ∙ sym a.one
 
--- a continued goal is there for a later draw where the budget allows one
-pub more_later : (o : Opening) (s u : State) (b : Bool) (more : Option (Job × Job)) → b ≡ nat_lt (s.counted + s.reserved) o.budget → u.counted ≡ s.counted → u.reserved ≡ s.reserved → first_continued u ≡ first_continued s
-    → MatchOption more (b ≡ true → first_continued s ≡ None) (λ jobs. (b ≡ true) × AreJobs More (first_continued s) jobs)
-    → MatchOption more (HasBudget o u → first_continued u ≡ None) (λ jobs. HasBudget o u × AreJobs More (first_continued u) jobs)
-more_later o s u b None e c r f h = λ l. (let k : s.counted + s.reserved < o.budget = omega arith in f ∙ h (e ∙ lt-ltb (s.counted + s.reserved) o.budget k))
-more_later o s u b (Some jobs) e c r f h =
-    let k : s.counted + s.reserved < o.budget = ltb-true (s.counted + s.reserved) o.budget (sym e ∙ h.0) in
-    (omega arith, subst (λ (found : Option (At Target)). AreJobs More found jobs) (sym f) h.1)
+-- a unit may be drawn after orphans were dropped, and the goal to go on with is the same
+pub budget_after : (o : Opening) (p q : Parts) → SameOthers p q → HasBudget o (state_of p) → HasBudget o (state_of q)
+budget_after o p q s l =
+    let c : q.counted ≡ p.counted = s.counted in
+    let r : q.reserved ≡ p.reserved = s.reserved in
+    let k : p.counted + p.reserved < o.budget = l in
+    omega arith
+
+pub more_after : (p q : Parts) (jobs : Job × Job) → SameOthers p q → AreJobs More (first_continued (state_of p)) jobs → AreJobs More (first_continued (state_of q)) jobs
+more_after p q jobs s a = subst (λ (gs : List Target). AreJobs More (first (λ (g : Target). is_continued g.stage) gs) jobs) (sym s.goals) a
 
 -- a task may be given after orphans were dropped
 pub dropped_give : (shelf : Shelves) (o : Opening) (p q : Parts) → CanGive shelf o p → HasRoomToGive q → SameOthers p q → p.pairs.spare ≤ q.pairs.spare → next_ticket (state_of q) ≡ next_ticket (state_of p) → CanGive shelf o q
@@ -100,9 +98,3 @@ module _ (shelf : Shelves) (o : Opening) (w : ℕ) (p q r : Parts) (t : Task) (o
 
   pub unmet_given : (i : ℕ) → NoneDue (state_of q) → Some i ≡ map_option (λ (x : At Meeting). x.number) (first_unmet (state_of q)) → t ≡ record { ticket = q.next; job = Meet i; front = q.facts.front; opening = of } → state_of r ≡ hands_out w (Meet i) (state_of q) → Draws o w (state_of p) (reply_of w (DrawnTask t)) (state_of r)
   unmet_given i due a e h = given_by (Meet i) e (unmet_drawn o w (state_of p) q.next i (state_of r) (subst NoneDue s.state due) (subst (λ (x : State). Some i ≡ map_option (λ (y : At Meeting). y.number) (first_unmet x)) s.state a) (s.next ∙ f.next) (h ∙ ap (λ (x : State). hands_out w (Meet i) x) s.state))
-
--- jobs that were found where the budget allows one
-pub jobs_if : {E : Type 0} (b : Bool) (found : Option (At Target)) (r : Result (Option (Job × Job)) E) → b ≡ true → IfOk r (λ o. MatchOption o (found ≡ None) (AreJobs More found)) → IfOk r (λ o. MatchOption o (b ≡ true → found ≡ None) (λ jobs. (b ≡ true) × AreJobs More found jobs))
-jobs_if b found (Err e) t h = h
-jobs_if b found (Ok None) t h = λ _. h
-jobs_if b found (Ok (Some jobs)) t h = (t, h)

@@ -6,9 +6,9 @@ use Rattle.std.proofs.lemmas.List.{length-map}
 use Rattle.uc_fact.specs.declared.fact.Origin.{Origin}
 use Rattle.uc_machine.specs.declared.event.Verdict.TheVariants.{BudgetOut}
 use Rattle.uc_machine.specs.Lists.{At, map_option}
-use Rattle.uc_machine.specs.State.{Opening, State, Target, first_continued, peek}
+use Rattle.uc_machine.specs.State.{Opening, State, Target, first_continued, peek, orphan_at}
 use Rattle.uc_machine.specs.Effects.{closes}
-use Rattle.uc_machine.specs.Draws.{Idle, Drained, Closed, Draws, IsLate, Waits, goal_waits, pair_waits, NothingWaits, IsSpent, budget_is_out, budget_is_spent, all_is_out, all_is_done}
+use Rattle.uc_machine.specs.Draws.{Idle, Drained, Closed, Draws, NoneUnmet, IsLate, Waits, goal_waits, pair_waits, NothingWaits, IsSpent, budget_is_out, budget_is_spent, all_is_out, all_is_done}
 use Rattle.uc_book.specs.declared.parts.Parts.{Parts}
 use Rattle.uc_rows.specs.declared.tasks.TaskRow.{TaskRow}
 use Rattle.uc_rows.specs.TaskRows.{out_of}
@@ -38,6 +38,14 @@ head_found_waits p (Some x) b h q t = pair_waits h.place h.is
 pub none_at_head : (p : Parts) (r : Option (ℕ × Origin)) (b : Bool) → MatchOption r (head_in p.pairs ≡ None) (λ h. IsHead p.pairs h.0 h.1) → b ≡ is_some r → b ≡ false → peek (state_of p) ≡ None
 none_at_head p None b h q f = h
 none_at_head p (Some x) b h q f = absurd (false≢true (sym f ∙ q))
+
+-- none was found there, and so no orphan
+pub no_head : (p : Parts) (r : Option (ℕ × Origin)) (b : Bool) → MatchOption r (head_in p.pairs ≡ None) (λ h. IsHead p.pairs h.0 h.1) → is_some r ≡ not b → b ≡ true → peek (state_of p) ≡ None
+no_head p None b h q t = h
+no_head p (Some x) b h q t = absurd (false≢true (sym (q ∙ ap not t)))
+
+pub late_by : (s : State) → NoneUnmet s → peek s ≡ None → IsLate s
+late_by s met none = record { none_unmet = met; no_orphan = ap (orphan_at s) none }
 
 -- as many tasks are out as the list has
 some_out : (ts : List TaskRow) → (length ts ≡ 0 → ⊥) → map out_of ts ≢ []

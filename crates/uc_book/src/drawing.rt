@@ -1,9 +1,8 @@
 //! Draws: the first of the rules that holds gives the answer.
 
-ghost use Rattle.std.specs.Prelude.{◌≡◌, ◌≢◌, ℕ, ◌+◌, ◌<◌, ◌≤◌, ◌^◌, [], true, false, IsTrue, length, IfOk, OnOk, OnErr, MatchOption, None, vec_len, vec_capacity};
+ghost use Rattle.std.specs.Prelude.{◌≡◌, ◌≢◌, ℕ, ◌+◌, ◌<◌, ◌≤◌, ◌^◌, [], false, IsTrue, length, IfOk, OnOk, OnErr, MatchOption, None, vec_len, vec_capacity};
 ghost use Rattle.uc_machine.specs.declared.task.Job.TheVariants.{More};
-ghost use Rattle.uc_machine.specs.Lists.{first};
-ghost use Rattle.uc_machine.specs.State.{Opening, State, Target, is_continued, first_continued, queue};
+ghost use Rattle.uc_machine.specs.State.{Opening, State, first_continued, queue};
 ghost use Rattle.uc_machine.specs.Effects.{hands_out, next_ticket};
 ghost use Rattle.uc_machine.specs.Draws.{Reply, Draws, NoneDue, NoneUnmet, IsLate, HasBudget, IsSpent, Waits, NothingWaits};
 ghost use Rattle.uc_book.specs.Openings.{opening_of};
@@ -19,24 +18,8 @@ use crate::parts::Parts;
 use crate::token::Task;
 use std::alloc::{AllocError, Global};
 use uc_machine::{Job, Verdict};
-use uc_rows::{Goals, TaskRow};
+use uc_rows::TaskRow;
 use uc_shelf::Front;
-
-/// The job to go on with the least goal that is Continued, twice, where a unit may be drawn.
-fn more_jobs(
-    alloc: Global,
-    goals: &mut Goals,
-    has_budget: bool,
-) -> Result<Option<(Job, Job)>, AllocError>
-    ensures jobs { IfOk result (λ o. MatchOption o (has_budget ≡ true → first (λ (g : Target). is_continued g.stage) goals.old ≡ None) (λ jobs. (has_budget ≡ true) × AreJobs More (first (λ (g : Target). is_continued g.stage) goals.old) jobs)) }
-    ensures same { goals.new ≡ goals.old }
-{
-    if has_budget {
-        goals.continued_jobs(alloc)
-    } else {
-        Ok(None)
-    }
-}
 
 impl Parts {
     /// What comes next for a worker. It takes its memory first: refused, it changes nothing.
@@ -81,10 +64,12 @@ impl Parts {
         ensures room { HasRoom self.new }
     {
         self.make_room()?;
-        let fronts = self.copy_fronts(alloc)?;
         match self.goals.due_jobs(alloc)? {
-            Some(jobs) => Ok(Drawn::Task(self.give(worker, opening, fronts, jobs))),
-            None => self.draw_fact(alloc, opening, worker, fronts),
+            Some(jobs) => {
+                let fronts = self.copy_fronts(alloc)?;
+                Ok(Drawn::Task(self.give(worker, opening, fronts, jobs)))
+            }
+            None => self.draw_fact(alloc, opening, worker),
         }
     }
 
@@ -94,13 +79,10 @@ impl Parts {
         alloc: Global,
         opening: Opened,
         worker: u32,
-        fronts: (Front, Front),
     ) -> Result<Drawn, AllocError>
         requires due { NoneDue (state_of self.old) }
         requires can { CanGive opening.shelf (opening_of opening) self.old }
         requires events { HasRoomToGive self.old }
-        requires front { fronts.0 ≡ self.old.facts.front }
-        requires kept { fronts.1 ≡ self.old.facts.front }
         ensures drawn { IfOk result (λ d. Draws (opening_of opening) worker (state_of self.old) (reply_of worker d) (state_of self.new)) }
         ensures task { IfOk result (λ d. IfTask d (λ t. (t.opening ≡ opening) × (t.front ≡ self.old.facts.front))) }
         ensures err { OnErr result (state_of self.new ≡ state_of self.old) }
@@ -110,26 +92,24 @@ impl Parts {
     {
         match self.facts.first_unmet() {
             Some(fact) => {
+                let fronts = self.copy_fronts(alloc)?;
                 let jobs = (Job::Meet(fact), Job::Meet(fact));
                 Ok(Drawn::Task(self.give(worker, opening, fronts, jobs)))
             }
-            None => self.draw_behind(alloc, opening, worker, fronts),
+            None => self.draw_behind(alloc, opening, worker),
         }
     }
 
-    /// Where no fact is Unmet either: orphans leave the queue, and then the last rules give the answer.
+    /// Where no fact is Unmet either: what the last rules give, where a unit may be drawn and where none may.
     fn draw_behind(
         &mut self,
         alloc: Global,
         opening: Opened,
         worker: u32,
-        fronts: (Front, Front),
     ) -> Result<Drawn, AllocError>
         requires met { NoneUnmet (state_of self.old) }
         requires can { CanGive opening.shelf (opening_of opening) self.old }
         requires events { HasRoomToGive self.old }
-        requires front { fronts.0 ≡ self.old.facts.front }
-        requires kept { fronts.1 ≡ self.old.facts.front }
         ensures drawn { IfOk result (λ d. Draws (opening_of opening) worker (state_of self.old) (reply_of worker d) (state_of self.new)) }
         ensures task { IfOk result (λ d. IfTask d (λ t. (t.opening ≡ opening) × (t.front ≡ self.old.facts.front))) }
         ensures err { OnErr result (state_of self.new ≡ state_of self.old) }
@@ -137,10 +117,87 @@ impl Parts {
         ensures fit { Fit opening.shelf self.new }
         ensures room { HasRoom self.new }
     {
-        let has_budget = self.counted + self.reserved < opening.budget();
-        let more = more_jobs(alloc, &mut self.goals, has_budget)?;
+        if self.counted + self.reserved < opening.budget() {
+            return self.draw_within(alloc, opening, worker);
+        }
         self.drop_orphans(worker)?;
-        Ok(self.draw_late(worker, opening, fronts, more))
+        Ok(self.draw_without(worker, opening))
+    }
+
+    /// What comes next where a unit may be drawn: a goal that is Continued, else what the queue gives.
+    fn draw_within(
+        &mut self,
+        alloc: Global,
+        opening: Opened,
+        worker: u32,
+    ) -> Result<Drawn, AllocError>
+        requires met { NoneUnmet (state_of self.old) }
+        requires can { CanGive opening.shelf (opening_of opening) self.old }
+        requires events { HasRoomToGive self.old }
+        requires budget { HasBudget (opening_of opening) (state_of self.old) }
+        ensures drawn { IfOk result (λ d. Draws (opening_of opening) worker (state_of self.old) (reply_of worker d) (state_of self.new)) }
+        ensures task { IfOk result (λ d. IfTask d (λ t. (t.opening ≡ opening) × (t.front ≡ self.old.facts.front))) }
+        ensures err { OnErr result (state_of self.new ≡ state_of self.old) }
+        ensures front { self.new.facts.front ≡ self.old.facts.front }
+        ensures fit { Fit opening.shelf self.new }
+        ensures room { HasRoom self.new }
+    {
+        match self.goals.continued_jobs(alloc)? {
+            Some(jobs) => self.draw_more(alloc, opening, worker, jobs),
+            None => self.draw_queue(alloc, opening, worker),
+        }
+    }
+
+    /// The least goal that is Continued, once the orphans at the queue's head have left it.
+    fn draw_more(
+        &mut self,
+        alloc: Global,
+        opening: Opened,
+        worker: u32,
+        jobs: (Job, Job),
+    ) -> Result<Drawn, AllocError>
+        requires met { NoneUnmet (state_of self.old) }
+        requires can { CanGive opening.shelf (opening_of opening) self.old }
+        requires events { HasRoomToGive self.old }
+        requires budget { HasBudget (opening_of opening) (state_of self.old) }
+        requires jobs { AreJobs More (first_continued (state_of self.old)) jobs }
+        ensures drawn { IfOk result (λ d. Draws (opening_of opening) worker (state_of self.old) (reply_of worker d) (state_of self.new)) }
+        ensures task { IfOk result (λ d. IfTask d (λ t. (t.opening ≡ opening) × (t.front ≡ self.old.facts.front))) }
+        ensures err { OnErr result (state_of self.new ≡ state_of self.old) }
+        ensures front { self.new.facts.front ≡ self.old.facts.front }
+        ensures fit { Fit opening.shelf self.new }
+        ensures room { HasRoom self.new }
+    {
+        let fronts = self.copy_fronts(alloc)?;
+        self.drop_orphans(worker)?;
+        Ok(Drawn::Task(self.give(worker, opening, fronts, jobs)))
+    }
+
+    /// The pair at the queue's head, once the orphans there have left it; an empty queue has none.
+    fn draw_queue(
+        &mut self,
+        alloc: Global,
+        opening: Opened,
+        worker: u32,
+    ) -> Result<Drawn, AllocError>
+        requires met { NoneUnmet (state_of self.old) }
+        requires can { CanGive opening.shelf (opening_of opening) self.old }
+        requires events { HasRoomToGive self.old }
+        requires budget { HasBudget (opening_of opening) (state_of self.old) }
+        requires goal { first_continued (state_of self.old) ≡ None }
+        ensures drawn { IfOk result (λ d. Draws (opening_of opening) worker (state_of self.old) (reply_of worker d) (state_of self.new)) }
+        ensures task { IfOk result (λ d. IfTask d (λ t. (t.opening ≡ opening) × (t.front ≡ self.old.facts.front))) }
+        ensures err { OnErr result (state_of self.new ≡ state_of self.old) }
+        ensures front { self.new.facts.front ≡ self.old.facts.front }
+        ensures fit { Fit opening.shelf self.new }
+        ensures room { HasRoom self.new }
+    {
+        if self.pairs.head().is_none() {
+            return Ok(self.draw_nothing());
+        }
+        let fronts = self.copy_fronts(alloc)?;
+        self.drop_orphans(worker)?;
+        Ok(self.draw_pair(worker, opening, fronts))
     }
 
     /// Makes room for a task, and for the events of its draw, of its end and of a close, whatever waits.
@@ -198,47 +255,18 @@ impl Parts {
         }
     }
 
-    /// Rules 5 and 6: a goal that is Continued, else the pair at the queue's head, where a unit may be drawn.
-    fn draw_late(
-        &mut self,
-        worker: u32,
-        opening: Opened,
-        fronts: (Front, Front),
-        more: Option<(Job, Job)>,
-    ) -> Drawn
+    /// The last rules where no unit may be drawn: it is waited, a close, or nothing is left.
+    fn draw_without(&mut self, worker: u32, opening: Opened) -> Drawn
         requires late { IsLate (state_of self.old) }
-        requires can { CanGive opening.shelf (opening_of opening) self.old }
-        requires front { fronts.0 ≡ self.old.facts.front }
-        requires kept { fronts.1 ≡ self.old.facts.front }
-        requires more { MatchOption more (HasBudget (opening_of opening) (state_of self.old) → first_continued (state_of self.old) ≡ None) (λ jobs. HasBudget (opening_of opening) (state_of self.old) × AreJobs More (first_continued (state_of self.old)) jobs) }
+        requires fit { Fit opening.shelf self.old }
+        requires room { HasRoom self.old }
+        requires spent { IsSpent (opening_of opening) (state_of self.old) }
         ensures drawn { Draws (opening_of opening) worker (state_of self.old) (reply_of worker result) (state_of self.new) }
-        ensures task { IfTask result (λ t. (t.opening ≡ opening) × (t.front ≡ self.old.facts.front)) }
+        ensures task { IfTask result (λ _. ⊥) }
         ensures front { self.new.facts.front ≡ self.old.facts.front }
         ensures fit { Fit opening.shelf self.new }
         ensures room { HasRoom self.new }
     {
-        match more {
-            Some(jobs) => Drawn::Task(self.give(worker, opening, fronts, jobs)),
-            None => self.draw_last(worker, opening, fronts),
-        }
-    }
-
-    /// The pair at the queue's head, where a unit may be drawn; then no goal is Continued.
-    fn draw_last(&mut self, worker: u32, opening: Opened, fronts: (Front, Front)) -> Drawn
-        requires late { IsLate (state_of self.old) }
-        requires can { CanGive opening.shelf (opening_of opening) self.old }
-        requires front { fronts.0 ≡ self.old.facts.front }
-        requires kept { fronts.1 ≡ self.old.facts.front }
-        requires goal { HasBudget (opening_of opening) (state_of self.old) → first_continued (state_of self.old) ≡ None }
-        ensures drawn { Draws (opening_of opening) worker (state_of self.old) (reply_of worker result) (state_of self.new) }
-        ensures task { IfTask result (λ t. (t.opening ≡ opening) × (t.front ≡ self.old.facts.front)) }
-        ensures front { self.new.facts.front ≡ self.old.facts.front }
-        ensures fit { Fit opening.shelf self.new }
-        ensures room { HasRoom self.new }
-    {
-        if self.counted + self.reserved < opening.budget() {
-            return self.draw_pair(worker, opening, fronts);
-        }
         if self.has_waiting() {
             return self.draw_spent(worker);
         }

@@ -6,7 +6,6 @@ use Rattle.uc_machine.specs.declared.state.Meeting.{Meeting}
 use Rattle.uc_machine.specs.Lists.{At, map_option}
 use Rattle.uc_machine.specs.State.{State, first_unmet}
 use Rattle.uc_book.specs.declared.parts.Parts.{Parts}
-use Rattle.uc_book.specs.declared.token.Task.{Task}
 use Rattle.uc_book.specs.Openings.{opening_of}
 use Rattle.uc_rows.specs.RowViews.{FactsView}
 use Rattle.uc_book.specs.Parts.{state_of, IsSteady}
@@ -20,19 +19,13 @@ give-requires-clause-can c =
     let q : Parts = record c.args.self.now { facts = c.first_unmet.new.self } in
     steady_give c.args.opening.shelf (opening_of c.args.opening) c.args.self.now q (steady_self c.args.self.now c.first_unmet.new.self c.first_unmet.ensures.same) c.requires.can.sound c.requires.can.fit c.requires.can.room (give_on c.args.self.now q refl refl c.requires.events)
 
-pub returns-in-Some-clause-drawn : goal.returns-in-Some-clause-drawn
-returns-in-Some-clause-drawn c =
+pub returns-in_ok-fronts-in-Some-clause-drawn : goal.returns-in_ok-fronts-in-Some-clause-drawn
+returns-in_ok-fronts-in-Some-clause-drawn c =
     let p = c.args.self.now in
     let q : Parts = record p { facts = c.first_unmet.new.self } in
     let s : IsSteady p q = steady_self p c.first_unmet.new.self c.first_unmet.ensures.same in
     let found : Some c.in-Some.fact ≡ map_option (λ (f : At Meeting). f.number) (first_unmet (state_of q)) = sym c.in-Some.is ∙ c.first_unmet.ensures.found ∙ ap (λ (x : State). map_option (λ (f : At Meeting). f.number) (first_unmet x)) (sym s.state) in
     unmet_given c.args.opening.shelf (opening_of c.args.opening) c.args.worker p q c.give.new.self c.give.result c.args.opening s c.requires.can.fit c.in-Some.fact (subst NoneDue (sym s.state) c.requires.due) found c.give.ensures.task c.give.ensures.state
-
-pub returns-in-Some-clause-task : goal.returns-in-Some-clause-task
-returns-in-Some-clause-task c = (ap (λ (t : Task). t.opening) c.give.ensures.task, ap (λ (t : Task). t.front) c.give.ensures.task ∙ ap (λ (f : FactsView). f.front) c.first_unmet.ensures.same)
-
-pub returns-in-Some-clause-front : goal.returns-in-Some-clause-front
-returns-in-Some-clause-front c = c.give.ensures.front ∙ ap (λ (f : FactsView). f.front) c.first_unmet.ensures.same
 
 pub draw_behind-requires-clause-met : goal.draw_behind-requires-clause-met
 draw_behind-requires-clause-met c =

@@ -3,7 +3,6 @@ use Rattle.std.specs.Prelude.{IfOk, OnErr}
 use Rattle.uc_shelf.specs.Sights.{Sight}
 use Rattle.uc_machine.specs.Draws.{Draws}
 use Rattle.uc_machine.specs.declared.task.Job.TheVariants.{Goal}
-use Rattle.uc_book.specs.declared.token.Task.{Task}
 use Rattle.uc_book.specs.Answers.{reply_of, IfTask}
 use Rattle.uc_machine.specs.Lists.{first}
 use Rattle.uc_machine.specs.State.{State, Target, is_due}
@@ -26,18 +25,6 @@ returns-in_err-make_room-clause-fit c = steady_fit c.args.opening.shelf c.args.s
 
 pub returns-in_err-make_room-clause-room : goal.returns-in_err-make_room-clause-room
 returns-in_err-make_room-clause-room c = steady_room c.args.self.now c.make_room.new.self c.make_room.ensures.steady c.requires.room
-
-pub returns-in_err-fronts-clause-err : goal.returns-in_err-fronts-clause-err
-returns-in_err-fronts-clause-err c = on_err c.from_residual-in_err-fronts.result c.make_room.ensures.steady.state
-
-pub returns-in_err-fronts-clause-front : goal.returns-in_err-fronts-clause-front
-returns-in_err-fronts-clause-front c = c.make_room.ensures.steady.front
-
-pub returns-in_err-fronts-clause-fit : goal.returns-in_err-fronts-clause-fit
-returns-in_err-fronts-clause-fit c = steady_fit c.args.opening.shelf c.args.self.now c.make_room.new.self c.make_room.ensures.steady c.requires.fit
-
-pub returns-in_err-fronts-clause-room : goal.returns-in_err-fronts-clause-room
-returns-in_err-fronts-clause-room c = steady_room c.args.self.now c.make_room.new.self c.make_room.ensures.steady c.requires.room
 
 pub returns-in_err-jobs-clause-err : goal.returns-in_err-jobs-clause-err
 returns-in_err-jobs-clause-err c =
@@ -70,8 +57,8 @@ give-requires-clause-jobs c = (let a = rw c.in-Some.is at c.in_ok-jobs.ensures.j
 pub give-requires-clause-head : goal.give-requires-clause-head
 give-requires-clause-head c = (let a = rw c.in-Some.is at c.in_ok-jobs.ensures.jobs in let q : Parts = record c.make_room.new.self { goals = c.due_jobs.new.self } in goal_at_head q (first (λ (g : Target). is_due g.stage) c.make_room.new.self.goals) c.in-Some.jobs a)
 
-pub returns-in-Some-clause-drawn : goal.returns-in-Some-clause-drawn
-returns-in-Some-clause-drawn c =
+pub returns-in_ok-fronts-in-Some-clause-drawn : goal.returns-in_ok-fronts-in-Some-clause-drawn
+returns-in_ok-fronts-in-Some-clause-drawn c =
     let q : Parts = record c.make_room.new.self { goals = c.due_jobs.new.self } in
     let a = rw c.in-Some.is at c.in_ok-jobs.ensures.jobs in
     due_given c.args.opening.shelf (opening_of c.args.opening) c.args.worker c.args.self.now q c.give.new.self c.give.result c.args.opening
@@ -93,12 +80,6 @@ draw_fact-requires-clause-can c =
 
 pub draw_fact-requires-clause-events : goal.draw_fact-requires-clause-events
 draw_fact-requires-clause-events c = give_on c.make_room.new.self (record c.make_room.new.self { goals = c.due_jobs.new.self }) refl refl c.in_ok-make_room.ensures.room
-
-pub returns-in-Some-clause-task : goal.returns-in-Some-clause-task
-returns-in-Some-clause-task c = (ap (λ (t : Task). t.opening) c.give.ensures.task, ap (λ (t : Task). t.front) c.give.ensures.task ∙ c.make_room.ensures.steady.front)
-
-pub returns-in-Some-clause-front : goal.returns-in-Some-clause-front
-returns-in-Some-clause-front c = c.give.ensures.front ∙ c.make_room.ensures.steady.front
 
 pub returns-in-None-clause-drawn : goal.returns-in-None-clause-drawn
 returns-in-None-clause-drawn c =
