@@ -5,8 +5,6 @@
 #[cfg(test)]
 mod alphabet;
 #[cfg(test)]
-mod bank;
-#[cfg(test)]
 mod books;
 #[cfg(test)]
 mod fronts;
