@@ -2,55 +2,22 @@
 use Rattle.std.proofs.Common.{◌≡◌, ℕ, ◌+◌, ◌<◌, ◌≤◌, Option, Some, None, sym, ap, ap₂, ◌∙◌, subst, arith, ◌⊎◌, inl, inr}
 use Rattle.uc_term.specs.Tree.{Tree, var, app, Trees, none, more, nodes, nodes_all, apply, apply_all, subterm, put}
 use Rattle.uc_term.specs.Variables.{IsApp}
-use Rattle.uc_term.proofs.Terms.{nodes_pos}
 use Rattle.uc_unify.specs.Unifiers.{IsMostGeneral, HasNoUnifier, IsTooLarge as IsTooLargeUnifier}
 use Rattle.uc_order.specs.Laws.{Meaning, Laws}
 use Rattle.uc_fact.specs.Live.{Rule}
 use Rattle.uc_pair.specs.declared.formed.Size.{Size}
 use Rattle.uc_pair.specs.declared.formed.Size.TheVariants.{Weight, Same, Large}
 use Rattle.uc_pair.specs.declared.instances.RenamedApart.{RenamedApart}
-use Rattle.uc_pair.specs.declared.instances.Placed.{Placed}
 use Rattle.uc_pair.specs.Fitting.{HasNoFit}
 use Rattle.uc_pair.specs.Overlapping.{shifted, IsBelow, Overlapping, IsApart, peak, left_of, inner_from, inner_to, right_of, IsLarge, IsSmall, IsTooLarge, Fits, HasSize, is_large, is_same, is_weight}
 use Rattle.uc_pair.specs.Listing.{AtMost, by_instances, by_sides, LeadsUp, outer_up, inner_up, NeverDown, IsRepeated, at_variable, no_unifier, repeats, leads_up, is_listed}
 use Rattle.uc_pair.specs.declared.formation.Formation.TheVariants.{TooLarge as NoPair}
 use Rattle.uc_pair.specs.Pairs.{IsFormation, forms_none}
-use Rattle.uc_pair.specs.Reading.{renamed, AreApart}
-use Rattle.uc_pair.specs.Judging.{IsInstance, IsReplacedBy, IsReplaced, IsSizeOf, AreAtMost, IsJudged, LeadDown, StaysUp, outer_stays, inner_stays, IsSizeBy, IsJudgedBy}
+use Rattle.uc_pair.specs.Reading.{renamed, AreApart, AreRenamed}
+use Rattle.uc_pair.specs.Judging.{StaysAt, IsJudged, LeadDown, StaysUp, outer_stays, inner_stays, IsSizeBy, IsJudgedBy}
 use Rattle.uc_pair.proofs.Renaming.{apply-renamed, subterm-renamed, put-renamed, moved, most_general_back, no_unifier_back, Alike, alike}
 use Rattle.uc_pair.proofs.Names.{renamed_nodes}
-use Rattle.uc_pair.proofs.Replacing.{nodes-subterm}
-
--- what the compared instances say
-module _ (Greater : Tree → Tree → Type 0) (σ : ℕ → Tree) (s t : Tree) where
-  pub at_most_small : (u v : Option Tree) → IsInstance σ s u → IsInstance σ t v → AreAtMost Greater u v → IsSmall (apply σ s) × IsSmall (apply σ t) × AtMost Greater (apply σ s) (apply σ t)
-  at_most_small None v i j m = absurd m
-  at_most_small (Some u) None i j m = absurd m
-  at_most_small (Some u) (Some v) i j m = (i.1, j.1, subst (λ b. AtMost Greater (apply σ s) b) j.0 (subst (λ a. AtMost Greater a v) i.0 m))
-
-  pub not_at_most : (u v : Option Tree) → IsInstance σ s u → IsInstance σ t v → (AreAtMost Greater u v → ⊥) → IsSmall (apply σ s) → IsSmall (apply σ t) → AtMost Greater (apply σ s) (apply σ t) → ⊥
-  not_at_most None v i j n a b m = absurd (omega arith)
-  not_at_most (Some u) None i j n a b m = absurd (omega arith)
-  not_at_most (Some u) (Some v) i j n a b m = n (subst (λ y. AtMost Greater u y) (sym j.0) (subst (λ x. AtMost Greater x (apply σ t)) (sym i.0) m))
-
-pub size_by : (σ : ℕ → Tree) (t l v : Tree) (place : ℕ) (placed : Placed) (size : Size) → IsReplacedBy σ t place v placed → IsSizeOf (apply σ l) placed.term size → IsSizeBy (apply σ t) (apply σ l) (apply σ (put t place v)) size
-size_by σ t l v place placed Large r i = inr (inl i)
-size_by σ t l v place placed Same r i = (r.whole_small, i.0, r.small, i.1 ∙ r.term_is)
-size_by σ t l v place placed (Weight w) r i = (r.whole_small, i.0, r.small, (λ e. i.1 (e ∙ sym r.term_is)), i.2 ∙ ap (λ u. nodes (apply σ l) + nodes u) r.term_is)
-
-pub size_none : (σ : ℕ → Tree) (t l v : Tree) (place : ℕ) → IsReplaced σ t place v None → IsSizeBy (apply σ t) (apply σ l) (apply σ (put t place v)) Large
-size_none σ t l v place (inl a) = inl a
-size_none σ t l v place (inr b) = inr (inr b)
-
--- an instance is no smaller
-mutual
-  nodes-instance : (σ : ℕ → Tree) (t : Tree) → nodes t ≤ nodes (apply σ t)
-  nodes-instance σ (var x) = omega (arith, nodes_pos (σ x))
-  nodes-instance σ (app f ts) = omega (arith, nodes_all-instance σ ts)
-
-  nodes_all-instance : (σ : ℕ → Tree) (ts : Trees) → nodes_all ts ≤ nodes_all (apply_all σ ts)
-  nodes_all-instance σ none = omega arith
-  nodes_all-instance σ (more t ts) = omega (arith, nodes-instance σ t, nodes_all-instance σ ts)
+use Rattle.uc_pair.proofs.Replacing.{nodes-subterm, nodes-instance}
 
 abbrev pub five : Tree → Tree → Tree → Tree → Tree → Trees
 five a b c d e = more a (more b (more c (more d (more e none))))
@@ -98,6 +65,26 @@ module _ (a b c d e a' b' c' d' e' : Tree) (al : Alike (five a b c d e) (five a'
 
 abbrev pub terms_of : {outer inner : Rule} {place : ℕ} → Overlapping outer inner place → Trees
 terms_of o = five (peak o) (left_of o) (inner_from o) (inner_to o) (right_of o)
+
+-- where the rule's side is greater, so is each instance of it
+pub never_stays : (m : Meaning) → Laws m → (rule : Rule) (σ : ℕ → Tree) (from to : Tree) → m.greater rule.from rule.to → AreRenamed rule from to → StaysAt m.greater (apply σ from) (apply σ to) → ⊥
+never_stays m laws rule σ from to g r (s, t, q) = up q
+  where
+    down : m.greater (apply σ from) (apply σ to)
+    down = laws.instances σ from to (subst (λ v. m.greater from v) (sym r.2) (subst (λ u. m.greater u (apply r.0 rule.to)) (sym r.1) (laws.instances r.0 rule.from rule.to g)))
+
+    up : AtMost m.greater (apply σ from) (apply σ to) → ⊥
+    up (inl h) = laws.irreflexive (apply σ from) (laws.transitive (apply σ from) (apply σ to) (apply σ from) down h)
+    up (inr e) = laws.irreflexive (apply σ to) (subst (λ u. m.greater u (apply σ to)) e down)
+
+pub inner_renamed : (outer inner : Rule) (terms : RenamedApart) → AreApart outer inner terms → AreRenamed inner terms.inner_from terms.inner_to
+inner_renamed outer inner terms x = (λ y. var (x.there (y + x.k)), from_is ∙ apply-renamed (λ y. var (x.there y)) (λ y. y + x.k) inner.from, to_is ∙ apply-renamed (λ y. var (x.there y)) (λ y. y + x.k) inner.to)
+  where
+    from_is : terms.inner_from ≡ renamed x.there (shifted x.k inner.from)
+    from_is = let e = x.renamed_are in cc
+
+    to_is : terms.inner_to ≡ renamed x.there (shifted x.k inner.to)
+    to_is = let e = x.renamed_are in cc
 
 -- the sizes of pairs that are alike
 pub large_alike : {outer inner : Rule} {place : ℕ} (o : Overlapping outer inner place) (a b c d e : Tree) → Alike (terms_of o) (five a b c d e) → IsLarge a ⊎ (IsLarge b ⊎ IsLarge e) → IsTooLarge o

@@ -1,12 +1,12 @@
 -- Replacing a subterm of an instance, and how large it comes.
-use Rattle.std.proofs.Common.{◌≡◌, ℕ, zero, suc, ◌-◌, ◌<◌, ◌≤◌, nat_lt, true, false, List, [], ◌∷◌, get_or, Option, Some, None, option_and_then, refl, sym, ap, ◌∙◌, subst, arith, ◌⊎◌, inl, inr}
+use Rattle.std.proofs.Common.{◌≡◌, ℕ, zero, suc, ◌+◌, ◌-◌, ◌<◌, ◌≤◌, nat_lt, true, false, List, [], ◌∷◌, get_or, Option, Some, None, option_and_then, refl, sym, ap, ◌∙◌, subst, arith, ◌⊎◌, inl, inr}
 use Rattle.std.proofs.lemmas.Bool.Decides.{nat_tests}
 use Rattle.std.proofs.Math.Seq.{get_or-append_right}
 use Rattle.std.proofs.Math.ListN.{get_or-append}
 use Rattle.uc_term.specs.Tree.{Tree, var, app, Trees, none, more, nodes, nodes_all, apply, apply_all, subterms, subterms_all, subterm, put, put_all}
 use Rattle.uc_term.specs.Path.{argument, change, at, put_at, at_position, put_position}
 use Rattle.uc_term.specs.Positions.{IsPlaceOf}
-use Rattle.uc_term.proofs.Terms.{length-subterms}
+use Rattle.uc_term.proofs.Terms.{length-subterms, nodes_pos}
 use Rattle.uc_term.proofs.Paths.{at-apply, apply-put}
 use Rattle.uc_pair.specs.declared.instances.Placed.{Placed}
 use Rattle.uc_pair.specs.Overlapping.{IsLarge, IsSmall}
@@ -92,24 +92,38 @@ mutual
         | inr later ↦ omega (arith, ap (λ us. nodes_all (apply_all σ us)) (put_later t ts p v later), nodes-put_all σ ts (p - nodes t) v (omega arith))
       ]
 
--- the instance of a part is no larger than the whole
+-- what is put in takes the place of the part
 mutual
-  nodes-part : (σ : ℕ → Tree) (t : Tree) (p : ℕ) (d : Tree) → p < nodes t → nodes (apply σ (get_or (subterms t) p d)) ≤ nodes (apply σ t)
-  nodes-part σ (var x) zero d h = omega arith
-  nodes-part σ (var x) (suc p) d h = absurd (omega arith)
-  nodes-part σ (app f ts) zero d h = omega arith
-  nodes-part σ (app f ts) (suc p) d h = omega (arith, nodes-part_all σ ts p d (omega arith))
+  part_sum : (σ : ℕ → Tree) (t : Tree) (p : ℕ) (v d : Tree) → p < nodes t → nodes (apply σ (put t p v)) + nodes (apply σ (get_or (subterms t) p d)) ≡ nodes (apply σ t) + nodes (apply σ v)
+  part_sum σ (var x) zero v d h = omega arith
+  part_sum σ (var x) (suc p) v d h = absurd (omega arith)
+  part_sum σ (app f ts) zero v d h = omega arith
+  part_sum σ (app f ts) (suc p) v d h = omega (arith, part_sum_all σ ts p v d (omega arith))
 
-  nodes-part_all : (σ : ℕ → Tree) (ts : Trees) (p : ℕ) (d : Tree) → p < nodes_all ts → nodes (apply σ (get_or (subterms_all ts) p d)) ≤ nodes_all (apply_all σ ts)
-  nodes-part_all σ none p d h = absurd (omega arith)
-  nodes-part_all σ (more t ts) p d h =
+  part_sum_all : (σ : ℕ → Tree) (ts : Trees) (p : ℕ) (v d : Tree) → p < nodes_all ts → nodes_all (apply_all σ (put_all ts p v)) + nodes (apply σ (get_or (subterms_all ts) p d)) ≡ nodes_all (apply_all σ ts) + nodes (apply σ v)
+  part_sum_all σ none p v d h = absurd (omega arith)
+  part_sum_all σ (more t ts) p v d h =
       elim (where_is p (nodes t)) [
-        | inl here ↦ omega (arith, ap (λ u. nodes (apply σ u)) (get_or-append (subterms t) (subterms_all ts) d p (omega (arith, length-subterms t))), nodes-part σ t p d here)
-        | inr later ↦ omega (arith, ap (λ u. nodes (apply σ u)) (get_or-append_right (subterms t) (subterms_all ts) p d (omega (arith, length-subterms t)) ∙ ap (λ n. get_or (subterms_all ts) (p - n) d) (length-subterms t)), nodes-part_all σ ts (p - nodes t) d (omega arith))
+        | inl here ↦ omega (arith, ap (λ us. nodes_all (apply_all σ us)) (put_here t ts p v here), ap (λ u. nodes (apply σ u)) (get_or-append (subterms t) (subterms_all ts) d p (omega (arith, length-subterms t))), part_sum σ t p v d here)
+        | inr later ↦ omega (arith, ap (λ us. nodes_all (apply_all σ us)) (put_later t ts p v later), ap (λ u. nodes (apply σ u)) (get_or-append_right (subterms t) (subterms_all ts) p d (omega (arith, length-subterms t)) ∙ ap (λ n. get_or (subterms_all ts) (p - n) d) (length-subterms t)), part_sum_all σ ts (p - nodes t) v d (omega arith))
       ]
 
+pub put_sum : (σ : ℕ → Tree) (t : Tree) (p : ℕ) (v : Tree) → p < nodes t → nodes (apply σ (put t p v)) + nodes (apply σ (subterm t p)) ≡ nodes (apply σ t) + nodes (apply σ v)
+put_sum σ t p v h = part_sum σ t p v t h
+
+-- the instance of a part is no larger than the whole
 pub nodes-subterm : (σ : ℕ → Tree) (t : Tree) (p : ℕ) → p < nodes t → nodes (apply σ (subterm t p)) ≤ nodes (apply σ t)
-nodes-subterm σ t p h = nodes-part σ t p t h
+nodes-subterm σ t p h = omega (arith, put_sum σ t p t h, nodes-put σ t p t h)
+
+-- an instance is no smaller
+mutual
+  pub nodes-instance : (σ : ℕ → Tree) (t : Tree) → nodes t ≤ nodes (apply σ t)
+  nodes-instance σ (var x) = omega (arith, nodes_pos (σ x))
+  nodes-instance σ (app f ts) = omega (arith, nodes_all-instance σ ts)
+
+  nodes_all-instance : (σ : ℕ → Tree) (ts : Trees) → nodes_all ts ≤ nodes_all (apply_all σ ts)
+  nodes_all-instance σ none = omega arith
+  nodes_all-instance σ (more t ts) = omega (arith, nodes-instance σ t, nodes_all-instance σ ts)
 
 -- the answers of the call that replaces a part
 pub part_is_large : (σ : ℕ → Tree) (t v : Tree) (place : ℕ) → place < nodes t → IsLarge (apply σ v) → IsReplaced σ t place v None
@@ -152,3 +166,7 @@ instance_gone σ t (Some u) n i = absurd (n u refl)
 pub instance_small : (σ : ℕ → Tree) (t : Tree) (o : Option Tree) (u : Tree) → o ≡ Some u → IsInstance σ t o → IsSmall (apply σ t)
 instance_small σ t None u e i = absurd cc
 instance_small σ t (Some w) u e i = i.1
+
+pub put_gone : (t : Tree) (place : ℕ) (v : Tree) (o : Option Placed) → ((p : Placed) → o ≡ Some p → ⊥) → IsPut t place v o → IsLarge (put t place v)
+put_gone t place v None n i = i
+put_gone t place v (Some p) n i = absurd (n p refl)

@@ -35,17 +35,36 @@ abbrev pub IsReplaced : (ℕ → Tree) → Tree → ℕ → Tree → Option Plac
 IsReplaced σ t place v None = IsLarge (apply σ t) ⊎ IsLarge (apply σ (put t place v))
 IsReplaced σ t place v (Some placed) = IsReplacedBy σ t place v placed
 
--- the size of a pair whose right side is small
-abbrev pub IsSizeOf : Tree → Tree → Size → Type 0
-IsSizeOf left right Large = IsLarge left
-IsSizeOf left right Same = IsSmall left × (left ≡ right)
-IsSizeOf left right (Weight weight) = IsSmall left × (left ≡ right → ⊥) × (weight ≡ nodes left + nodes right)
+-- how many nodes the term has, where it is small
+abbrev pub IsSmallSize : Tree → Option ℕ → Type 0
+IsSmallSize t None = IsLarge t
+IsSmallSize t (Some size) = IsSmall t × (size ≡ nodes t)
+
+-- how many nodes the right side has, where it and the peak are small
+abbrev pub IsRightSize : Tree → Tree → Option ℕ → Type 0
+IsRightSize top right None = IsLarge top ⊎ IsLarge right
+IsRightSize top right (Some size) = IsSmall top × IsSmall right × (size ≡ nodes right)
+
+-- two sides that are small are equal, or not
+abbrev pub IsSameOr : Tree → Tree → ℕ → Size → Type 0
+IsSameOr left right weight Large = ⊥
+IsSameOr left right weight Same = IsSmall left → IsSmall right → left ≡ right
+IsSameOr left right weight (Weight w) = (w ≡ weight) × (IsSmall left → IsSmall right → left ≡ right → ⊥)
+
+abbrev pub AreSame : Option Tree → Option Tree → Type 0
+AreSame (Some s) (Some t) = s ≡ t
+AreSame (Some s) None = ⊥
+AreSame None t = ⊥
 
 abbrev pub formed_at : Rule → Rule → ℕ → Size → Formed
 formed_at outer inner place size = record { overlap = overlap_at outer inner place; size = size }
 
 module _ (Greater : Tree → Tree → Type 0) where
   -- both instances are small, and the first is at most the second
+  abbrev pub StaysAt : Tree → Tree → Type 0
+  StaysAt u v = IsSmall u × IsSmall v × AtMost Greater u v
+
+  -- the same of instances that are there where they are small
   abbrev pub AreAtMost : Option Tree → Option Tree → Type 0
   AreAtMost (Some u) (Some v) = AtMost Greater u v
   AreAtMost (Some u) None = ⊥

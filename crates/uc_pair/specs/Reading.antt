@@ -10,9 +10,14 @@ use Rattle.uc_pair.specs.Listing.{NeverDown}
 abbrev pub rule_read : Read → Rule
 rule_read r = record { number = r.number; side = r.side; from = r.from.now; to = r.to.now }
 
--- what is noted of it is so: it leads down nowhere
-abbrev pub IsTold : (Tree → Tree → Type 0) → Read → Type 0
-IsTold Greater r = IsTrue r.never_down ↔ NeverDown Greater (rule_read r)
+-- what is noted of it is so: it leads down nowhere, or everywhere
+pub record IsTold (Greater : Tree → Tree → Type 0) (r : Read) : Type 0 where
+  pub never : IsTrue r.never_down ↔ NeverDown Greater (rule_read r)
+  pub always : IsTrue r.always_down → Greater (rule_read r).from (rule_read r).to
+
+-- two terms are the rule's sides with their variables renamed
+abbrev pub AreRenamed : Rule → Tree → Tree → Type 0
+AreRenamed rule from to = (ρ : ℕ → Tree) × (from ≡ apply ρ rule.from) × (to ≡ apply ρ rule.to)
 
 -- the variables renamed
 abbrev pub renamed : (ℕ → ℕ) → Tree → Tree

@@ -60,7 +60,7 @@ pub(crate) fn instance_of(
 }
 
 /// Whether no term has so many nodes.
-fn is_too_large(size: usize) -> bool
+pub(crate) fn is_too_large(size: usize) -> bool
     ensures large { IsTrue result → MAX_NODES < size }
     ensures small { result ≡ false → size ≤ MAX_NODES }
 {
@@ -100,7 +100,7 @@ pub(crate) fn replaced(
 }
 
 /// The term with its subterm at a place replaced. None exactly where it has more than 4,096 nodes.
-fn put_part(
+pub(crate) fn put_part(
     alloc: Global,
     term: &Term,
     there: Pos,

@@ -1,21 +1,21 @@
 //! Whether there is an overlap at a place, whether it is left out, and how large its pair is.
 
-ghost use Rattle.std.specs.Prelude.{◌≡◌, ◌↔◌, ◌<◌, ℕ, IsTrue, IfOk};
-ghost use Rattle.uc_term.specs.Tree.{Tree, apply, nodes, subterm};
+ghost use Rattle.std.specs.Prelude.{◌≡◌, ◌↔◌, ◌<◌, IsTrue, IfOk};
+ghost use Rattle.uc_term.specs.Tree.{apply, nodes, subterm, put};
 ghost use Rattle.uc_term.specs.Subst.{image};
 ghost use Rattle.uc_term.specs.Variables.{IsApp};
 ghost use Rattle.uc_unify.specs.Unifiers.{IsMostGeneral};
 ghost use Rattle.uc_pair.specs.Listing.{NeverDown, IsRepeated};
-ghost use Rattle.uc_pair.specs.Reading.{rule_read, AreApart};
-ghost use Rattle.uc_pair.specs.Judging.{IsInstance, IsSizeOf, AreAtMost, IsJudged, IsJudgedBy};
+ghost use Rattle.uc_pair.specs.Reading.{rule_read, AreApart, AreRenamed, IsTold};
+ghost use Rattle.uc_pair.specs.Judging.{StaysAt, AreAtMost, AreSame, IsSmallSize, IsRightSize, IsSameOr, IsSizeBy, IsJudged, IsJudgedBy};
 
 use crate::Size;
 use crate::fitting::fits_at;
-use crate::instances::{RenamedApart, instance_of, replaced};
+use crate::instances::{RenamedApart, instance_of, is_too_large, put_part};
 use crate::reading::{Read, is_at_most, is_repeated};
 use std::alloc::{AllocError, Global};
 use uc_order::Order;
-use uc_term::{Subst, Term, end_of};
+use uc_term::{Pos, Subst, Term, end_of, instance_size};
 use uc_unify::{Unified, unify};
 
 /// The size of the overlap of two rules, each of which leads down somewhere, at a place of the outer one's side. None where
@@ -32,6 +32,8 @@ pub(crate) fn size_at<O: Order>(
     requires inside { place < nodes outer.now.from.now }
     requires outer_down { NeverDown (O.meaning order.now).greater (rule_read outer.now) → ⊥ }
     requires inner_down { NeverDown (O.meaning order.now).greater (rule_read inner.now) → ⊥ }
+    requires outer_told { IsTold (O.meaning order.now).greater outer.now }
+    requires inner_told { IsTold (O.meaning order.now).greater inner.now }
     ensures { IfOk result (IsJudged (O.meaning order.now).greater (rule_read outer.now) (rule_read inner.now) place) }
 {
     if is_repeated(outer, inner, place) {
@@ -47,7 +49,7 @@ pub(crate) fn size_at<O: Order>(
         Unified::Apart => Ok(None),
         // the peak is at least as large, and the rules themselves lead down
         Unified::TooLarge => Ok(Some(Size::Large)),
-        Unified::Unifier(subst) => judged(alloc, terms, place, &subst, order),
+        Unified::Unifier(subst) => judged(alloc, terms, outer, inner, place, &subst, order),
     }
 }
 
@@ -55,32 +57,51 @@ pub(crate) fn size_at<O: Order>(
 fn judged<O: Order>(
     alloc: Global,
     terms: &RenamedApart,
+    outer: &Read,
+    inner: &Read,
     place: u32,
     subst: &Subst,
     order: &O,
 ) -> Result<Option<Size>, AllocError>
+    requires apart { AreApart (rule_read outer.now) (rule_read inner.now) terms.now }
     requires inside { place < nodes terms.now.outer_from }
+    requires outer_told { IsTold (O.meaning order.now).greater outer.now }
+    requires inner_told { IsTold (O.meaning order.now).greater inner.now }
     ensures { IfOk result (IsJudgedBy (O.meaning order.now).greater terms.now place (image subst.now)) }
 {
-    let peak = instance_of(alloc, &terms.outer_from, subst)?;
-    let left = instance_of(alloc, &terms.outer_to, subst)?;
-    if goes_up(&peak, &left, order) {
+    if goes_up(alloc, outer, &terms.outer_from, &terms.outer_to, subst, order)? {
         return Ok(None);
     }
-    let inner_from = instance_of(alloc, &terms.inner_from, subst)?;
-    let inner_to = instance_of(alloc, &terms.inner_to, subst)?;
-    if goes_up(&inner_from, &inner_to, order) {
+    if goes_up(alloc, inner, &terms.inner_from, &terms.inner_to, subst, order)? {
         return Ok(None);
     }
-    match replaced(alloc, &terms.outer_from, place, &peak, &inner_to)? {
-        Some(right) => Ok(Some(size_of(&left, &right.term))),
-        None => Ok(Some(Size::Large)),
-    }
+    Ok(Some(size_by(alloc, terms, place, subst)?))
 }
 
-/// Whether the instance of a side is at most that of the other side, where both are small. Where one is too large, the sides
-/// themselves are compared, and these lead down.
-fn goes_up<O: Order>(from: &Option<Term>, to: &Option<Term>, order: &O) -> bool
+/// Whether the instance of a rule's renamed side is at most that of its other side, where both are small. No instance is built
+/// where the rule leads down everywhere.
+fn goes_up<O: Order>(
+    alloc: Global,
+    rule: &Read,
+    from: &Term,
+    to: &Term,
+    subst: &Subst,
+    order: &O,
+) -> Result<bool, AllocError>
+    requires told { IsTold (O.meaning order.now).greater rule.now }
+    requires renamed { AreRenamed (rule_read rule.now) from.now to.now }
+    ensures { IfOk result (λ up. IsTrue up ↔ StaysAt (O.meaning order.now).greater (apply (image subst.now) from.now) (apply (image subst.now) to.now)) }
+{
+    if rule.always_down {
+        return Ok(false);
+    }
+    let from = instance_of(alloc, from, subst)?;
+    let to = instance_of(alloc, to, subst)?;
+    Ok(are_at_most(&from, &to, order))
+}
+
+/// Whether the instance of a side is at most that of the other side, where both are small.
+fn are_at_most<O: Order>(from: &Option<Term>, to: &Option<Term>, order: &O) -> bool
     ensures { IsTrue result ↔ AreAtMost (O.meaning order.now).greater from.now to.now }
 {
     let Some(from) = from else {
@@ -92,16 +113,91 @@ fn goes_up<O: Order>(from: &Option<Term>, to: &Option<Term>, order: &O) -> bool
     is_at_most(from, to, order)
 }
 
-/// The size of a pair whose right side is small.
-fn size_of(left: &Option<Term>, right: &Term) -> Size
-    ensures { (σ : ℕ → Tree) (t : Tree) → IsInstance σ t left.now → IsSizeOf (apply σ t) right.now result }
+/// The size of the pair that a unifier makes. It is counted, and the two sides are built only where they have as many nodes.
+fn size_by(
+    alloc: Global,
+    terms: &RenamedApart,
+    place: u32,
+    subst: &Subst,
+) -> Result<Size, AllocError>
+    requires inside { place < nodes terms.now.outer_from }
+    ensures { IfOk result (IsSizeBy (apply (image subst.now) terms.now.outer_from) (apply (image subst.now) terms.now.outer_to) (apply (image subst.now) (put terms.now.outer_from place terms.now.inner_to))) }
 {
-    let Some(left) = left else {
-        return Size::Large;
+    let Some(left) = small_size(&terms.outer_to, subst) else {
+        return Ok(Size::Large);
     };
-    if left.same(right) {
-        Size::Same
+    let Some(right) = right_size(terms, place, subst) else {
+        return Ok(Size::Large);
+    };
+    if left == right {
+        same_or(alloc, terms, place, subst, left + right)
     } else {
-        Size::Weight(left.nodes() + right.nodes())
+        Ok(Size::Weight(left + right))
     }
+}
+
+/// How many nodes the term's instance has. None exactly where these are more than 4,096.
+fn small_size(term: &Term, subst: &Subst) -> Option<u32>
+    ensures { IsSmallSize (apply (image subst.now) term.now) result }
+{
+    let size = instance_size(term.as_nodes(), subst);
+    if is_too_large(size) {
+        None
+    } else {
+        Some(size as u32)
+    }
+}
+
+/// How many nodes the pair's right side has. None exactly where the outer side's instance or the right side has more than 4,096.
+fn right_size(terms: &RenamedApart, place: u32, subst: &Subst) -> Option<u32>
+    requires inside { place < nodes terms.now.outer_from }
+    ensures { IsRightSize (apply (image subst.now) terms.now.outer_from) (apply (image subst.now) (put terms.now.outer_from place terms.now.inner_to)) result }
+{
+    let peak = small_size(&terms.outer_from, subst)?;
+    let inner = small_size(&terms.inner_to, subst)?;
+    let nodes = terms.outer_from.as_nodes();
+    let from = place as usize;
+    let part = instance_size(&nodes[from..end_of(nodes, from)], subst);
+    let size = peak - part as u32 + inner;
+    if is_too_large(size as usize) {
+        None
+    } else {
+        Some(size)
+    }
+}
+
+/// Whether the pair's two small sides are equal; else their weight.
+fn same_or(
+    alloc: Global,
+    terms: &RenamedApart,
+    place: u32,
+    subst: &Subst,
+    weight: u32,
+) -> Result<Size, AllocError>
+    requires inside { place < nodes terms.now.outer_from }
+    ensures { IfOk result (IsSameOr (apply (image subst.now) terms.now.outer_to) (apply (image subst.now) (put terms.now.outer_from place terms.now.inner_to)) weight) }
+{
+    let Some(right) = put_part(alloc, &terms.outer_from, Pos(place), &terms.inner_to)? else {
+        return Ok(Size::Weight(weight));
+    };
+    let left = instance_of(alloc, &terms.outer_to, subst)?;
+    let right = instance_of(alloc, &right.term, subst)?;
+    if are_same(&left, &right) {
+        Ok(Size::Same)
+    } else {
+        Ok(Size::Weight(weight))
+    }
+}
+
+/// Whether two terms are there and equal.
+fn are_same(s: &Option<Term>, t: &Option<Term>) -> bool
+    ensures { IsTrue result ↔ AreSame s.now t.now }
+{
+    let Some(s) = s else {
+        return false;
+    };
+    let Some(t) = t else {
+        return false;
+    };
+    s.same(t)
 }

@@ -104,6 +104,7 @@ fn add_inner<O: Order>(
     order: &O,
 ) -> Result<(), AllocError>
     requires down { NeverDown (O.meaning order.now).greater (rule_read outer.now) → ⊥ }
+    requires outer_told { IsTold (O.meaning order.now).greater outer.now }
     requires told { IsTold (O.meaning order.now).greater inner.now }
     ensures { OnOk result (Adds (Lists (O.meaning order.now).greater (rule_read outer.now) (rule_read inner.now) 0) list.old.items list.new.items) }
 {

@@ -12,7 +12,7 @@ use uc_order::{Cmp, Order};
 use uc_term::{Equation, Node, Term};
 
 /// A fact read from one of its sides to the other. Where an order was asked, it is noted whether it leads down nowhere, since
-/// that side is the other one, or less.
+/// that side is the other one, or less; and whether it leads down everywhere, since that side is greater.
 #[derive(Clone, Copy)]
 pub(crate) struct Read<'a> {
     pub(crate) number: u32,
@@ -20,6 +20,7 @@ pub(crate) struct Read<'a> {
     pub(crate) from: &'a Term,
     pub(crate) to: &'a Term,
     pub(crate) never_down: bool,
+    pub(crate) always_down: bool,
 }
 
 impl<'a> Read<'a> {
@@ -34,6 +35,7 @@ impl<'a> Read<'a> {
                 from: &equation.left,
                 to: &equation.right,
                 never_down: false,
+                always_down: false,
             },
             Side::Right => Read {
                 number,
@@ -41,6 +43,7 @@ impl<'a> Read<'a> {
                 from: &equation.right,
                 to: &equation.left,
                 never_down: false,
+                always_down: false,
             },
         }
     }
@@ -65,6 +68,7 @@ impl<'a> Read<'a> {
                 from: &equation.left,
                 to: &equation.right,
                 never_down: way == Cmp::Less || way == Cmp::Equal,
+                always_down: way == Cmp::Greater,
             },
             Side::Right => Read {
                 number,
@@ -72,6 +76,7 @@ impl<'a> Read<'a> {
                 from: &equation.right,
                 to: &equation.left,
                 never_down: way == Cmp::Greater || way == Cmp::Equal,
+                always_down: way == Cmp::Less,
             },
         }
     }

@@ -53,7 +53,7 @@ pub unify-requires-clause-whole_s : goal.unify-requires-clause-whole_s
 unify-requires-clause-whole_s g c = part_whole c.as_nodes-nodes.result.now c.args.place c.end_of-to.result c.as_nodes-nodes.ensures.whole (within (rule_read c.args.outer.now) (rule_read c.args.inner.now) c.args.place c.args.terms.now c.requires.apart c.requires.inside c.as_nodes-nodes.result.now c.as_nodes-nodes.ensures.whole c.as_nodes-nodes.ensures.tree) c.end_of-to.ensures.end
 
 pub judged-requires : goal.judged-requires
-judged-requires g c = record { inside = omega (arith, c.requires.inside, same_size (rule_read c.args.outer.now) (rule_read c.args.inner.now) c.args.place c.args.terms.now c.requires.apart c.requires.inside) }
+judged-requires g c = record { apart = c.requires.apart; outer_told = c.requires.outer_told; inner_told = c.requires.inner_told; inside = omega (arith, c.requires.inside, same_size (rule_read c.args.outer.now) (rule_read c.args.inner.now) c.args.place c.args.terms.now c.requires.apart c.requires.inside) }
 
 -- what the unifier is of
 found : (outer inner : Rule) (place to : ℕ) (terms : RenamedApart) → AreApart outer inner terms → place < nodes outer.from → (ns ms : List Node) → IsWhole ns → tree_of ns ≡ terms.outer_from → tree_of ms ≡ terms.inner_from → to ≡ place + nodes (tree_of (drop place ns)) → (u v : Unified) → u ≡ v → IsUnified (tree_of (take (to - place) (drop place ns))) (tree_of ms) u → IsUnified (subterm terms.outer_from place) terms.inner_from v

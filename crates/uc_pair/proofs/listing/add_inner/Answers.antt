@@ -7,7 +7,7 @@ use Rattle.uc_pair.proofs.listing.add_inner.Goals as goal
 pub returns-then-inner : goal.returns-then-inner
 returns-then-inner g c =
     adds_none (Lists (g.O.Order.meaning c.args.order.now).greater (rule_read c.args.outer.now) (rule_read c.args.inner.now) 0) c.args.list.now.items
-    (none_listed (g.O.Order.meaning c.args.order.now) (rule_read c.args.outer.now) (rule_read c.args.inner.now) (g.met.O.Order.laws c.args.order.now) (inr (c.requires.told.0 c.if-inner.true)))
+    (none_listed (g.O.Order.meaning c.args.order.now) (rule_read c.args.outer.now) (rule_read c.args.inner.now) (g.met.O.Order.laws c.args.order.now) (inr (c.requires.told.never.0 c.if-inner.true)))
 
 pub returns-in_default : goal.returns-in_default
 returns-in_default g c =

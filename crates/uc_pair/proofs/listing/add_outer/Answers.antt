@@ -13,7 +13,7 @@ on_ok P Q f (Ok a) p = f p
 on_ok P Q f (Err e) p = tt
 
 pub returns-then-outer : goal.returns-then-outer
-returns-then-outer g c = none_each (g.O.Order.meaning c.args.order.now) (g.met.O.Order.laws c.args.order.now) (rule_read c.args.outer.now) (read_from c.args.inner Left c.args.b.now) (read_from c.args.inner Right c.args.b.now) c.args.list.now.items (c.requires.told.0 c.if-outer.true)
+returns-then-outer g c = none_each (g.O.Order.meaning c.args.order.now) (g.met.O.Order.laws c.args.order.now) (rule_read c.args.outer.now) (read_from c.args.inner Left c.args.b.now) (read_from c.args.inner Right c.args.b.now) c.args.list.now.items (c.requires.told.never.0 c.if-outer.true)
 
 pub returns : goal.returns
 returns g c =
