@@ -7,6 +7,7 @@ pub mod Occurring
 pub mod Renaming
 pub mod Apart
 pub mod Judged
+pub mod Filled
 pub mod Listed
 pub mod Renumbering
 pub mod Forming

@@ -170,3 +170,7 @@ instance_small σ t (Some w) u e i = i.1
 pub put_gone : (t : Tree) (place : ℕ) (v : Tree) (o : Option Placed) → ((p : Placed) → o ≡ Some p → ⊥) → IsPut t place v o → IsLarge (put t place v)
 put_gone t place v None n i = i
 put_gone t place v (Some p) n i = absurd (n p refl)
+
+pub put_there : (t : Tree) (place : ℕ) (v : Tree) (o : Option Placed) (p : Placed) → o ≡ Some p → IsPut t place v o → p.term ≡ put t place v
+put_there t place v None p e i = absurd cc
+put_there t place v (Some q) p e i = (let same : p ≡ q = cc in ap (λ r. r.term) same) ∙ i.0

@@ -1,6 +1,8 @@
 -- What the place of an outer side comes to, found by instances that are built only where they are small.
-use Rattle.std.specs.Prelude.{ℕ, ◌≡◌, ◌+◌, ◌⊎◌, ◌++◌, List, ◌∷◌, Option, Some, None}
+use Rattle.std.specs.Prelude.{ℕ, ◌≡◌, ◌+◌, ◌⊎◌, ◌++◌, Bool, true, false, List, ◌∷◌, Option, Some, None}
 use Rattle.uc_term.specs.Tree.{Tree, apply, nodes, put}
+use Rattle.uc_term.specs.declared.node.Node.{Node}
+use Rattle.uc_term.specs.Flat.{flat}
 use Rattle.uc_term.specs.Positions.{IsPlaceOf}
 use Rattle.uc_fact.specs.Live.{Rule}
 use Rattle.uc_pair.specs.declared.formed.Size.{Size}
@@ -15,6 +17,11 @@ use Rattle.uc_pair.specs.Listing.{AtMost, Lists}
 abbrev pub IsInstance : (ℕ → Tree) → Tree → Option Tree → Type 0
 IsInstance σ t None = IsLarge (apply σ t)
 IsInstance σ t (Some u) = (u ≡ apply σ t) × IsSmall (apply σ t)
+
+-- the list holds the term, where it is small
+abbrev pub IsFilled : Tree → List Node → Bool → Type 0
+IsFilled t list true = (list ≡ flat t) × IsSmall t
+IsFilled t list false = IsLarge t
 
 -- the term with its subterm at a place replaced, where it is small
 abbrev pub IsPut : Tree → ℕ → Tree → Option Placed → Type 0
@@ -51,11 +58,6 @@ IsSameOr left right weight Large = ⊥
 IsSameOr left right weight Same = IsSmall left → IsSmall right → left ≡ right
 IsSameOr left right weight (Weight w) = (w ≡ weight) × (IsSmall left → IsSmall right → left ≡ right → ⊥)
 
-abbrev pub AreSame : Option Tree → Option Tree → Type 0
-AreSame (Some s) (Some t) = s ≡ t
-AreSame (Some s) None = ⊥
-AreSame None t = ⊥
-
 abbrev pub formed_at : Rule → Rule → ℕ → Size → Formed
 formed_at outer inner place size = record { overlap = overlap_at outer inner place; size = size }
 
@@ -63,12 +65,6 @@ module _ (Greater : Tree → Tree → Type 0) where
   -- both instances are small, and the first is at most the second
   abbrev pub StaysAt : Tree → Tree → Type 0
   StaysAt u v = IsSmall u × IsSmall v × AtMost Greater u v
-
-  -- the same of instances that are there where they are small
-  abbrev pub AreAtMost : Option Tree → Option Tree → Type 0
-  AreAtMost (Some u) (Some v) = AtMost Greater u v
-  AreAtMost (Some u) None = ⊥
-  AreAtMost None v = ⊥
 
   -- the list from a place on is the one from the next place on, with the overlap at the place before it where one is listed
   abbrev pub IsJudged : Rule → Rule → ℕ → Option Size → Type 0

@@ -1,15 +1,16 @@
 //! Two rules whose variables are renamed apart, and their instances by a unifier.
 
-ghost use Rattle.std.specs.Prelude.{◌≡◌, ◌<◌, ◌≤◌, ℕ, IfOk, IsTrue, false};
-ghost use Rattle.uc_term.specs.Tree.{Tree, nodes};
+ghost use Rattle.std.specs.Prelude.{◌≡◌, ◌<◌, ◌≤◌, [], ℕ, IfOk, OnOk, IsTrue, false};
+ghost use Rattle.uc_term.specs.Tree.{Tree, nodes, apply};
+ghost use Rattle.uc_term.specs.Flat.{flat, tree_of, IsWhole};
 ghost use Rattle.uc_term.specs.Subst.{image};
 ghost use Rattle.uc_pair.specs.Reading.{rule_read, AreApart};
-ghost use Rattle.uc_pair.specs.Judging.{IsInstance, IsPut, IsReplaced};
+ghost use Rattle.uc_pair.specs.Judging.{IsInstance, IsFilled, IsPut, IsReplaced};
 
 use crate::numbering::number;
 use crate::reading::Read;
 use std::alloc::{AllocError, Global};
-use uc_term::{MAX_NODES, Pos, Subst, Term, TermFault, instance, instance_size};
+use uc_term::{MAX_NODES, Node, Pos, Subst, Term, TermFault, instance, instance_size};
 
 /// The sides of an outer and an inner rule, with their variables numbered by first occurrence, those of the inner one behind
 /// those of the outer one.
@@ -57,6 +58,43 @@ pub(crate) fn instance_of(
         return Ok(None);
     }
     Ok(Some(Term::from_nodes(instance(alloc, nodes, subst)?)))
+}
+
+/// Fills a list with the nodes of the term's instance; whether this has at most 4,096 nodes. Else the list stays.
+pub(crate) fn fill_instance(
+    list: &mut Vec<Node>,
+    term: &Term,
+    subst: &Subst,
+) -> Result<bool, AllocError>
+    ensures { IfOk result (IsFilled (apply (image subst.now) term.now) list.new.items) }
+{
+    let pattern = term.as_nodes();
+    let size = instance_size(pattern, subst);
+    if is_too_large(size) {
+        return Ok(false);
+    }
+    list.clear();
+    list.reserve(size)?;
+    add_instance(list, pattern, subst)?;
+    Ok(true)
+}
+
+/// Puts the nodes of the pattern's instance at the end of a list.
+fn add_instance(list: &mut Vec<Node>, pattern: &[Node], subst: &Subst) -> Result<(), AllocError>
+    requires whole { IsWhole pattern.now }
+    requires none { list.old.items ≡ [] }
+    ensures { OnOk result (list.new.items ≡ flat (apply (image subst.now) (tree_of pattern.now))) }
+{
+    for n in pattern {
+        match *n {
+            Node::Var(x) => match subst.get(x) {
+                Some(t) => list.extend_from_slice(t.as_nodes())?,
+                None => list.push(*n)?,
+            },
+            Node::App(_, _) => list.push(*n)?,
+        }
+    }
+    Ok(())
 }
 
 /// Whether no term has so many nodes.

@@ -7,21 +7,22 @@ ghost use Rattle.uc_term.specs.Variables.{IsApp};
 ghost use Rattle.uc_unify.specs.Unifiers.{IsMostGeneral};
 ghost use Rattle.uc_pair.specs.Listing.{NeverDown, IsRepeated};
 ghost use Rattle.uc_pair.specs.Reading.{rule_read, AreApart, AreRenamed, IsTold};
-ghost use Rattle.uc_pair.specs.Judging.{StaysAt, AreAtMost, AreSame, IsSmallSize, IsRightSize, IsSameOr, IsSizeBy, IsJudged, IsJudgedBy};
+ghost use Rattle.uc_pair.specs.Judging.{StaysAt, IsSmallSize, IsRightSize, IsSameOr, IsSizeBy, IsJudged, IsJudgedBy};
 
-use crate::Size;
+use crate::{Size, Space};
 use crate::fitting::fits_at;
-use crate::instances::{RenamedApart, instance_of, is_too_large, put_part};
+use crate::instances::{RenamedApart, fill_instance, is_too_large, put_part};
 use crate::reading::{Read, is_at_most, is_repeated};
 use std::alloc::{AllocError, Global};
 use uc_order::Order;
-use uc_term::{Pos, Subst, Term, end_of, instance_size};
+use uc_term::{Pos, Subst, Term, end_of, instance_size, same_nodes};
 use uc_unify::{Unified, unify};
 
 /// The size of the overlap of two rules, each of which leads down somewhere, at a place of the outer one's side. None where
 /// there is no overlap, or it is left out. Where the parts don't fit, it takes no memory.
 pub(crate) fn size_at<O: Order>(
     alloc: Global,
+    space: &mut Space,
     terms: &RenamedApart,
     outer: &Read,
     inner: &Read,
@@ -49,13 +50,14 @@ pub(crate) fn size_at<O: Order>(
         Unified::Apart => Ok(None),
         // the peak is at least as large, and the rules themselves lead down
         Unified::TooLarge => Ok(Some(Size::Large)),
-        Unified::Unifier(subst) => judged(alloc, terms, outer, inner, place, &subst, order),
+        Unified::Unifier(subst) => judged(alloc, space, terms, outer, inner, place, &subst, order),
     }
 }
 
 /// The size of the pair of an overlap by this unifier. None where one of the rules goes up or stays from the peak.
 fn judged<O: Order>(
     alloc: Global,
+    space: &mut Space,
     terms: &RenamedApart,
     outer: &Read,
     inner: &Read,
@@ -69,19 +71,19 @@ fn judged<O: Order>(
     requires inner_told { IsTold (O.meaning order.now).greater inner.now }
     ensures { IfOk result (IsJudgedBy (O.meaning order.now).greater terms.now place (image subst.now)) }
 {
-    if goes_up(alloc, outer, &terms.outer_from, &terms.outer_to, subst, order)? {
+    if goes_up(space, outer, &terms.outer_from, &terms.outer_to, subst, order)? {
         return Ok(None);
     }
-    if goes_up(alloc, inner, &terms.inner_from, &terms.inner_to, subst, order)? {
+    if goes_up(space, inner, &terms.inner_from, &terms.inner_to, subst, order)? {
         return Ok(None);
     }
-    Ok(Some(size_by(alloc, terms, place, subst)?))
+    Ok(Some(size_by(alloc, space, terms, place, subst)?))
 }
 
 /// Whether the instance of a rule's renamed side is at most that of its other side, where both are small. No instance is built
 /// where the rule leads down everywhere.
 fn goes_up<O: Order>(
-    alloc: Global,
+    space: &mut Space,
     rule: &Read,
     from: &Term,
     to: &Term,
@@ -95,27 +97,19 @@ fn goes_up<O: Order>(
     if rule.always_down {
         return Ok(false);
     }
-    let from = instance_of(alloc, from, subst)?;
-    let to = instance_of(alloc, to, subst)?;
-    Ok(are_at_most(&from, &to, order))
-}
-
-/// Whether the instance of a side is at most that of the other side, where both are small.
-fn are_at_most<O: Order>(from: &Option<Term>, to: &Option<Term>, order: &O) -> bool
-    ensures { IsTrue result ↔ AreAtMost (O.meaning order.now).greater from.now to.now }
-{
-    let Some(from) = from else {
-        return false;
-    };
-    let Some(to) = to else {
-        return false;
-    };
-    is_at_most(from, to, order)
+    if !fill_instance(&mut space.from, from, subst)? {
+        return Ok(false);
+    }
+    if !fill_instance(&mut space.to, to, subst)? {
+        return Ok(false);
+    }
+    Ok(is_at_most(space.from.as_slice(), space.to.as_slice(), order))
 }
 
 /// The size of the pair that a unifier makes. It is counted, and the two sides are built only where they have as many nodes.
 fn size_by(
     alloc: Global,
+    space: &mut Space,
     terms: &RenamedApart,
     place: u32,
     subst: &Subst,
@@ -130,7 +124,7 @@ fn size_by(
         return Ok(Size::Large);
     };
     if left == right {
-        same_or(alloc, terms, place, subst, left + right)
+        same_or(alloc, space, terms, place, subst, left + right)
     } else {
         Ok(Size::Weight(left + right))
     }
@@ -169,6 +163,7 @@ fn right_size(terms: &RenamedApart, place: u32, subst: &Subst) -> Option<u32>
 /// Whether the pair's two small sides are equal; else their weight.
 fn same_or(
     alloc: Global,
+    space: &mut Space,
     terms: &RenamedApart,
     place: u32,
     subst: &Subst,
@@ -180,24 +175,15 @@ fn same_or(
     let Some(right) = put_part(alloc, &terms.outer_from, Pos(place), &terms.inner_to)? else {
         return Ok(Size::Weight(weight));
     };
-    let left = instance_of(alloc, &terms.outer_to, subst)?;
-    let right = instance_of(alloc, &right.term, subst)?;
-    if are_same(&left, &right) {
+    if !fill_instance(&mut space.from, &terms.outer_to, subst)? {
+        return Ok(Size::Weight(weight));
+    }
+    if !fill_instance(&mut space.to, &right.term, subst)? {
+        return Ok(Size::Weight(weight));
+    }
+    if same_nodes(space.from.as_slice(), space.to.as_slice()) {
         Ok(Size::Same)
     } else {
         Ok(Size::Weight(weight))
     }
-}
-
-/// Whether two terms are there and equal.
-fn are_same(s: &Option<Term>, t: &Option<Term>) -> bool
-    ensures { IsTrue result ↔ AreSame s.now t.now }
-{
-    let Some(s) = s else {
-        return false;
-    };
-    let Some(t) = t else {
-        return false;
-    };
-    s.same(t)
 }

@@ -12,6 +12,7 @@ mod listing;
 mod numbering;
 mod pairing;
 mod reading;
+mod space;
 
 pub use formation::Formation;
 pub use formed::{Formed, Size};
@@ -19,3 +20,4 @@ pub use laws::{nowhere_is_up, one_list, one_pair, too_large_by_size, up_is_never
 pub use listing::{overlaps, overlaps_by};
 pub use pairing::pair_of;
 pub use reading::way_of;
+pub use space::Space;

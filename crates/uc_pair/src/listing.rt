@@ -12,7 +12,7 @@ use crate::fitting::first_fit;
 use crate::instances::rename_apart;
 use crate::judging::size_at;
 use crate::reading::{Read, way_of};
-use crate::{Formed, Size};
+use crate::{Formed, Size, Space};
 use std::alloc::{AllocError, Global};
 use uc_fact::{Overlap, Side};
 use uc_order::{Cmp, Order};
@@ -42,13 +42,15 @@ pub fn overlaps<O: Order>(
 {
     let a_way = way_of(outer, a, order);
     let b_way = way_of(inner, b, order);
-    overlaps_by(alloc, outer, a, a_way, inner, b, b_way, order)
+    let mut space = Space::new(alloc);
+    overlaps_by(alloc, &mut space, outer, a, a_way, inner, b, b_way, order)
 }
 
 /// The same where it is known how the order compares the left side of each fact to its right one, so that a fact that meets
-/// many is compared once.
+/// many is compared once, and in memory that is lent.
 pub fn overlaps_by<O: Order>(
     alloc: Global,
+    space: &mut Space,
     outer: u32,
     a: &Equation,
     a_way: Cmp,
@@ -66,15 +68,16 @@ pub fn overlaps_by<O: Order>(
 {
     let mut list = Vec::new(alloc);
     let left = Read::told(outer, Side::Left, a, a_way, order);
-    add_outer(alloc, &mut list, &left, inner, b, b_way, order)?;
+    add_outer(alloc, space, &mut list, &left, inner, b, b_way, order)?;
     let right = Read::told(outer, Side::Right, a, a_way, order);
-    add_outer(alloc, &mut list, &right, inner, b, b_way, order)?;
+    add_outer(alloc, space, &mut list, &right, inner, b, b_way, order)?;
     Ok(Seq::from_vec(list))
 }
 
 /// Adds the overlaps of a rule with an inner fact.
 fn add_outer<O: Order>(
     alloc: Global,
+    space: &mut Space,
     list: &mut Vec<Formed>,
     outer: &Read,
     inner: u32,
@@ -90,14 +93,15 @@ fn add_outer<O: Order>(
         return Ok(());
     }
     let left = Read::told(inner, Side::Left, b, way, order);
-    add_inner(alloc, list, outer, &left, order)?;
+    add_inner(alloc, space, list, outer, &left, order)?;
     let right = Read::told(inner, Side::Right, b, way, order);
-    add_inner(alloc, list, outer, &right, order)
+    add_inner(alloc, space, list, outer, &right, order)
 }
 
 /// Adds the overlaps of two rules, of which the outer one leads down somewhere.
 fn add_inner<O: Order>(
     alloc: Global,
+    space: &mut Space,
     list: &mut Vec<Formed>,
     outer: &Read,
     inner: &Read,
@@ -116,7 +120,7 @@ fn add_inner<O: Order>(
     };
     let terms = rename_apart(alloc, outer, inner)?;
     for place in first..outer.from.nodes() {
-        let size = size_at(alloc, &terms, outer, inner, place, order)?;
+        let size = size_at(alloc, space, &terms, outer, inner, place, order)?;
         add(list, outer, inner, place, size)?;
     }
     Ok(())

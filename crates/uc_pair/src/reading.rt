@@ -1,6 +1,6 @@
 //! Facts read from one of their sides to the other.
 
-ghost use Rattle.std.specs.Prelude.{◌≡◌, ◌↔◌, ℕ, IsTrue, false};
+ghost use Rattle.std.specs.Prelude.{◌≡◌, ◌↔◌, ◌≤◌, ℕ, IsTrue, false, length};
 ghost use Rattle.uc_term.specs.Flat.{tree_of, IsWhole};
 ghost use Rattle.uc_term.specs.Variables.{Occurs, IsApp};
 ghost use Rattle.uc_pair.specs.Overlapping.{read_from};
@@ -9,7 +9,7 @@ ghost use Rattle.uc_pair.specs.Reading.{rule_read, IsTold};
 
 use uc_fact::Side;
 use uc_order::{Cmp, Order};
-use uc_term::{Equation, Node, Term};
+use uc_term::{Equation, MAX_NODES, Node, Term};
 
 /// A fact read from one of its sides to the other. Where an order was asked, it is noted whether it leads down nowhere, since
 /// that side is the other one, or less; and whether it leads down everywhere, since that side is greater.
@@ -90,10 +90,14 @@ pub fn way_of<O: Order>(fact: u32, equation: &Equation, order: &O) -> Cmp
 }
 
 /// Whether a term is another one, or less.
-pub(crate) fn is_at_most<O: Order>(s: &Term, t: &Term, order: &O) -> bool
-    ensures { IsTrue result ↔ AtMost (O.meaning order.now).greater s.now t.now }
+pub(crate) fn is_at_most<O: Order>(s: &[Node], t: &[Node], order: &O) -> bool
+    requires s_whole { IsWhole s.now }
+    requires t_whole { IsWhole t.now }
+    requires s_small { length s.now ≤ MAX_NODES }
+    requires t_small { length t.now ≤ MAX_NODES }
+    ensures { IsTrue result ↔ AtMost (O.meaning order.now).greater (tree_of s.now) (tree_of t.now) }
 {
-    match order.compare(s.as_nodes(), t.as_nodes()) {
+    match order.compare(s, t) {
         Cmp::Less => true,
         Cmp::Equal => true,
         Cmp::Greater => false,
