@@ -1,6 +1,6 @@
 -- What a place comes to, from the instances of the renamed sides.
-use Rattle.std.proofs.Common.{◌≡◌, ℕ, ◌+◌, ◌<◌, ◌≤◌, Option, Some, None, sym, ap, ap₂, ◌∙◌, subst, arith, ◌⊎◌, inl, inr}
-use Rattle.uc_term.specs.Tree.{Tree, var, app, Trees, none, more, nodes, nodes_all, apply, apply_all, subterm, put}
+use Rattle.std.proofs.Common.{◌≡◌, ℕ, ◌+◌, ◌<◌, Option, Some, None, sym, ap, ap₂, ◌∙◌, subst, arith, ◌⊎◌, inl, inr}
+use Rattle.uc_term.specs.Tree.{Tree, var, Trees, none, more, nodes, apply, subterm, put}
 use Rattle.uc_term.specs.Variables.{IsApp}
 use Rattle.uc_unify.specs.Unifiers.{IsMostGeneral, HasNoUnifier, IsTooLarge as IsTooLargeUnifier}
 use Rattle.uc_order.specs.Laws.{Meaning, Laws}

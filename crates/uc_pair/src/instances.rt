@@ -22,21 +22,22 @@ pub(crate) struct RenamedApart {
     pub(crate) inner_to: Term,
 }
 
-/// The rules' variables renamed apart.
+/// The rules' variables renamed apart. Their names are noted in a list that is lent.
 pub(crate) fn rename_apart(
     alloc: Global,
+    names: &mut Vec<u32>,
     outer: &Read,
     inner: &Read,
 ) -> Result<RenamedApart, AllocError>
     ensures { IfOk result (AreApart (rule_read outer.now) (rule_read inner.now)) }
 {
-    let mut names = Vec::new(alloc);
-    let outer_from = number(alloc, outer.from, &mut names, 0)?;
-    let outer_to = number(alloc, outer.to, &mut names, 0)?;
+    names.clear();
+    let outer_from = number(alloc, outer.from, names, 0)?;
+    let outer_to = number(alloc, outer.to, names, 0)?;
     let count = names.len() as u32;
-    let mut inner_names = Vec::new(alloc);
-    let inner_from = number(alloc, inner.from, &mut inner_names, count)?;
-    let inner_to = number(alloc, inner.to, &mut inner_names, count)?;
+    names.clear();
+    let inner_from = number(alloc, inner.from, names, count)?;
+    let inner_to = number(alloc, inner.to, names, count)?;
     Ok(RenamedApart {
         outer_from,
         outer_to,

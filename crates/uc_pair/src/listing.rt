@@ -118,7 +118,7 @@ fn add_inner<O: Order>(
     let Some(first) = first_fit(outer.from, inner.from) else {
         return Ok(());
     };
-    let terms = rename_apart(alloc, outer, inner)?;
+    let terms = rename_apart(alloc, &mut space.names, outer, inner)?;
     for place in first..outer.from.nodes() {
         let size = size_at(alloc, space, &terms, outer, inner, place, order)?;
         add(list, outer, inner, place, size)?;

@@ -35,7 +35,8 @@ pub fn pair_of(
 {
     let outer = Read::new(overlap.outer, overlap.outer_side, a);
     let inner = Read::new(overlap.inner, overlap.inner_side, b);
-    let terms = rename_apart(alloc, &outer, &inner)?;
+    let mut names = Vec::new(alloc);
+    let terms = rename_apart(alloc, &mut names, &outer, &inner)?;
     let nodes = terms.outer_from.as_nodes();
     let from = overlap.position.0 as usize;
     let to = end_of(nodes, from);

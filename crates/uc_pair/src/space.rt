@@ -10,6 +10,8 @@ pub struct Space {
     /// The instances of the two sides of a rule.
     pub(crate) from: Vec<Node>,
     pub(crate) to: Vec<Node>,
+    /// The variables of a rule.
+    pub(crate) names: Vec<u32>,
 }
 
 impl Space {
@@ -18,6 +20,7 @@ impl Space {
         Space {
             from: Vec::new(alloc),
             to: Vec::new(alloc),
+            names: Vec::new(alloc),
         }
     }
 }

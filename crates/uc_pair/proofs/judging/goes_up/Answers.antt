@@ -1,11 +1,9 @@
-use Rattle.std.proofs.Common.{◌≡◌, ◌∙◌, List, Bool, true, IsTrue, false, subst, sym}
-use Rattle.uc_term.specs.declared.node.Node.{Node}
-use Rattle.uc_term.specs.Tree.{Tree, apply}
-use Rattle.uc_term.specs.Flat.{tree_of, IsWhole}
+use Rattle.std.proofs.Common.{IsTrue, false, subst, sym}
+use Rattle.uc_term.specs.Tree.{apply}
+use Rattle.uc_term.specs.Flat.{tree_of}
 use Rattle.uc_term.specs.Subst.{image}
 use Rattle.uc_pair.specs.Listing.{AtMost}
 use Rattle.uc_pair.specs.Reading.{rule_read}
-use Rattle.uc_pair.specs.Judging.{IsFilled}
 use Rattle.uc_pair.proofs.Judged.{never_stays}
 use Rattle.uc_pair.proofs.Filled.{held}
 use Rattle.uc_pair.proofs.judging.goes_up.Goals as goal

@@ -1,6 +1,6 @@
-use Rattle.std.proofs.Common.{◌≡◌, ℕ, ◌+◌, ◌-◌, ◌<◌, List, take, drop, length, sym, ap, ◌∙◌, arith, inl, inr}
+use Rattle.std.proofs.Common.{◌≡◌, ℕ, ◌+◌, ◌-◌, ◌<◌, List, take, drop, ap, ◌∙◌, arith, inr}
 use Rattle.uc_term.specs.declared.node.Node.{Node}
-use Rattle.uc_term.specs.Tree.{Tree, apply, nodes, subterm, put}
+use Rattle.uc_term.specs.Tree.{Tree, apply, nodes, subterm}
 use Rattle.uc_term.specs.Flat.{tree_of, IsWhole}
 use Rattle.uc_term.specs.Subst.{image}
 use Rattle.uc_term.proofs.Terms.{whole_one}
