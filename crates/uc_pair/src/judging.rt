@@ -16,7 +16,7 @@ use crate::reading::{Read, is_at_most, is_repeated};
 use std::alloc::{AllocError, Global};
 use uc_order::Order;
 use uc_term::{Pos, Subst, Term, end_of, instance_size, same_nodes};
-use uc_unify::{Unified, unify};
+use uc_unify::{Unified, unify_in};
 
 /// The size of the overlap of two rules, each of which leads down somewhere, at a place of the outer one's side. None where
 /// there is no overlap, or it is left out. Where the parts don't fit, it takes no memory.
@@ -46,7 +46,12 @@ pub(crate) fn size_at<O: Order>(
     let nodes = terms.outer_from.as_nodes();
     let from = place as usize;
     let to = end_of(nodes, from);
-    match unify(alloc, &nodes[from..to], terms.inner_from.as_nodes())? {
+    match unify_in(
+        alloc,
+        &mut space.unifying,
+        &nodes[from..to],
+        terms.inner_from.as_nodes(),
+    )? {
         Unified::Apart => Ok(None),
         // the peak is at least as large, and the rules themselves lead down
         Unified::TooLarge => Ok(Some(Size::Large)),

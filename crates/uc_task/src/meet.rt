@@ -17,7 +17,7 @@ use std::alloc::{AllocError, Global};
 use uc_fact::Equation;
 use uc_machine::Finding;
 use uc_order::{Cmp, Order};
-use uc_pair::{Formed, overlaps_by, way_of};
+use uc_pair::{Formed, Space, overlaps_by, way_of};
 use uc_shelf::{Front, Lent, Shelf};
 use uc_term::Seq;
 
@@ -129,17 +129,22 @@ fn meetings<O: Order>(
     ensures { IfOk result (λ list. (entries : List Entry) → AreMeetings (O.meaning order.now) entries number own.now (map lent_of facts.now) list) }
 {
     let way = way_of(number, own, order);
+    let mut space = Space::new(alloc);
     let mut list = Seq::new(alloc);
     for fact in facts {
-        add_overlaps(alloc, &mut list, number, own, way, fact, order)?;
+        add_overlaps(alloc, &mut space, &mut list, number, own, way, fact, order)?;
     }
-    list.append(overlaps_by(alloc, number, own, way, number, own, way, order)?)?;
+    let with_itself = overlaps_by(
+        alloc, &mut space, number, own, way, number, own, way, order,
+    )?;
+    list.append(with_itself)?;
     Ok(list)
 }
 
 /// Puts the overlaps with an earlier fact at the end of the list, the other one outside first.
 fn add_overlaps<O: Order>(
     alloc: Global,
+    space: &mut Space,
     list: &mut Seq<Formed>,
     number: u32,
     own: &Equation,
@@ -156,7 +161,13 @@ fn add_overlaps<O: Order>(
     }
     let theirs = fact.equation;
     let their_way = way_of(other, theirs, order);
-    list.append(overlaps_by(alloc, other, theirs, their_way, number, own, way, order)?)?;
-    list.append(overlaps_by(alloc, number, own, way, other, theirs, their_way, order)?)?;
+    let inside = overlaps_by(
+        alloc, space, other, theirs, their_way, number, own, way, order,
+    )?;
+    list.append(inside)?;
+    let outside = overlaps_by(
+        alloc, space, number, own, way, other, theirs, their_way, order,
+    )?;
+    list.append(outside)?;
     Ok(())
 }

@@ -49,8 +49,8 @@ symbol ns t place e b h f = subst (λ u. IsApp (subterm u place)) e (f h)
 pub end_of-to-requires-clause-within : goal.end_of-to-requires-clause-within
 end_of-to-requires-clause-within g c = within (rule_read c.args.outer.now) (rule_read c.args.inner.now) c.args.place c.args.terms.now c.requires.apart c.requires.inside c.as_nodes-nodes.result.now c.as_nodes-nodes.ensures.whole c.as_nodes-nodes.ensures.tree
 
-pub unify-requires-clause-whole_s : goal.unify-requires-clause-whole_s
-unify-requires-clause-whole_s g c = part_whole c.as_nodes-nodes.result.now c.args.place c.end_of-to.result c.as_nodes-nodes.ensures.whole (within (rule_read c.args.outer.now) (rule_read c.args.inner.now) c.args.place c.args.terms.now c.requires.apart c.requires.inside c.as_nodes-nodes.result.now c.as_nodes-nodes.ensures.whole c.as_nodes-nodes.ensures.tree) c.end_of-to.ensures.end
+pub unify_in-requires-clause-whole_s : goal.unify_in-requires-clause-whole_s
+unify_in-requires-clause-whole_s g c = part_whole c.as_nodes-nodes.result.now c.args.place c.end_of-to.result c.as_nodes-nodes.ensures.whole (within (rule_read c.args.outer.now) (rule_read c.args.inner.now) c.args.place c.args.terms.now c.requires.apart c.requires.inside c.as_nodes-nodes.result.now c.as_nodes-nodes.ensures.whole c.as_nodes-nodes.ensures.tree) c.end_of-to.ensures.end
 
 pub judged-requires : goal.judged-requires
 judged-requires g c = record { apart = c.requires.apart; outer_told = c.requires.outer_told; inner_told = c.requires.inner_told; inside = omega (arith, c.requires.inside, same_size (rule_read c.args.outer.now) (rule_read c.args.inner.now) c.args.place c.args.terms.now c.requires.apart c.requires.inside) }
@@ -63,18 +63,18 @@ found outer inner place to terms x h ns ms w e f end u v is i =
 pub returns-in-Apart : goal.returns-in-Apart
 returns-in-Apart g c =
     judged_apart (rule_read c.args.outer.now) (rule_read c.args.inner.now) c.args.place c.args.terms.now c.requires.apart c.requires.inside (g.O.Order.meaning c.args.order.now)
-    (found (rule_read c.args.outer.now) (rule_read c.args.inner.now) c.args.place c.end_of-to.result c.args.terms.now c.requires.apart c.requires.inside c.as_nodes-nodes.result.now c.as_nodes-3.result.now c.as_nodes-nodes.ensures.whole c.as_nodes-nodes.ensures.tree c.as_nodes-3.ensures.tree c.end_of-to.ensures.end c.in_ok-unify.field-0 Apart c.in-Apart.is c.in_ok-unify.ensures)
+    (found (rule_read c.args.outer.now) (rule_read c.args.inner.now) c.args.place c.end_of-to.result c.args.terms.now c.requires.apart c.requires.inside c.as_nodes-nodes.result.now c.as_nodes-3.result.now c.as_nodes-nodes.ensures.whole c.as_nodes-nodes.ensures.tree c.as_nodes-3.ensures.tree c.end_of-to.ensures.end c.in_ok-unify_in.field-0 Apart c.in-Apart.is c.in_ok-unify_in.ensures)
 
 pub returns-in-TooLarge : goal.returns-in-TooLarge
 returns-in-TooLarge g c =
     judged_large (rule_read c.args.outer.now) (rule_read c.args.inner.now) c.args.place c.args.terms.now c.requires.apart c.requires.inside
     (symbol c.as_nodes.result.now c.args.outer.now.from.now c.args.place c.as_nodes.ensures.tree c.fits_at.result c.if-not-fits_at.false c.fits_at.ensures.symbol)
     (g.O.Order.meaning c.args.order.now) c.requires.outer_down c.requires.inner_down (λ r. clashed c.is_repeated.result c.if-is_repeated.false (c.is_repeated.ensures.1 r))
-    (found (rule_read c.args.outer.now) (rule_read c.args.inner.now) c.args.place c.end_of-to.result c.args.terms.now c.requires.apart c.requires.inside c.as_nodes-nodes.result.now c.as_nodes-3.result.now c.as_nodes-nodes.ensures.whole c.as_nodes-nodes.ensures.tree c.as_nodes-3.ensures.tree c.end_of-to.ensures.end c.in_ok-unify.field-0 TooLarge c.in-TooLarge.is c.in_ok-unify.ensures)
+    (found (rule_read c.args.outer.now) (rule_read c.args.inner.now) c.args.place c.end_of-to.result c.args.terms.now c.requires.apart c.requires.inside c.as_nodes-nodes.result.now c.as_nodes-3.result.now c.as_nodes-nodes.ensures.whole c.as_nodes-nodes.ensures.tree c.as_nodes-3.ensures.tree c.end_of-to.ensures.end c.in_ok-unify_in.field-0 TooLarge c.in-TooLarge.is c.in_ok-unify_in.ensures)
 
 pub returns-in-Unifier : goal.returns-in-Unifier
 returns-in-Unifier g c =
-    let unifier = found (rule_read c.args.outer.now) (rule_read c.args.inner.now) c.args.place c.end_of-to.result c.args.terms.now c.requires.apart c.requires.inside c.as_nodes-nodes.result.now c.as_nodes-3.result.now c.as_nodes-nodes.ensures.whole c.as_nodes-nodes.ensures.tree c.as_nodes-3.ensures.tree c.end_of-to.ensures.end c.in_ok-unify.field-0 (Unifier c.in-Unifier.subst) c.in-Unifier.is c.in_ok-unify.ensures in
+    let unifier = found (rule_read c.args.outer.now) (rule_read c.args.inner.now) c.args.place c.end_of-to.result c.args.terms.now c.requires.apart c.requires.inside c.as_nodes-nodes.result.now c.as_nodes-3.result.now c.as_nodes-nodes.ensures.whole c.as_nodes-nodes.ensures.tree c.as_nodes-3.ensures.tree c.end_of-to.ensures.end c.in_ok-unify_in.field-0 (Unifier c.in-Unifier.subst) c.in-Unifier.is c.in_ok-unify_in.ensures in
     if_ok (IsJudgedBy (g.O.Order.meaning c.args.order.now).greater c.args.terms.now c.args.place (image c.in-Unifier.subst)) (IsJudged (g.O.Order.meaning c.args.order.now).greater (rule_read c.args.outer.now) (rule_read c.args.inner.now) c.args.place)
     (λ size by. judged_by (rule_read c.args.outer.now) (rule_read c.args.inner.now) c.args.place c.args.terms.now c.requires.apart c.requires.inside
     (symbol c.as_nodes.result.now c.args.outer.now.from.now c.args.place c.as_nodes.ensures.tree c.fits_at.result c.if-not-fits_at.false c.fits_at.ensures.symbol)
