@@ -74,24 +74,11 @@ pub fn unify_in(
     join(s, t, both)?;
     let nodes = both.as_slice();
     ends_of(nodes, ends)?;
-    if closure(
-        nodes,
-        ends.as_slice(),
-        s.len(),
-        noted,
-        parents,
-        heads,
-        pairs,
-    )? {
-        read_off(
-            alloc,
-            nodes,
-            ends.as_slice(),
-            s.len(),
-            heads.as_slice(),
-            sizes,
-            pending,
-        )
+    let ends = ends.as_slice();
+    let second = s.len();
+    if closure(nodes, ends, second, noted, parents, heads, pairs)? {
+        let classes = heads.as_slice();
+        read_off(alloc, nodes, ends, second, classes, sizes, pending)
     } else {
         Ok(Unified::Apart)
     }
