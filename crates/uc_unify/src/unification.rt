@@ -78,10 +78,9 @@ pub fn unify_in(
     let second = s.len();
     if closure(nodes, ends, second, noted, parents, heads, pairs)? {
         let classes = heads.as_slice();
-        read_off(alloc, nodes, ends, second, classes, sizes, pending)
-    } else {
-        Ok(Unified::Apart)
+        return read_off(alloc, nodes, ends, second, classes, sizes, pending);
     }
+    Ok(Unified::Apart)
 }
 
 /// Fills a lent list with the nodes of both terms.

@@ -1,16 +1,18 @@
 //! The memory that a unification works in.
 
 use std::alloc::Global;
+use std::marker::Model;
 use uc_term::Node;
 
-/// The memory that a unification works in, lent from one call to the next. What stands in it between calls is arbitrary.
+/// Memory for unifications, lent to one after the other so that they take none of their own. What stands in it between calls
+/// is arbitrary and says nothing, so all workspaces have one value.
 #[derive(Drop)]
 pub struct Workspace {
     /// The nodes of both terms.
     pub(crate) both: Vec<Node>,
     /// The place behind the term at each place.
     pub(crate) ends: Vec<usize>,
-    /// The first place of each variable of a small number.
+    /// The first place of each variable that has a small number.
     pub(crate) noted: Vec<usize>,
     /// The place above each place in its tree.
     pub(crate) parents: Vec<usize>,
@@ -24,8 +26,14 @@ pub struct Workspace {
     pub(crate) pending: Vec<(usize, u32)>,
 }
 
+impl Model for Workspace {
+    ghost Value = { Unit {0} };
+
+    ghost view = { λ s. tt };
+}
+
 impl Workspace {
-    /// A workspace for any terms. It takes no memory until it is lent.
+    /// A workspace that holds no memory yet. It grows with the terms that it is lent for, and keeps what it has grown to.
     pub fn new(alloc: Global) -> Workspace {
         Workspace {
             both: Vec::new(alloc),

@@ -26,5 +26,5 @@ read_off-requires-clause-within c = second_within c.args.s.now c.args.t.now c.as
 pub returns-then-branch : goal.returns-then-branch
 returns-then-branch c = rw (← at_first c.args.s.now c.args.t.now c.as_slice-nodes.result.now c.requires.whole_s c.requires.whole_t (c.as_slice-nodes.ensures.value ∙ c.in_ok-join.ensures), ← at_second c.args.s.now c.args.t.now c.as_slice-nodes.result.now c.requires.whole_s c.requires.whole_t (c.as_slice-nodes.ensures.value ∙ c.in_ok-join.ensures)) c.read_off.ensures
 
-pub returns-else-branch : goal.returns-else-branch
-returns-else-branch c = rw (← at_first c.args.s.now c.args.t.now c.as_slice-nodes.result.now c.requires.whole_s c.requires.whole_t (c.as_slice-nodes.ensures.value ∙ c.in_ok-join.ensures), ← at_second c.args.s.now c.args.t.now c.as_slice-nodes.result.now c.requires.whole_s c.requires.whole_t (c.as_slice-nodes.ensures.value ∙ c.in_ok-join.ensures)) (rw c.if-branch.false at c.in_ok-closure.ensures)
+pub returns : goal.returns
+returns c = rw (← at_first c.args.s.now c.args.t.now c.as_slice-nodes.result.now c.requires.whole_s c.requires.whole_t (c.as_slice-nodes.ensures.value ∙ c.in_ok-join.ensures), ← at_second c.args.s.now c.args.t.now c.as_slice-nodes.result.now c.requires.whole_s c.requires.whole_t (c.as_slice-nodes.ensures.value ∙ c.in_ok-join.ensures)) (rw c.if-branch.false at c.in_ok-closure.ensures)
