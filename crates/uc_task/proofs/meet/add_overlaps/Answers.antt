@@ -7,10 +7,10 @@ returns-then-other-number g c = record { more = []; new_is = sym (append-nil c.a
 
 pub returns : goal.returns
 returns g c =
-    let inside = c.in_ok-overlaps_by.field-0 in
-    let round = c.in_ok-overlaps_by-2.field-0 in
+    let inside = c.in_ok-inside.inside in
+    let outside = c.in_ok-outside.outside in
     record {
-      more = inside ++ round;
-      new_is = c.in_ok-append-2.ensures.ok ∙ ap (λ l. l ++ round) c.in_ok-append.ensures.ok ∙ append_assoc c.args.list.now inside round;
-      holds = is_met c.if-other-number.false c.in_ok-overlaps_by.ensures.list c.in_ok-overlaps_by-2.ensures.list;
+      more = inside ++ outside;
+      new_is = c.in_ok-append-2.ensures.ok ∙ ap (λ l. l ++ outside) c.in_ok-append.ensures.ok ∙ append_assoc c.args.list.now inside outside;
+      holds = is_met c.if-other-number.false c.in_ok-inside.ensures.list c.in_ok-outside.ensures.list;
     }
