@@ -1,11 +1,12 @@
 -- Classes of places of flat lists: the places whose subterms must have one instance. (Unification closure: Huet; Baader and
 -- Snyder, Unification Theory, section 2.3.)
-use Rattle.std.specs.Prelude.{ℕ, zero, suc, ◌≡◌, ◌+◌, ◌*◌, ◌<◌, ◌≤◌, ◌==◌, ◌⊎◌, List, [], ◌∷◌, length, drop, slice_get, slice_index, Some, if◌then◌else◌}
+use Rattle.std.specs.Prelude.{ℕ, zero, suc, ◌≡◌, ◌+◌, ◌*◌, ◌<◌, ◌≤◌, ◌==◌, ◌⊎◌, Bool, true, false, List, [], ◌∷◌, length, drop, slice_get, slice_index, Some, if◌then◌else◌}
 use Rattle.uc_term.specs.declared.node.Node.{Node}
 use Rattle.uc_term.specs.declared.node.Node.TheVariants.{Var, App}
 use Rattle.uc_term.specs.declared.node.Sym.{Sym}
 use Rattle.uc_term.specs.Tree.{Tree, app, Trees, none, more, apply, nodes}
 use Rattle.uc_term.specs.Flat.{tree_of}
+use Rattle.uc_unify.specs.Unifiers.{HasNoUnifier}
 
 -- the term that begins at a place
 abbrev pub at : List Node → ℕ → Tree
@@ -88,6 +89,11 @@ pub record IsClosed (ns : List Node) (second : ℕ) (classes : List ℕ) : Type 
   pub are_classes : AreClasses ns classes
   pub sound : (V : ℕ → Tree) → Respects classes V → AreMade ns classes V → ((p : ℕ) → p < length ns → IsMadeAt ns V p) × (V 0 ≡ V second)
   pub complete : (τ : ℕ → Tree) → instances ns τ 0 ≡ instances ns τ second → Respects classes (instances ns τ)
+
+-- the classes are closed; or no substitution makes the terms at place 0 and at the second place equal
+abbrev pub AreJoined : List Node → ℕ → List ℕ → Bool → Type 0
+AreJoined ns second classes true = IsClosed ns second classes
+AreJoined ns second classes false = HasNoUnifier (at ns 0) (at ns second)
 
 -- the places behind the terms from a place on
 pub record AreEndsFrom (ns : List Node) (from : ℕ) (ends : List ℕ) : Type 0 where

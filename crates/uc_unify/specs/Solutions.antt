@@ -115,3 +115,8 @@ pub record HaveNoSizes (ns : List Node) (classes : List ℕ) : Type 0 where
   pub sized : AreSized ns classes sizes
   pub stuck : AreStuck ns classes sizes
   pub one_has_none : AllSized classes sizes false
+
+-- the class of each place has the size of its term; or the class of a place has no size
+abbrev pub AreSizes : List Node → List ℕ → List ℕ → Bool → Type 0
+AreSizes ns classes sizes true = HaveSizes ns classes sizes
+AreSizes ns classes sizes false = HaveNoSizes ns classes

@@ -1,45 +1,48 @@
 //! The classes of places that must have one instance.
 
-ghost use Rattle.std.specs.Prelude.{◌≡◌, ℕ, ◌+◌, ◌<◌, ◌≤◌, ◌++◌, ◌∷◌, [], length, List, IfOk, OnOk, MatchOption};
+ghost use Rattle.std.specs.Prelude.{◌≡◌, ℕ, ◌+◌, ◌<◌, ◌≤◌, ◌++◌, ◌∷◌, [], length, List, IfOk, OnOk};
 ghost use Rattle.uc_term.specs.Flat.{AreWhole};
-ghost use Rattle.uc_unify.specs.Unifiers.{HasNoUnifier};
-ghost use Rattle.uc_unify.specs.Closure.{AreClasses, AreEnds, AllBelow, IsClosed, HasArguments, at, pairs_from, left_of};
+ghost use Rattle.uc_unify.specs.Closure.{AreClasses, AreEnds, AllBelow, AreJoined, HasArguments, pairs_from, left_of};
 ghost use Rattle.uc_unify.specs.Forest.{IsForest, HasForest, IsUnited};
 
 use crate::firsts::first_places;
 use crate::forest::{find, link, settle};
 use crate::matching::is_head;
-use std::alloc::{AllocError, Global};
+use std::alloc::AllocError;
 use uc_term::Node;
 
 /// The most nodes that two terms have.
 pub const MAX_BOTH: usize = 8192;
 
-/// The classes of the places where the terms at place 0 and at the second place are to be equal. None where two places of
-/// one class have different symbols, so that no substitution makes them equal.
+/// Fills the lent heads with the classes of the places where the terms at place 0 and at the second place are to be equal.
+/// False where two places of one class have different symbols, so that no substitution makes them equal.
 pub fn closure(
-    alloc: Global,
     nodes: &[Node],
     ends: &[usize],
     second: usize,
-) -> Result<Option<Vec<usize>>, AllocError>
+    noted: &mut Vec<usize>,
+    parents: &mut Vec<usize>,
+    heads: &mut Vec<usize>,
+    pairs: &mut Vec<(usize, usize)>,
+) -> Result<bool, AllocError>
     requires whole { AreWhole nodes.now }
     requires ends { AreEnds nodes.now ends.now }
     requires within { second < length nodes.now }
     requires small { length nodes.now ≤ MAX_BOTH }
-    ensures { IfOk result (λ found. MatchOption found (HasNoUnifier (at nodes.now 0) (at nodes.now second)) (λ classes. IsClosed nodes.now second classes.items)) }
+    ensures { IfOk result (AreJoined nodes.now second heads.new.items) }
 {
-    let mut parents = first_places(alloc, nodes)?;
-    let mut heads = Vec::from_slice(alloc, parents.as_slice())?;
-    let mut pairs = Vec::new(alloc);
+    first_places(nodes, noted, parents)?;
+    heads.clear();
+    heads.extend_from_slice(parents.as_slice())?;
+    pairs.clear();
     pairs.push((0, second))?;
     while let Some((p, q)) = pairs.pop() {
-        if !unite(nodes, ends, &mut parents, &mut heads, &mut pairs, p, q)? {
-            return Ok(None);
+        if !unite(nodes, ends, parents, heads, pairs, p, q)? {
+            return Ok(false);
         }
     }
-    settle(parents.as_slice(), &mut heads);
-    Ok(Some(heads))
+    settle(parents.as_slice(), heads);
+    Ok(true)
 }
 
 /// Brings two places into one class; false where two different symbols meet so.

@@ -1,27 +1,27 @@
 //! Where each term of a list ends.
 
-ghost use Rattle.std.specs.Prelude.{◌≡◌, ◌+◌, ◌<◌, ◌≤◌, length, replicate, IfOk};
+ghost use Rattle.std.specs.Prelude.{◌≡◌, ◌+◌, ◌<◌, ◌≤◌, length, OnOk};
 ghost use Rattle.uc_term.specs.Flat.{AreWhole};
 ghost use Rattle.uc_unify.specs.Closure.{next, HasArguments, AreEnds, AreEndsFrom};
 
 use crate::closure::MAX_BOTH;
-use std::alloc::{AllocError, Global};
+use std::alloc::AllocError;
 use uc_term::Node;
 
-/// The place behind the term at each place.
-pub fn ends_of(alloc: Global, nodes: &[Node]) -> Result<Vec<usize>, AllocError>
+/// Fills a lent list with the place behind the term at each place.
+pub fn ends_of(nodes: &[Node], ends: &mut Vec<usize>) -> Result<(), AllocError>
     requires whole { AreWhole nodes.now }
     requires small { length nodes.now ≤ MAX_BOTH }
-    ensures { IfOk result (λ ends. AreEnds nodes.now ends.items) }
+    ensures { OnOk result (AreEnds nodes.now ends.new.items) }
 {
-    let mut ends = filled(alloc, nodes.len(), 0)?;
+    ends.resize(nodes.len(), 0)?;
     let mut place = nodes.len();
     while place > 0 {
         place -= 1;
         let end = end_at(nodes, ends.as_slice(), place);
         ends[place] = end;
     }
-    Ok(ends)
+    Ok(())
 }
 
 /// The place behind the term at a place, by the ends of the terms behind that place.
@@ -53,13 +53,4 @@ fn end_of_arguments(nodes: &[Node], ends: &[usize], place: usize, count: u32) ->
         end = ends[end];
     }
     end
-}
-
-/// So many equal values.
-pub fn filled<T: Copy>(alloc: Global, count: usize, value: T) -> Result<Vec<T>, AllocError>
-    ensures { IfOk result (λ list. list.items ≡ replicate count value) }
-{
-    let mut list = Vec::with_capacity(alloc, count)?;
-    list.resize(count, value)?;
-    Ok(list)
 }

@@ -1,29 +1,34 @@
 //! Where each variable first stands in a list of nodes.
 
-ghost use Rattle.std.specs.Prelude.{◌≡◌, ℕ, ◌+◌, ◌<◌, ◌≤◌, length, slice_get, Some, IfOk, IsTrue, ◌↔◌};
+ghost use Rattle.std.specs.Prelude.{◌≡◌, ℕ, ◌+◌, ◌<◌, ◌≤◌, length, slice_get, Some, OnOk, IsTrue, ◌↔◌};
 ghost use Rattle.uc_term.specs.declared.node.Node.TheVariants.{Var};
 ghost use Rattle.uc_unify.specs.Closure.{IsFirstPlace, AreFirst, AreNoted};
 
 use crate::closure::MAX_BOTH;
-use crate::ends::filled;
-use std::alloc::{AllocError, Global};
+use std::alloc::AllocError;
 use uc_term::Node;
 
 /// Of the variables below this number the first place is noted; the others are looked for.
 const MOST_NOTED: usize = 2 * MAX_BOTH;
 
-/// Each place, but for those of a variable the first one.
-pub fn first_places(alloc: Global, nodes: &[Node]) -> Result<Vec<usize>, AllocError>
+/// Fills a lent list with each place, but for those of a variable the first one.
+pub fn first_places(
+    nodes: &[Node],
+    noted: &mut Vec<usize>,
+    firsts: &mut Vec<usize>,
+) -> Result<(), AllocError>
     requires small { length nodes.now ≤ MAX_BOTH }
-    ensures { IfOk result (λ firsts. AreFirst nodes.now firsts.items) }
+    ensures { OnOk result (AreFirst nodes.now firsts.new.items) }
 {
-    let mut noted = filled(alloc, noted_variables(nodes), nodes.len())?;
-    let mut firsts = filled(alloc, nodes.len(), 0)?;
+    noted.clear();
+    noted.resize(noted_variables(nodes), nodes.len())?;
+    firsts.clear();
+    firsts.reserve(nodes.len())?;
     for place in 0..nodes.len() {
-        let first = first_place(nodes, &mut noted, place);
-        firsts[place] = first;
+        let first = first_place(nodes, noted, place);
+        firsts.push(first)?;
     }
-    Ok(firsts)
+    Ok(())
 }
 
 /// How many variables are noted.

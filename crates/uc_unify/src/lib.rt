@@ -10,6 +10,8 @@ mod matching;
 mod sizes;
 mod solution;
 mod unification;
+mod workspace;
 
 pub use matching::{matches, matches_both};
-pub use unification::{Unified, unify};
+pub use unification::{Unified, unify, unify_in};
+pub use workspace::Workspace;

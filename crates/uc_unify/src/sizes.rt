@@ -1,13 +1,12 @@
 //! The sizes of the terms that closed classes stand for.
 
-ghost use Rattle.std.specs.Prelude.{◌≡◌, ℕ, ◌+◌, ◌<◌, ◌≤◌, length, IfOk, MatchOption};
+ghost use Rattle.std.specs.Prelude.{◌≡◌, ℕ, ◌+◌, ◌<◌, ◌≤◌, length, IfOk};
 ghost use Rattle.uc_term.specs.Flat.{AreWhole};
 ghost use Rattle.uc_unify.specs.Closure.{AreClasses, AreEnds, HasArguments, class};
-ghost use Rattle.uc_unify.specs.Solutions.{AreSized, IsSizeAt, IsSizing, AreSizing, AllSized, HaveSizes, HaveNoSizes};
+ghost use Rattle.uc_unify.specs.Solutions.{AreSized, IsSizeAt, IsSizing, AreSizing, AllSized, AreSizes};
 
 use crate::closure::MAX_BOTH;
-use crate::ends::filled;
-use std::alloc::{AllocError, Global};
+use std::alloc::AllocError;
 use uc_term::{MAX_NODES, Node};
 
 /// The size at a place that stands for itself, cut behind that of the largest term; 0 where an argument has no size yet.
@@ -105,27 +104,28 @@ fn size_places(nodes: &[Node], ends: &[usize], classes: &[usize], sizes: &mut Ve
     any
 }
 
-/// The size of each place that stands for a class. None where a class's term would hold itself.
+/// Fills a lent list with the size of each place that stands for a class. False where a class's term would hold itself.
 pub fn sizes_of(
-    alloc: Global,
     nodes: &[Node],
     ends: &[usize],
     classes: &[usize],
-) -> Result<Option<Vec<u32>>, AllocError>
+    sizes: &mut Vec<u32>,
+) -> Result<bool, AllocError>
     requires whole { AreWhole nodes.now }
     requires ends { AreEnds nodes.now ends.now }
     requires small { length nodes.now ≤ MAX_BOTH }
     requires some { 0 < length nodes.now }
     requires classes { AreClasses nodes.now classes.now }
-    ensures { IfOk result (λ found. MatchOption found (HaveNoSizes nodes.now classes.now) (λ sizes. HaveSizes nodes.now classes.now sizes.items)) }
+    ensures { IfOk result (AreSizes nodes.now classes.now sizes.new.items) }
 {
-    let mut sizes = filled(alloc, nodes.len(), 0u32)?;
-    while size_places(nodes, ends, classes, &mut sizes) {
+    sizes.clear();
+    sizes.resize(nodes.len(), 0)?;
+    while size_places(nodes, ends, classes, sizes) {
         if all_sized(classes, sizes.as_slice()) {
-            return Ok(Some(sizes));
+            return Ok(true);
         }
     }
-    Ok(None)
+    Ok(false)
 }
 
 /// Whether the class of each place has a size.

@@ -10,12 +10,13 @@ use crate::closure::MAX_BOTH;
 use std::alloc::{AllocError, Global};
 use uc_term::Node;
 
-/// The nodes of a place's term.
+/// The nodes of a place's term. Which places are still to be written is noted in a lent list.
 pub fn solved(
     alloc: Global,
     nodes: &[Node],
     ends: &[usize],
     classes: &[usize],
+    pending: &mut Vec<(usize, u32)>,
     start: usize,
 ) -> Result<Vec<Node>, AllocError>
     requires whole { AreWhole nodes.now }
@@ -29,10 +30,10 @@ pub fn solved(
     let class = classes[start];
     let mut list = Vec::with_capacity(alloc, ends[class] - class)?;
     // places with the number of terms that are to be written from each on, the next one last
-    let mut pending = Vec::new(alloc);
+    pending.clear();
     pending.push((start, 1))?;
     while let Some((place, terms)) = pending.pop() {
-        write_node(nodes, ends, classes, &mut list, &mut pending, place, terms)?;
+        write_node(nodes, ends, classes, &mut list, pending, place, terms)?;
     }
     Ok(list)
 }

@@ -20,6 +20,7 @@ use crate::ends::ends_of;
 use crate::firsts::is_var;
 use crate::sizes::sizes_of;
 use crate::solution::solved;
+use crate::workspace::Workspace;
 use std::alloc::{AllocError, Global};
 use uc_term::{MAX_NODES, Node, Subst, Term};
 
@@ -43,25 +44,56 @@ pub fn unify(alloc: Global, s: &[Node], t: &[Node]) -> Result<Unified, AllocErro
     requires small_t { length t.now ≤ MAX_NODES }
     ensures { IfOk result (IsUnified (tree_of s.now) (tree_of t.now)) }
 {
-    let both = joined(alloc, s, t)?;
-    let nodes = both.as_slice();
-    let ends = ends_of(alloc, nodes)?;
-    match closure(alloc, nodes, ends.as_slice(), s.len())? {
-        Some(classes) => read_off(alloc, nodes, ends.as_slice(), s.len(), classes.as_slice()),
-        None => Ok(Unified::Apart),
-    }
+    let mut space = Workspace::new(alloc);
+    unify_in(alloc, &mut space, s, t)
 }
 
-/// The nodes of both terms.
-fn joined(alloc: Global, s: &[Node], t: &[Node]) -> Result<Vec<Node>, AllocError>
+/// The same as `unify`, in lent memory: new memory is taken for the unifier alone, and where the workspace is too small.
+pub fn unify_in(
+    alloc: Global,
+    space: &mut Workspace,
+    s: &[Node],
+    t: &[Node],
+) -> Result<Unified, AllocError>
+    requires whole_s { IsWhole s.now }
+    requires whole_t { IsWhole t.now }
     requires small_s { length s.now ≤ MAX_NODES }
     requires small_t { length t.now ≤ MAX_NODES }
-    ensures { IfOk result (λ both. both.items ≡ s.now ++ t.now) }
+    ensures { IfOk result (IsUnified (tree_of s.now) (tree_of t.now)) }
 {
-    let mut both = Vec::with_capacity(alloc, s.len() + t.len())?;
+    let Workspace {
+        both,
+        ends,
+        noted,
+        parents,
+        heads,
+        pairs,
+        sizes,
+        pending,
+    } = space;
+    join(s, t, both)?;
+    let nodes = both.as_slice();
+    ends_of(nodes, ends)?;
+    let ends = ends.as_slice();
+    let second = s.len();
+    if closure(nodes, ends, second, noted, parents, heads, pairs)? {
+        let classes = heads.as_slice();
+        return read_off(alloc, nodes, ends, second, classes, sizes, pending);
+    }
+    Ok(Unified::Apart)
+}
+
+/// Fills a lent list with the nodes of both terms.
+fn join(s: &[Node], t: &[Node], both: &mut Vec<Node>) -> Result<(), AllocError>
+    requires small_s { length s.now ≤ MAX_NODES }
+    requires small_t { length t.now ≤ MAX_NODES }
+    ensures { OnOk result (both.new.items ≡ s.now ++ t.now) }
+{
+    both.clear();
+    both.reserve(s.len() + t.len())?;
     both.extend_from_slice(s)?;
     both.extend_from_slice(t)?;
-    Ok(both)
+    Ok(())
 }
 
 /// What two terms come to whose classes are closed: the first one at place 0, and the second one behind it.
@@ -71,6 +103,8 @@ fn read_off(
     ends: &[usize],
     second: usize,
     classes: &[usize],
+    sizes: &mut Vec<u32>,
+    pending: &mut Vec<(usize, u32)>,
 ) -> Result<Unified, AllocError>
     requires whole { AreWhole nodes.now }
     requires ends { AreEnds nodes.now ends.now }
@@ -81,13 +115,13 @@ fn read_off(
     requires closed { IsClosed nodes.now second classes.now }
     ensures { IfOk result (IsUnified (at nodes.now 0) (at nodes.now second)) }
 {
-    let Some(sizes) = sizes_of(alloc, nodes, ends, classes)? else {
+    if !sizes_of(nodes, ends, classes, sizes)? {
         return Ok(Unified::Apart);
-    };
+    }
     if sizes[classes[0]] > MAX_NODES as u32 {
         return Ok(Unified::TooLarge);
     }
-    Ok(Unified::Unifier(solution(alloc, nodes, ends, classes)?))
+    Ok(Unified::Unifier(solution(alloc, nodes, ends, classes, pending)?))
 }
 
 /// The substitution that gives each variable the term of its place.
@@ -96,6 +130,7 @@ fn solution(
     nodes: &[Node],
     ends: &[usize],
     classes: &[usize],
+    pending: &mut Vec<(usize, u32)>,
 ) -> Result<Subst, AllocError>
     requires whole { AreWhole nodes.now }
     requires ends { AreEnds nodes.now ends.now }
@@ -107,7 +142,9 @@ fn solution(
     let mut subst = Subst::new(alloc);
     for place in 0..nodes.len() {
         match nodes[place] {
-            Node::Var(x) => add_variable(alloc, nodes, ends, classes, &mut subst, place, x)?,
+            Node::Var(x) => add_variable(
+                alloc, nodes, ends, classes, pending, &mut subst, place, x,
+            )?,
             Node::App(_, _) => {}
         }
     }
@@ -120,6 +157,7 @@ fn add_variable(
     nodes: &[Node],
     ends: &[usize],
     classes: &[usize],
+    pending: &mut Vec<(usize, u32)>,
     subst: &mut Subst,
     place: usize,
     x: u32,
@@ -136,7 +174,7 @@ fn add_variable(
         return Ok(());
     }
     if subst.get(x).is_none() {
-        let list = solved(alloc, nodes, ends, classes, place)?;
+        let list = solved(alloc, nodes, ends, classes, pending, place)?;
         subst.add(x, Term::from_nodes(list))?;
     }
     Ok(())
