@@ -1,6 +1,6 @@
 -- Where terms end.
-use Rattle.std.proofs.Common.{◌≡◌, ◌≢◌, ℕ, suc, ◌+◌, ◌-◌, ◌<◌, ◌≤◌, List, length, get_or, set, replicate, Some, refl, sym, ap, ◌∙◌, subst, arith, ◌⊎◌, inl, inr}
-use Rattle.std.proofs.lemmas.List.{length-replicate, get_or-set_same, get_or-set_other, length-set, get_or_default}
+use Rattle.std.proofs.Common.{◌≡◌, ◌≢◌, ℕ, suc, ◌+◌, ◌-◌, ◌<◌, ◌≤◌, List, length, get_or, set, Some, refl, sym, ap, ◌∙◌, subst, arith, ◌⊎◌, inl, inr}
+use Rattle.std.proofs.lemmas.List.{get_or-set_same, get_or-set_other, length-set, get_or_default}
 use Rattle.std.proofs.lemmas.Option.{slice_get-get_or}
 use Rattle.uc_term.specs.declared.node.Node.{Node}
 use Rattle.uc_term.specs.declared.node.Node.TheVariants.{Var}
@@ -13,9 +13,6 @@ use Rattle.uc_unify.proofs.Linking.{same_or}
 -- an end that is read
 pub end_is : (ns : List Node) (from : ℕ) (ends : List ℕ) → AreEndsFrom ns from ends → (p end : ℕ) → from ≤ p → p < length ns → end ≡ get_or ends p end → end ≡ next ns p
 end_is ns from ends e p end h i is = is ∙ get_or_default ends p end 0 (let l = e.long in omega arith) ∙ e.ends_are p h i
-
-pub ends_start : (ns : List Node) (n : ℕ) (ends : List ℕ) → n ≡ length ns → ends ≡ replicate n 0 → AreEndsFrom ns n ends
-ends_start ns n ends l e = record { long = ap length e ∙ length-replicate n 0 ∙ l; ends_are = λ p h i. absurd (omega arith) }
 
 pub ends_more : (ns : List Node) (p end : ℕ) (ends new : List ℕ) → p < length ns → AreEndsFrom ns (p + 1) ends → end ≡ next ns p → new ≡ set ends p end → AreEndsFrom ns p new
 ends_more ns p end ends new h e is n = subst (AreEndsFrom ns p) (sym n) (record {

@@ -23,6 +23,7 @@ pub fn first_places(
     noted.clear();
     noted.resize(noted_variables(nodes), nodes.len())?;
     firsts.clear();
+    firsts.reserve(nodes.len())?;
     for place in 0..nodes.len() {
         let first = first_place(nodes, noted, place);
         firsts.push(first)?;

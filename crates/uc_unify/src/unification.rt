@@ -85,9 +85,12 @@ pub fn unify_in(
 
 /// Fills a lent list with the nodes of both terms.
 fn join(s: &[Node], t: &[Node], both: &mut Vec<Node>) -> Result<(), AllocError>
+    requires small_s { length s.now ≤ MAX_NODES }
+    requires small_t { length t.now ≤ MAX_NODES }
     ensures { OnOk result (both.new.items ≡ s.now ++ t.now) }
 {
     both.clear();
+    both.reserve(s.len() + t.len())?;
     both.extend_from_slice(s)?;
     both.extend_from_slice(t)?;
     Ok(())
