@@ -4,6 +4,7 @@ pub mod Numbers
 pub mod Made
 pub mod Fronts
 pub mod Reduced
+pub mod Parting
 pub mod Meetings
 pub mod Paired
 pub mod Results

@@ -17,6 +17,7 @@ mod meet;
 mod numbering;
 mod of_fact;
 mod pair;
+mod parts;
 mod reducing;
 mod trial;
 

@@ -76,7 +76,8 @@ fn is_reduced_by<O: Order>(
     if fact.number == number {
         return Ok(false);
     }
-    reduces(alloc, fact.number, fact.equation, own, order)
+    let way = way_of(fact.number, fact.equation, order);
+    reduces(alloc, fact.number, fact.equation, way, own, order)
 }
 
 /// The earlier facts of the list that the equation of this number reduces.
@@ -89,9 +90,10 @@ fn kills<O: Order>(
 ) -> Result<Seq<u32>, AllocError>
     ensures { IfOk result (λ list. (entries : List Entry) → AreKills (O.meaning order.now) entries number own.now (map lent_of facts.now) list) }
 {
+    let way = way_of(number, own, order);
     let mut list = Seq::new(alloc);
     for fact in facts {
-        add_kill(alloc, &mut list, number, own, fact, order)?;
+        add_kill(alloc, &mut list, number, own, way, fact, order)?;
     }
     Ok(list)
 }
@@ -102,15 +104,17 @@ fn add_kill<O: Order>(
     list: &mut Seq<u32>,
     number: u32,
     own: &Equation,
+    way: Cmp,
     fact: &Lent,
     order: &O,
 ) -> Result<(), AllocError>
+    requires { IsWayOf (O.meaning order.now).greater own.now way }
     ensures { OnOk result (Adds (KillsOne (O.meaning order.now) number own.now (lent_of fact.now)) list.old list.new) }
 {
     if fact.number >= number {
         return Ok(());
     }
-    if !reduces(alloc, number, own, fact.equation, order)? {
+    if !reduces(alloc, number, own, way, fact.equation, order)? {
         return Ok(());
     }
     list.push(fact.number)?;

@@ -1,48 +1,58 @@
 //! Whether an equation reduces another one.
 
 ghost use Rattle.std.specs.Prelude.{◌↔◌, IsTrue, IfOk};
+ghost use Rattle.uc_pair.specs.Listing.{IsWayOf};
 ghost use Rattle.uc_machine.specs.Results.{Reduces, StepsIn};
 ghost use Rattle.uc_task.specs.Reducing.{HasInstance, Gives};
 
 use crate::of_fact::OfFact;
+use crate::parts::may_step;
 use std::alloc::{AllocError, Global};
 use std::slice::from_ref;
 use uc_fact::Equation;
-use uc_order::Order;
+use uc_order::{Cmp, Order};
 use uc_rewrite::{Scan, is_reducible};
 use uc_term::Term;
 use uc_unify::matches_both;
 
 /// Whether the equation of a fact makes an ordered step in a side of another one, or has it as an instance, either way round.
-/// By the fact's number the order is asked how the two sides of its equation compare; the answer is the same for each number.
+/// It is known how the two sides of the fact's equation compare. By the fact's number the order is asked this again where a
+/// step may be made; the answer is the same for each number.
 pub fn reduces<O: Order>(
     alloc: Global,
     number: u32,
     equation: &Equation,
+    way: Cmp,
     other: &Equation,
     order: &O,
 ) -> Result<bool, AllocError>
+    requires { IsWayOf (O.meaning order.now).greater equation.now way }
     ensures { IfOk result (λ answer. IsTrue answer ↔ Reduces (O.meaning order.now) equation.now other.now) }
 {
-    if steps_in(alloc, number, equation, &other.left, order)? {
+    if steps_in(alloc, number, equation, way, &other.left, order)? {
         return Ok(true);
     }
-    if steps_in(alloc, number, equation, &other.right, order)? {
+    if steps_in(alloc, number, equation, way, &other.right, order)? {
         return Ok(true);
     }
     has_instance(alloc, equation, other)
 }
 
-/// Whether the equation of a fact makes an ordered step in a term.
+/// Whether the equation of a fact makes an ordered step in a term. Where none may be made, this takes no memory.
 fn steps_in<O: Order>(
     alloc: Global,
     number: u32,
     equation: &Equation,
+    way: Cmp,
     term: &Term,
     order: &O,
 ) -> Result<bool, AllocError>
+    requires { IsWayOf (O.meaning order.now).greater equation.now way }
     ensures { IfOk result (λ answer. IsTrue answer ↔ StepsIn (O.meaning order.now) equation.now term.now) }
 {
+    if !may_step(equation, way, term, order) {
+        return Ok(false);
+    }
     let order = OfFact { order, number };
     if is_reducible(alloc, term, &Scan::new(from_ref(equation)), &order)? {
         Ok(true)

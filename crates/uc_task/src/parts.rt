@@ -1,0 +1,50 @@
+//! Whether an equation may make a step in a term: a test that takes no memory.
+
+ghost use Rattle.std.specs.Prelude.{◌≡◌, ◌<◌, ◌≤◌, length, false};
+ghost use Rattle.uc_term.specs.Tree.{subterm};
+ghost use Rattle.uc_term.specs.Flat.{tree_of, IsWhole};
+ghost use Rattle.uc_unify.specs.Matching.{HasNoMatch};
+ghost use Rattle.uc_pair.specs.Listing.{IsWayOf};
+ghost use Rattle.uc_machine.specs.Results.{StepsIn};
+ghost use Rattle.uc_task.specs.Reducing.{HasNoPart};
+
+use uc_fact::{Equation, is_instance};
+use uc_order::{Cmp, Order};
+use uc_term::{MAX_NODES, Node, Term, end_of};
+
+/// Whether the equation may make an ordered step in the term, where it is known how its two sides compare: whether a subterm
+/// is an instance of a side that isn't less than the other one.
+pub fn may_step<O: Order>(equation: &Equation, way: Cmp, term: &Term, _order: &O) -> bool
+    requires { IsWayOf (O.meaning _order.now).greater equation.now way }
+    ensures { result ≡ false → StepsIn (O.meaning _order.now) equation.now term.now → ⊥ }
+{
+    match way {
+        Cmp::Greater => has_part(term, &equation.left),
+        Cmp::Less => has_part(term, &equation.right),
+        Cmp::Equal => false,
+        Cmp::Unknown => has_part(term, &equation.left) || has_part(term, &equation.right),
+    }
+}
+
+/// Whether a subterm is an instance of the pattern.
+fn has_part(term: &Term, pattern: &Term) -> bool
+    ensures { result ≡ false → HasNoPart pattern.now term.now }
+{
+    for place in 0..term.nodes() {
+        if is_part(term.as_nodes(), place as usize, pattern.as_nodes()) {
+            return true;
+        }
+    }
+    false
+}
+
+/// Whether the subterm at a place is an instance of the pattern.
+fn is_part(nodes: &[Node], place: usize, pattern: &[Node]) -> bool
+    requires whole { IsWhole nodes.now }
+    requires whole_pattern { IsWhole pattern.now }
+    requires small { length nodes.now ≤ MAX_NODES }
+    requires within { place < length nodes.now }
+    ensures { result ≡ false → HasNoMatch (tree_of pattern.now) (subterm (tree_of nodes.now) place) }
+{
+    is_instance(pattern, &nodes[place..end_of(nodes, place)])
+}
