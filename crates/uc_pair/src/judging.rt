@@ -9,10 +9,10 @@ ghost use Rattle.uc_pair.specs.Listing.{NeverDown, IsRepeated};
 ghost use Rattle.uc_pair.specs.Reading.{rule_read, AreApart, AreRenamed, IsTold};
 ghost use Rattle.uc_pair.specs.Judging.{StaysAt, IsSmallSize, IsRightSize, IsSameOr, IsSizeBy, IsJudged, IsJudgedBy};
 
-use crate::{Size, Space};
 use crate::fitting::fits_at;
 use crate::instances::{RenamedApart, fill_instance, is_too_large, put_part};
 use crate::reading::{Read, is_at_most, is_repeated};
+use crate::{Size, Space};
 use std::alloc::{AllocError, Global};
 use uc_order::Order;
 use uc_term::{Pos, Subst, Term, end_of, instance_size, same_nodes};
@@ -76,10 +76,24 @@ fn judged<O: Order>(
     requires inner_told { IsTold (O.meaning order.now).greater inner.now }
     ensures { IfOk result (IsJudgedBy (O.meaning order.now).greater terms.now place (image subst.now)) }
 {
-    if goes_up(space, outer, &terms.outer_from, &terms.outer_to, subst, order)? {
+    if goes_up(
+        space,
+        outer,
+        &terms.outer_from,
+        &terms.outer_to,
+        subst,
+        order,
+    )? {
         return Ok(None);
     }
-    if goes_up(space, inner, &terms.inner_from, &terms.inner_to, subst, order)? {
+    if goes_up(
+        space,
+        inner,
+        &terms.inner_from,
+        &terms.inner_to,
+        subst,
+        order,
+    )? {
         return Ok(None);
     }
     Ok(Some(size_by(alloc, space, terms, place, subst)?))

@@ -138,9 +138,7 @@ fn meetings<O: Order>(
     for fact in facts {
         add_overlaps(alloc, &mut space, &mut list, number, own, way, fact, order)?;
     }
-    let with_itself = overlaps_by(
-        alloc, &mut space, number, own, way, number, own, way, order,
-    )?;
+    let with_itself = overlaps_by(alloc, &mut space, number, own, way, number, own, way, order)?;
     list.append(with_itself)?;
     Ok(list)
 }

@@ -13,8 +13,8 @@ not_true h = cc
 
 pub returns-then-rule : goal.returns-then-rule
 returns-then-rule g c = (
-    λ h. absurd (not_true h),
-    λ s. absurd (never_stays (g.O.Order.meaning c.args.order.now) (g.met.O.Order.laws c.args.order.now) (rule_read c.args.rule.now) (image c.args.subst.now) c.args.from.now c.args.to.now (c.requires.told.always c.if-rule.true) c.requires.renamed s),
+  λ h. absurd (not_true h),
+  λ s. absurd (never_stays (g.O.Order.meaning c.args.order.now) (g.met.O.Order.laws c.args.order.now) (rule_read c.args.rule.now) (image c.args.subst.now) c.args.from.now c.args.to.now (c.requires.told.always c.if-rule.true) c.requires.renamed s),
 )
 
 pub is_at_most-requires-clause-s_whole : goal.is_at_most-requires-clause-s_whole
