@@ -95,7 +95,7 @@ fn an_old_ticket_is_refused(rt: HostRuntime) -> Result<(), Fail> {
 }
 
 fn draws_again<R: Wait>(rt: &R, alloc: Global, at: &Setting) -> Result<bool, Fail> {
-    let (mut book, mut pass) = begin(alloc, at, 9, 9, 1)?;
+    let (mut book, mut pass) = begin(alloc, at, &at.order, 9, 9, 1)?;
     let is_refused = is_old_refused(
         rt,
         alloc,
@@ -170,7 +170,7 @@ fn what_is_out_is_recalled(rt: HostRuntime) -> Result<(), Fail> {
 }
 
 fn recalls(alloc: Global, at: &Setting) -> Result<bool, AllocError> {
-    let (mut book, mut pass) = begin(alloc, at, 1, 2, 3)?;
+    let (mut book, mut pass) = begin(alloc, at, &at.order, 1, 2, 3)?;
     Ok(is_recalled(alloc, &mut book, &mut pass)? && are_events(book.history(), RECALLING))
 }
 
@@ -261,7 +261,7 @@ fn a_result_comes_late(rt: HostRuntime) -> Result<(), Fail> {
 }
 
 fn is_counted_late<R: Wait>(rt: &R, alloc: Global, at: &Setting) -> Result<bool, Fail> {
-    let (mut book, mut pass) = begin(alloc, at, 9, 9, 0)?;
+    let (mut book, mut pass) = begin(alloc, at, &at.order, 9, 9, 0)?;
     Ok(comes_late(rt, alloc, at, &mut book, &mut pass)? && are_events(book.history(), COMING_LATE))
 }
 
@@ -301,7 +301,7 @@ fn limits_close_a_book(rt: HostRuntime) -> Result<(), Fail> {
 const CLOSED_BY_BUDGET: &[Row] = &[(5, Happening::Close(Ending::Budget))];
 
 fn goes_on_to_budget(alloc: Global, at: &Setting) -> Result<bool, AllocError> {
-    let (mut book, mut pass) = begin(alloc, at, 0, 2, 5)?;
+    let (mut book, mut pass) = begin(alloc, at, &at.order, 0, 2, 5)?;
     Ok(
         is_closed_by_budget(alloc, &mut book, &mut pass)?
             && are_events(book.history(), CLOSED_BY_BUDGET),
@@ -341,6 +341,6 @@ fn a_refused_draw_changes_nothing(rt: HostRuntime) -> Result<(), Fail> {
 const DRAWN: &[Row] = &[(3, Happening::DrawJoin { pair: 0, front: 0 })];
 
 fn draws_once(alloc: Global, at: &Setting) -> Result<bool, AllocError> {
-    let (mut book, mut pass) = begin(alloc, at, 9, 9, 3)?;
+    let (mut book, mut pass) = begin(alloc, at, &at.order, 9, 9, 3)?;
     Ok(gets_task_of_two(alloc, &mut book, &mut pass)? && are_events(book.history(), DRAWN))
 }

@@ -1,9 +1,11 @@
-//! Tests of the public calls of the machine's crates: the ledger, the queue, the shelf, rows, tasks, the final pass, the book
-//! and searches by several workers.
+//! Tests of the public calls of the machine's crates: the ledger, the queue, the shelf, the bank, rows, tasks, the final pass,
+//! the book and searches by several workers.
 #![tactic(auto)]
 
 #[cfg(test)]
 mod alphabet;
+#[cfg(test)]
+mod bank;
 #[cfg(test)]
 mod books;
 #[cfg(test)]

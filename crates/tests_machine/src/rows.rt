@@ -352,13 +352,20 @@ fn two_facts<R: Wait>(rt: &R, alloc: Global, shelf: &Shelf) -> Result<Facts, Fai
     ensures { IfOk result (λ f. IsOf shelf.now f.front) }
 {
     let mut facts = Facts::new(alloc);
+    is_born(rt, alloc, shelf, &mut facts, first_fact(alloc)?)?;
+    is_born(rt, alloc, shelf, &mut facts, second_fact(alloc)?)?;
+    Ok(facts)
+}
+
+fn first_fact(alloc: Global) -> Result<Fact, TermFault> {
     let inner = [constant(alloc, 0)?];
     let left = Term::app(alloc, Sym(2), &inner)?;
-    let first = fact_of(alloc, left, constant(alloc, 1)?)?;
-    is_born(rt, alloc, shelf, &mut facts, first)?;
-    let second = fact_of(alloc, constant(alloc, 0)?, constant(alloc, 1)?)?;
-    is_born(rt, alloc, shelf, &mut facts, second)?;
-    Ok(facts)
+    Ok(fact_of(alloc, left, constant(alloc, 1)?)?)
+}
+
+fn second_fact(alloc: Global) -> Result<Fact, TermFault> {
+    let left = constant(alloc, 0)?;
+    Ok(fact_of(alloc, left, constant(alloc, 1)?)?)
 }
 
 // The least fact that is Unmet is found; a meeting that isn't held leaves a fact Unmet, or Met where the fact is dead.

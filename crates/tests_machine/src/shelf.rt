@@ -134,19 +134,31 @@ fn finds_living<I: Index>(alloc: Global, index: &I) -> Result<bool, Fail> {
 #[test]
 fn fronts_stand_apart(rt: HostRuntime) -> Result<(), Fail> {
     let shelf = Shelf::new(rt.alloc())?;
-    let mut front = filled(&rt, rt.alloc(), &shelf)?;
-    let other = front.copy(rt.alloc())?;
-    let apart = filled(&rt, rt.alloc(), &shelf)?;
-    assert!(rt; shelf.same(&front, &other) && shelf.same(&front, &apart));
-    put(
-        &rt,
-        rt.alloc(),
-        &shelf,
-        &mut front,
-        Entry::Dies { fact: 0, killer: 2 },
-    )?;
-    assert!(rt; are_apart(&shelf, &front, &other, &apart));
+    assert!(rt; stand_apart(&rt, rt.alloc(), &shelf)?);
     Ok(())
+}
+
+fn stand_apart<R: Wait>(rt: &R, alloc: Global, shelf: &Shelf) -> Result<bool, Fail> {
+    let mut front = filled(rt, alloc, shelf)?;
+    let apart = filled(rt, alloc, shelf)?;
+    part(rt, alloc, shelf, &mut front, &apart)
+}
+
+// Whether a front is as its copy and another one, until it gets one entry more.
+fn part<R: Wait>(
+    rt: &R,
+    alloc: Global,
+    shelf: &Shelf,
+    front: &mut Front,
+    apart: &Front,
+) -> Result<bool, Fail>
+    requires front { IsOf shelf.now front.old }
+    requires apart { IsOf shelf.now apart.now }
+{
+    let other = front.copy(alloc)?;
+    let were_same = shelf.same(front, &other) && shelf.same(front, apart);
+    put(rt, alloc, shelf, front, Entry::Dies { fact: 0, killer: 2 })?;
+    Ok(were_same && are_apart(shelf, front, &other, apart))
 }
 
 // Whether a front has one entry more than two others, which have the four.
@@ -173,13 +185,23 @@ fn reads(shelf: &Shelf, front: &Front, k: u32, wanted: &Entry) -> bool
 // What is read is what was put there.
 #[test]
 fn entries_are_read(rt: HostRuntime) -> Result<(), Fail> {
-    let alloc = rt.alloc();
-    let shelf = Shelf::new(alloc)?;
-    let front = filled(&rt, alloc, &shelf)?;
-    let last = entry(alloc, 3)?.copy(alloc)?;
-    assert!(rt; reads_last(&shelf, &front, &last));
-    assert!(rt; reads(&shelf, &front, 2, &Entry::Dies { fact: 1, killer: 2 }));
+    let shelf = Shelf::new(rt.alloc())?;
+    assert!(rt; reads_all(&rt, rt.alloc(), &shelf)?);
     Ok(())
+}
+
+fn reads_all<R: Wait>(rt: &R, alloc: Global, shelf: &Shelf) -> Result<bool, Fail> {
+    let front = filled(rt, alloc, shelf)?;
+    let is_last = reads_copy(alloc, shelf, &front)?;
+    Ok(is_last && reads(shelf, &front, 2, &Entry::Dies { fact: 1, killer: 2 }))
+}
+
+// Whether the front has a copy of the last entry at its place alone.
+fn reads_copy(alloc: Global, shelf: &Shelf, front: &Front) -> Result<bool, TermFault>
+    requires { IsOf shelf.now front.now }
+{
+    let last = entry(alloc, 3)?.copy(alloc)?;
+    Ok(reads_last(shelf, front, &last))
 }
 
 // Whether the front has the entry at 3 alone.

@@ -11,7 +11,9 @@ use std::sync::atomic::{AtomicBool, AtomicU64, Ordering};
 use std::test::Fail;
 use std::thread;
 use std::thread::Threads;
+use uc_book::Book;
 use uc_edge::{Gate, NoGate};
+use uc_kbo::Kbo;
 use uc_machine::{Ending, Event, GoalEnd, Happening, Verdict};
 use uc_order::Order;
 use uc_worker::search;
@@ -98,10 +100,13 @@ fn is_reclaim(event: &Event) -> bool {
 #[test]
 fn two_workers_meet(rt: HostRuntime) -> Result<(), Fail> {
     let at = set_up(rt.alloc(), AXIOMS, &[])?;
-    let gate = Meeting::new();
-    assert!(rt; meet_at(&rt, rt.alloc(), &at, &gate)?);
-    assert!(rt; gate.met.load(Ordering::SeqCst));
+    assert!(rt; meet(&rt, rt.alloc(), &at)?);
     Ok(())
+}
+
+fn meet<R: Threads + Wait + Sync>(rt: &R, alloc: Global, at: &Setting) -> Result<bool, AllocError> {
+    let gate = Meeting::new();
+    Ok(meet_at(rt, alloc, at, &gate)? && gate.met.load(Ordering::SeqCst))
 }
 
 fn meet_at<R: Threads + Wait + Sync>(
@@ -121,8 +126,11 @@ fn meet_at<R: Threads + Wait + Sync>(
         2,
         gate,
     )?;
-    let is_saturated = searched.verdict == Verdict::Saturated;
-    Ok(is_saturated && met_first(searched.book.history(), gate) && both_commit(&searched.shares))
+    Ok(have_met(&searched.book, &searched.verdict, &searched.shares, gate))
+}
+
+fn have_met(book: &Book<Kbo>, verdict: &Verdict, shares: &[u64], gate: &Meeting) -> bool {
+    *verdict == Verdict::Saturated && met_first(book.history(), gate) && both_commit(shares)
 }
 
 // Whether two workers drew first, each under the ticket at the gate, and no task was put back.
@@ -142,11 +150,15 @@ fn both_commit(shares: &[u64]) -> bool {
 #[test]
 fn two_workers_compute(rt: HostRuntime) -> Result<(), Fail> {
     let at = set_up(rt.alloc(), AXIOMS, &[])?;
-    let order = Watched::new(order(rt.alloc())?);
-    let gate = Meeting::new();
-    assert!(rt; ends_so(&rt, rt.alloc(), &at, &order, 2, &gate, Verdict::Saturated)?);
-    assert!(rt; order.have_met());
+    assert!(rt; compute(&rt, rt.alloc(), &at)?);
     Ok(())
+}
+
+fn compute<R: Threads + Wait + Sync>(rt: &R, alloc: Global, at: &Setting) -> Result<bool, Fail> {
+    let order = Watched::new(order(alloc)?);
+    let gate = Meeting::new();
+    let is_saturated = ends_so(rt, alloc, at, &order, 2, &gate, Verdict::Saturated)?;
+    Ok(is_saturated && order.have_met())
 }
 
 // Whether so many workers come to this verdict.
@@ -223,15 +235,26 @@ const SPREAD: &[Sides] = &[
 #[test]
 fn two_workers_end_a_round(rt: HostRuntime) -> Result<(), Fail> {
     let at = set_up(rt.alloc(), SPREAD, &[])?;
-    let order = Watched::idle(order(rt.alloc())?, 5, TURNS);
-    let gate = Last {
-        order: &order,
-        came: AtomicU64::new(0),
-    };
-    assert!(rt; ends_so(&rt, rt.alloc(), &at, &order, 2, &gate, Verdict::Saturated)?);
-    assert!(rt; gate.came.load(Ordering::SeqCst) == BEFORE_LAST + 1);
-    assert!(rt; order.have_met());
+    assert!(rt; end_round(&rt, rt.alloc(), &at)?);
     Ok(())
+}
+
+fn end_round<R: Threads + Wait + Sync>(rt: &R, alloc: Global, at: &Setting) -> Result<bool, Fail> {
+    let order = Watched::idle(order(alloc)?, 5, TURNS);
+    Ok(pass_last(rt, alloc, at, &order)? && order.have_met())
+}
+
+// Whether all tasks pass the gate, and the round ends the search.
+fn pass_last<R: Threads + Wait + Sync>(
+    rt: &R,
+    alloc: Global,
+    at: &Setting,
+    order: &Watched,
+) -> Result<bool, AllocError> {
+    let came = AtomicU64::new(0);
+    let gate = Last { order, came };
+    let is_saturated = ends_so(rt, alloc, at, order, 2, &gate, Verdict::Saturated)?;
+    Ok(is_saturated && gate.came.load(Ordering::SeqCst) == BEFORE_LAST + 1)
 }
 
 // The events of a search by worker 0 alone.
@@ -284,10 +307,17 @@ fn happened_alone(history: &[Event], list: &[Happening]) -> bool {
 #[test]
 fn one_worker_is_alone(rt: HostRuntime) -> Result<(), Fail> {
     let at = set_up(rt.alloc(), AXIOMS, &[GOAL])?;
-    let gate = Meeting::new();
-    assert!(rt; searches_alone(&rt, rt.alloc(), &at, &gate)?);
-    assert!(rt; gate.came.load(Ordering::SeqCst) == 0);
+    assert!(rt; is_alone(&rt, rt.alloc(), &at)?);
     Ok(())
+}
+
+fn is_alone<R: Threads + Wait + Sync>(
+    rt: &R,
+    alloc: Global,
+    at: &Setting,
+) -> Result<bool, AllocError> {
+    let gate = Meeting::new();
+    Ok(searches_alone(rt, alloc, at, &gate)? && gate.came.load(Ordering::SeqCst) == 0)
 }
 
 fn searches_alone<R: Threads + Wait + Sync>(
@@ -297,10 +327,11 @@ fn searches_alone<R: Threads + Wait + Sync>(
     gate: &Meeting,
 ) -> Result<bool, AllocError> {
     let searched = search(rt, alloc, &at.problem, &at.order, &at.shelf, 2, 9, 1, gate)?;
-    Ok(
-        happened_alone(searched.book.history(), ALONE)
-            && searched.shares.as_slice() == [6].as_slice(),
-    )
+    Ok(are_alone(&searched.book, &searched.shares))
+}
+
+fn are_alone(book: &Book<Kbo>, shares: &[u64]) -> bool {
+    happened_alone(book.history(), ALONE) && shares == [6].as_slice()
 }
 
 // Whether so many workers come to this verdict on the problem of these axioms and goals.
@@ -331,10 +362,9 @@ fn come_to_ends<R: Threads + Wait + Sync>(rt: &R, alloc: Global, workers: u32) -
 // Where there are fewer tasks than workers, the others wait, until a commit wakes them.
 #[test]
 fn whoever_waits_is_woken(rt: HostRuntime) -> Result<(), Fail> {
-    let alloc = rt.alloc();
-    assert!(rt; come_to_ends(&rt, alloc, 1)?);
-    assert!(rt; come_to_ends(&rt, alloc, 2)?);
-    assert!(rt; come_to_ends(&rt, alloc, 8)?);
-    assert!(rt; come_to_ends(&rt, alloc, 64)?);
+    assert!(rt; come_to_ends(&rt, rt.alloc(), 1)?);
+    assert!(rt; come_to_ends(&rt, rt.alloc(), 2)?);
+    assert!(rt; come_to_ends(&rt, rt.alloc(), 8)?);
+    assert!(rt; come_to_ends(&rt, rt.alloc(), 64)?);
     Ok(())
 }

@@ -7,6 +7,7 @@ use std::alloc::{AllocError, Global};
 use std::test::Fail;
 use uc_book::{Book, MAX_BUDGET, MAX_LIMIT, Pass, WORKERS};
 use uc_kbo::Kbo;
+use uc_order::Order;
 use uc_problem::{Encoded, Signature};
 use uc_shelf::Shelf;
 use uc_term::{Seq, TermFault};
@@ -49,24 +50,26 @@ pub fn set_up(alloc: Global, axioms: &[Sides], goals: &[Sides]) -> Result<Settin
     })
 }
 
-/// A book of the setting, with a worker.
-pub fn begin<'a>(
+/// A book of the setting by an order, with a worker.
+pub fn begin<'a, O: Order>(
     alloc: Global,
     at: &'a Setting,
+    order: &'a O,
     budget: u32,
     pairs: u32,
     worker: u32,
-) -> Result<(Book<'a, Kbo>, Pass), AllocError>
+) -> Result<(Book<'a, O>, Pass), AllocError>
     requires budget { budget ≤ MAX_BUDGET }
     requires pairs { pairs ≤ MAX_LIMIT }
     requires worker { worker < WORKERS }
     ensures problem { IfOk result (λ x. x.0.opening.problem ≡ at.entry.now.problem) }
-    ensures order { IfOk result (λ x. x.0.order ≡ at.entry.now.order) }
+    ensures order { IfOk result (λ x. x.0.order ≡ order.entry.now) }
     ensures shelf { IfOk result (λ x. x.0.opening.shelf ≡ at.entry.now.shelf) }
     ensures enrolled { IfOk result (λ x. x.0.enrolled ≡ worker ∷ []) }
+    ensures none_out { IfOk result (λ x. x.0.state.out ≡ []) }
     ensures pass { IfOk result (λ x. x.1.opening ≡ x.0.opening) }
 {
-    let mut book = Book::start(alloc, &at.problem, &at.order, &at.shelf, budget, pairs)?;
+    let mut book = Book::start(alloc, &at.problem, order, &at.shelf, budget, pairs)?;
     let pass = book.enroll(alloc, worker)?;
     Ok((book, pass))
 }
