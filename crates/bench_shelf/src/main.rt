@@ -36,15 +36,21 @@ struct Nothing;
 impl Test for Nothing {
     ghost use Rattle.std.specs.Prelude.{ℕ};
 
-    ghost can_test = { λ _ _. Unit {0} };
+    ghost can_test = { λ _ _ _ _. Unit {0} };
 
     ghost accepts = { λ _ _. ⊥ };
 
-    fn rules_out(&self, fact: u32, side: Side) -> bool {
+    fn rules_out(&self, fact: u32, side: Side, _from: &Term, _to: &Term) -> bool {
         false
     }
 
-    fn passes(&self, alloc: Global, found: &Found) -> Result<bool, std::alloc::AllocError> {
+    fn passes(
+        &self,
+        alloc: Global,
+        found: &Found,
+        _from: &Term,
+        _to: &Term,
+    ) -> Result<bool, std::alloc::AllocError> {
         Ok(false)
     }
 }
@@ -53,15 +59,21 @@ impl Test for Nothing {
 struct Anything;
 
 impl Test for Anything {
-    ghost can_test = { λ _ _. Unit {0} };
+    ghost can_test = { λ _ _ _ _. Unit {0} };
 
     ghost accepts = { λ _ _. Unit {0} };
 
-    fn rules_out(&self, fact: u32, side: Side) -> bool {
+    fn rules_out(&self, fact: u32, side: Side, _from: &Term, _to: &Term) -> bool {
         false
     }
 
-    fn passes(&self, alloc: Global, found: &Found) -> Result<bool, std::alloc::AllocError> {
+    fn passes(
+        &self,
+        alloc: Global,
+        found: &Found,
+        _from: &Term,
+        _to: &Term,
+    ) -> Result<bool, std::alloc::AllocError> {
         Ok(true)
     }
 }

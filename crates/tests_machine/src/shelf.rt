@@ -76,15 +76,21 @@ impl Test for IsLeft {
     ghost use Rattle.std.specs.Prelude.{◌≡◌, true};
     ghost use Rattle.uc_term.specs.declared.equation.Side.TheVariants.{Left};
 
-    ghost can_test = { λ s found. Unit {0} };
+    ghost can_test = { λ s found from to. Unit {0} };
 
     ghost accepts = { λ s found. found.side ≡ Left };
 
-    fn rules_out(&self, _fact: u32, _side: Side) -> bool {
+    fn rules_out(&self, _fact: u32, _side: Side, _from: &Term, _to: &Term) -> bool {
         false
     }
 
-    fn passes(&self, _alloc: Global, found: &Found) -> Result<bool, AllocError> {
+    fn passes(
+        &self,
+        _alloc: Global,
+        found: &Found,
+        _from: &Term,
+        _to: &Term,
+    ) -> Result<bool, AllocError> {
         Ok(found.side == Side::Left)
     }
 }

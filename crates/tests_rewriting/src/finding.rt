@@ -122,15 +122,21 @@ struct Leaves {
 impl Test for Leaves {
     ghost use Rattle.std.specs.Prelude.{◌≡◌, ◌%◌};
 
-    ghost can_test = { λ s found. Unit {0} };
+    ghost can_test = { λ s found from to. Unit {0} };
 
     ghost accepts = { λ s found. found.fact % 3 ≡ s.rest };
 
-    fn rules_out(&self, fact: u32, _side: Side) -> bool {
+    fn rules_out(&self, fact: u32, _side: Side, _from: &Term, _to: &Term) -> bool {
         fact % 3 != self.rest
     }
 
-    fn passes(&self, _alloc: Global, found: &Found) -> Result<bool, AllocError> {
+    fn passes(
+        &self,
+        _alloc: Global,
+        found: &Found,
+        _from: &Term,
+        _to: &Term,
+    ) -> Result<bool, AllocError> {
         Ok(found.fact % 3 == self.rest)
     }
 }

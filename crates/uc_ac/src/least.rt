@@ -9,7 +9,7 @@ ghost use Rattle.uc_ac.specs.Found.{IsInstanceOf};
 use crate::ac_law::{AcLaw, is_law};
 use std::alloc::{AllocError, Global};
 use uc_fact::{AcFacts, Found, Index, Side, Test};
-use uc_term::{MAX_NODES, Node, Sym};
+use uc_term::{MAX_NODES, Node, Sym, Term};
 
 /// The least facts that make the symbol associative and commutative. None exactly where no facts do.
 pub fn facts_of<I: Index>(alloc: Global, f: Sym, index: &I) -> Result<Option<AcFacts>, AllocError>
@@ -86,15 +86,21 @@ struct LawTest<'a, I> {
 impl<'a, I: Index> Test for LawTest<'a, I> {
     ghost use Rattle.uc_ac.specs.AcFacts.{IsFactThat};
 
-    ghost can_test = { λ s found. Unit {0} };
+    ghost can_test = { λ s found from to. Unit {0} };
 
     ghost accepts = { λ s found. IsFactThat (I.live s.index.now) s.law s.symbol found.fact };
 
-    fn rules_out(&self, fact: u32, _side: Side) -> bool {
+    fn rules_out(&self, fact: u32, _side: Side, _from: &Term, _to: &Term) -> bool {
         !is_fact_that(self.index, self.law, self.symbol, fact)
     }
 
-    fn passes(&self, _alloc: Global, found: &Found) -> Result<bool, AllocError> {
+    fn passes(
+        &self,
+        _alloc: Global,
+        found: &Found,
+        _from: &Term,
+        _to: &Term,
+    ) -> Result<bool, AllocError> {
         Ok(is_fact_that(self.index, self.law, self.symbol, found.fact))
     }
 }

@@ -26,7 +26,7 @@ use Rattle.uc_disc.specs.Retrieving.{GivesNone, Gives, IsFirstFrom, IsBest, IsBe
 use Rattle.std.proofs.Common.{MatchOption}
 use Rattle.uc_term.specs.declared.equation.Equation.{Equation}
 use Rattle.uc_term.specs.declared.equation.Side.{Side}
-use Rattle.uc_term.specs.Equations.{side_of}
+use Rattle.uc_term.specs.Equations.{side_of, other_side_of}
 use Rattle.uc_fact.specs.Live.{rule_of, rules_of}
 use Rattle.uc_fact.proofs.Matched.{one_match}
 use Rattle.uc_disc.specs.Numbered.{live_of, lives, IsRule}
@@ -71,7 +71,7 @@ pub each_leaf : (n : ℕ) (ps : List Place) (k : ℕ) → IsPermutation (numbers
 each_leaf n ps k perm h = has_leaf ps k (Contains-permutation (numbers_below n) (leaves ps) k perm (below_contains n k h))
 
 -- by a rule's number
-pub found_at : (t : Tree) (rules : List Rule) (k : ℕ) (rule : Rule) (pairs : List (ℕ × Tree)) → slice_get rules k ≡ Some rule → IsMatch rule.from t pairs → IsFound t rules (found_by rule pairs)
+pub found_at : (t : Tree) (rules : List Rule) (k : ℕ) (rule : Rule) (pairs : List (ℕ × Tree)) → slice_get rules k ≡ Some rule → IsMatch rule.from t pairs → IsFound t rules (found_by rule pairs) rule.from rule.to
 found_at t [] k rule pairs e m = absurd cc
 found_at t (r ∷ rules) zero rule pairs e m = let same : rule ≡ r = cc in rw same (by_first (rw same at m))
 found_at t (r ∷ rules) (suc k) rule pairs e m = by_later (found_at t rules k rule pairs e m)
@@ -195,7 +195,7 @@ module _ (Accepted : Found → Type 0) (t : Tree) (facts : List (ℕ × Equation
       let same = one_rule r e in
       f pairs (subst (λ (z : Rule). IsMatch z.from t pairs) same m) (subst (λ (z : Rule). Accepted (found_by z pairs)) same a)
 
-  pub tried_found : (pairs : List (ℕ × Tree)) → IsMatch (side_of side fact.1) t pairs → IsFound t (rules_of (lives facts)) (record { fact = fact.0; side = side; subst = pairs })
+  pub tried_found : (pairs : List (ℕ × Tree)) → IsMatch (side_of side fact.1) t pairs → IsFound t (rules_of (lives facts)) (record { fact = fact.0; side = side; subst = pairs }) (side_of side fact.1) (other_side_of side fact.1)
   tried_found pairs m = found_at t (rules_of (lives facts)) number (rule_of side (live_of fact)) pairs there m
 
   pub tried_some : (pairs : List (ℕ × Tree)) → IsMatch (side_of side fact.1) t pairs → Accepted (record { fact = fact.0; side = side; subst = pairs }) → Gives Accepted t (rules_of (lives facts)) number (record { fact = fact.0; side = side; subst = pairs })

@@ -2,7 +2,7 @@
 
 ghost use Rattle.std.specs.Prelude.{◌≡◌, ◌+◌, ◌*◌, ◌/◌, ◌<◌, ◌≤◌, ℕ, length, slice_get, Some, IfOk};
 ghost use Rattle.uc_term.specs.declared.equation.Equation.{Equation as AnyEquation};
-ghost use Rattle.uc_term.specs.Equations.{side_of};
+ghost use Rattle.uc_term.specs.Equations.{side_of, other_side_of};
 ghost use Rattle.uc_disc.specs.Numbered.{IsRule};
 
 use std::alloc::{AllocError, Global};
@@ -30,6 +30,17 @@ pub fn side_term(equation: &Equation, side: Side) -> &Term
     match side {
         Side::Left => &equation.left,
         Side::Right => &equation.right,
+    }
+}
+
+/// Returns the term of the other side.
+#[inline]
+pub fn other_side_term(equation: &Equation, side: Side) -> &Term
+    ensures { result.now ≡ other_side_of side equation.now }
+{
+    match side {
+        Side::Left => &equation.right,
+        Side::Right => &equation.left,
     }
 }
 

@@ -1,6 +1,7 @@
 //! Finds the first rule that gives something that passes a test.
 
 ghost use Rattle.std.specs.Prelude.{◌≡◌, ◌+◌, ◌*◌, ◌-◌, ◌<◌, ◌≤◌, ◌^◌, ℕ, IfOk, OnErr, length};
+ghost use Rattle.uc_term.specs.Tree.{Tree as AnyTree};
 ghost use Rattle.uc_term.specs.Flat.{tree_of, IsWhole};
 ghost use Rattle.uc_fact.specs.declared.index.Found.{Found as AnyFound};
 ghost use Rattle.uc_fact.specs.Live.{rules_of};
@@ -12,13 +13,13 @@ ghost use Rattle.uc_disc.specs.Heads.{IsRoot, AreHeads, AreParts};
 ghost use Rattle.uc_disc.specs.Retrieving.{IsTried, IsFirstFrom, IsBest, IsBetter, IsBestBefore};
 
 use crate::ends::fill_ends;
-use crate::facts::{side_of_rule, side_term};
+use crate::facts::{other_side_term, side_of_rule, side_term};
 use crate::heads::{Head, Part, Parts, parts_of};
 use crate::place::{Mark, Place, leaf_rule};
 use crate::walk::next_leaf;
 use std::alloc::{AllocError, Global};
 use uc_fact::{Equation, Found, Side, Test};
-use uc_term::{MAX_NODES, Node};
+use uc_term::{MAX_NODES, Node, Term};
 use uc_unify::matches;
 
 /// A rule with what it gives.
@@ -39,15 +40,21 @@ pub struct Best {
 pub struct Any;
 
 impl Test for Any {
-    ghost can_test = { λ _ _. Unit {0} };
+    ghost can_test = { λ _ _ _ _. Unit {0} };
 
     ghost accepts = { λ _ _. Unit {0} };
 
-    fn rules_out(&self, fact: u32, side: Side) -> bool {
+    fn rules_out(&self, fact: u32, side: Side, from: &Term, to: &Term) -> bool {
         false
     }
 
-    fn passes(&self, alloc: Global, found: &Found) -> Result<bool, AllocError> {
+    fn passes(
+        &self,
+        alloc: Global,
+        found: &Found,
+        from: &Term,
+        to: &Term,
+    ) -> Result<bool, AllocError> {
         Ok(true)
     }
 }
@@ -64,22 +71,24 @@ fn try_rule<T: Test>(
     requires whole { IsWhole term.now }
     requires small { length term.now ≤ MAX_NODES }
     requires few { length facts.now < 2 ^ 31 }
-    requires can { (found : AnyFound) → IsFound (tree_of term.now) (rules_of (lives facts.now)) found → T.can_test test.now found }
+    requires can { (found : AnyFound) (from to : AnyTree) → IsFound (tree_of term.now) (rules_of (lives facts.now)) found from to → T.can_test test.now found from to }
     ensures { IfOk result (IsTried (T.accepts test.now) (tree_of term.now) (rules_of (lives facts.now)) rule) }
 {
     let fact = &facts[rule as usize / 2];
     let side = side_of_rule(facts, rule);
-    if test.rules_out(fact.0, side) {
+    let from = side_term(&fact.1, side);
+    let to = other_side_term(&fact.1, side);
+    if test.rules_out(fact.0, side, from, to) {
         return Ok(None);
     }
-    match matches(alloc, side_term(&fact.1, side).as_nodes(), term)? {
+    match matches(alloc, from.as_nodes(), term)? {
         Some(subst) => {
             let found = Found {
                 fact: fact.0,
                 side,
                 subst,
             };
-            if test.passes(alloc, &found)? {
+            if test.passes(alloc, &found, from, to)? {
                 Ok(Some(found))
             } else {
                 Ok(None)
@@ -105,7 +114,7 @@ fn better<T: Test>(
     requires whole { IsWhole term.now }
     requires small { length term.now ≤ MAX_NODES }
     requires few { length facts.now < 2 ^ 31 }
-    requires can { (found : AnyFound) → IsFound (tree_of term.now) (rules_of (lives facts.now)) found → T.can_test test.now found }
+    requires can { (found : AnyFound) (from to : AnyTree) → IsFound (tree_of term.now) (rules_of (lives facts.now)) found from to → T.can_test test.now found from to }
     requires best { IsBest (T.accepts test.now) (tree_of term.now) (rules_of (lives facts.now)) from best.bound best.answer }
     ensures { IfOk result (IsBetter (T.accepts test.now) (tree_of term.now) (rules_of (lives facts.now)) from rule best.bound) }
 {
@@ -144,7 +153,7 @@ fn best_in<T: Test>(
     requires tree { IsTree (rules_of (lives facts.now)) places.now marks.now (length at.old - 1) }
     requires room { 1 < length at.old }
     requires few { length facts.now < 2 ^ 31 }
-    requires can { (found : AnyFound) → IsFound (tree_of term.now) (rules_of (lives facts.now)) found → T.can_test test.now found }
+    requires can { (found : AnyFound) (from to : AnyTree) → IsFound (tree_of term.now) (rules_of (lives facts.now)) found from to → T.can_test test.now found from to }
     requires within { (part.start ≤ length places.now) × (part.stop ≤ length places.now) }
     requires root { IsRoot places.now part.start }
     requires best { IsBestBefore (T.accepts test.now) (tree_of term.now) (rules_of (lives facts.now)) places.now from part.start best }
@@ -187,7 +196,7 @@ fn first_in<T: Test>(
     requires parts { AreParts term.now places.now parts }
     requires room { 1 < length at.old }
     requires few { length facts.now < 2 ^ 31 }
-    requires can { (found : AnyFound) → IsFound (tree_of term.now) (rules_of (lives facts.now)) found → T.can_test test.now found }
+    requires can { (found : AnyFound) (from to : AnyTree) → IsFound (tree_of term.now) (rules_of (lives facts.now)) found from to → T.can_test test.now found from to }
     ensures value { IfOk result (IsFirstFrom (T.accepts test.now) (tree_of term.now) (rules_of (lives facts.now)) from) }
     ensures memory { OnErr result (FindsNothing (tree_of term.now) (rules_of (lives facts.now)) → ⊥) }
 {
@@ -238,7 +247,7 @@ fn first_shallow<T: Test>(
     requires tree { IsTree (rules_of (lives facts.now)) places.now marks.now 63 }
     requires parts { AreParts term.now places.now parts }
     requires few { length facts.now < 2 ^ 31 }
-    requires can { (found : AnyFound) → IsFound (tree_of term.now) (rules_of (lives facts.now)) found → T.can_test test.now found }
+    requires can { (found : AnyFound) (from to : AnyTree) → IsFound (tree_of term.now) (rules_of (lives facts.now)) found from to → T.can_test test.now found from to }
     ensures value { IfOk result (IsFirstFrom (T.accepts test.now) (tree_of term.now) (rules_of (lives facts.now)) from) }
     ensures memory { OnErr result (FindsNothing (tree_of term.now) (rules_of (lives facts.now)) → ⊥) }
 {
@@ -266,7 +275,7 @@ fn first_deep<T: Test>(
     requires whole { IsWhole term.now }
     requires small { length term.now ≤ MAX_NODES }
     requires few { length facts.now < 2 ^ 31 }
-    requires can { (found : AnyFound) → IsFound (tree_of term.now) (rules_of (lives facts.now)) found → T.can_test test.now found }
+    requires can { (found : AnyFound) (from to : AnyTree) → IsFound (tree_of term.now) (rules_of (lives facts.now)) found from to → T.can_test test.now found from to }
     ensures value { IfOk result (IsFirstFrom (T.accepts test.now) (tree_of term.now) (rules_of (lives facts.now)) from) }
     ensures memory { OnErr result (FindsNothing (tree_of term.now) (rules_of (lives facts.now)) → ⊥) }
 {
@@ -296,7 +305,7 @@ pub fn first_from<T: Test>(
     requires whole { IsWhole term.now }
     requires small { length term.now ≤ MAX_NODES }
     requires few { length facts.now < 2 ^ 31 }
-    requires can { (found : AnyFound) → IsFound (tree_of term.now) (rules_of (lives facts.now)) found → T.can_test test.now found }
+    requires can { (found : AnyFound) (from to : AnyTree) → IsFound (tree_of term.now) (rules_of (lives facts.now)) found from to → T.can_test test.now found from to }
     ensures value { IfOk result (IsFirstFrom (T.accepts test.now) (tree_of term.now) (rules_of (lives facts.now)) from) }
     ensures memory { OnErr result (FindsNothing (tree_of term.now) (rules_of (lives facts.now)) → ⊥) }
 {

@@ -1,12 +1,11 @@
 -- What is found for a term is one list, and the first that is accepted is the first of the list that is.
-use Rattle.std.proofs.Common.{subst, ◌≡◌, ℕ, List, [], ◌∷◌, Option, All, refl, ap₂}
-use Rattle.std.proofs.lemmas.List.Elements.{All-nil, All-cons}
+use Rattle.std.proofs.Common.{◌≡◌, ℕ, List, [], ◌∷◌, Option, refl, sym, ap₂, subst}
 use Rattle.uc_term.specs.Tree.{Tree}
 use Rattle.uc_term.specs.Subst.{image}
 use Rattle.uc_unify.specs.Matching.{IsMatch, HasNoMatch}
 use Rattle.uc_fact.specs.declared.index.Found.{Found}
 use Rattle.uc_fact.specs.Live.{Rule}
-use Rattle.uc_fact.specs.Retrieval.{found_by, Generalises, no_rules, is_instance, is_no_instance, IsFound, by_first, by_later, FirstThat, no_rule_left, accepted, not_accepted, FirstOf, none_left, is_first, is_later}
+use Rattle.uc_fact.specs.Retrieval.{found_by, Generalises, no_rules, is_instance, is_no_instance, FirstThat, no_rule_left, accepted, not_accepted, FirstOf, none_left, is_first, is_later}
 use Rattle.uc_fact.proofs.Matched.{one_match}
 
 clash : {A : Type 0} {pattern t : Tree} {pairs : List (ℕ × Tree)} → IsMatch pattern t pairs → HasNoMatch pattern t → A
@@ -27,14 +26,6 @@ module _ (Accepted : Found → Type 0) (t : Tree) where
   of_list (rule ∷ rules) list answer (is_no_instance n g) (accepted m a) = clash m n
   of_list (rule ∷ rules) list answer (is_no_instance n g) (not_accepted k f) = of_list rules list answer g f
 
-  pub from_list : (rules : List Rule) (list : List Found) (answer : Option Found) → Generalises t rules list → FirstOf Accepted list answer → FirstThat Accepted t rules answer
-  from_list [] list answer no_rules none_left = no_rule_left
-  from_list (rule ∷ rules) list answer (is_instance m g) (is_first a) = accepted m a
-  from_list (rule ∷ rules) list answer (is_instance {pairs = p} m g) (is_later a f) = not_accepted (λ q n b. a (subst (λ pairs. Accepted (found_by rule pairs)) (one_match rule.from t q p n m) b)) (from_list rules _ answer g f)
-  from_list (rule ∷ rules) list answer (is_no_instance n g) f = not_accepted (λ q m b. clash m n) (from_list rules list answer g f)
-
--- what holds of all that is found holds of the list
-pub all_found : (P : Found → Type 0) (t : Tree) (rules : List Rule) (list : List Found) → ((found : Found) → IsFound t rules found → P found) → Generalises t rules list → All P list
-all_found P t [] list h no_rules = All-nil P
-all_found P t (rule ∷ rules) list h (is_instance {pairs = p} {list = rest} m g) = All-cons P (found_by rule p) rest (h (found_by rule p) (by_first m)) (all_found P t rules rest (λ f i. h f (by_later i)) g)
-all_found P t (rule ∷ rules) list h (is_no_instance n g) = all_found P t rules list (λ f i. h f (by_later i)) g
+-- what holds of two terms holds of those that are equal to them
+pub of_equal : (P : Tree → Tree → Type 0) (from to from' to' : Tree) → from' ≡ from → to' ≡ to → P from to → P from' to'
+of_equal P from to from' to' e h p = subst (λ z. P from' z) (sym h) (subst (λ z. P z to) (sym e) p)

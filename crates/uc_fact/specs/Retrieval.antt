@@ -19,10 +19,10 @@ pub data Generalises (t : Tree) : List Rule → List Found → Type 0 where
 abbrev pub FindsNothing : Tree → List Rule → Type 0
 FindsNothing t rules = Generalises t rules []
 
--- it is what one of the rules gives
-pub data IsFound (t : Tree) : List Rule → Found → Type 0 where
-  by_first : {rule : Rule} {rules : List Rule} {pairs : List (ℕ × Tree)} → IsMatch rule.from t pairs → IsFound t (rule ∷ rules) (found_by rule pairs)
-  by_later : {rule : Rule} {rules : List Rule} {found : Found} → IsFound t rules found → IsFound t (rule ∷ rules) found
+-- it is what one of the rules gives, which leads from the one term to the other
+pub data IsFound (t : Tree) : List Rule → Found → Tree → Tree → Type 0 where
+  by_first : {rule : Rule} {rules : List Rule} {pairs : List (ℕ × Tree)} → IsMatch rule.from t pairs → IsFound t (rule ∷ rules) (found_by rule pairs) rule.from rule.to
+  by_later : {rule : Rule} {rules : List Rule} {found : Found} {from to : Tree} → IsFound t rules found from to → IsFound t (rule ∷ rules) found from to
 
 -- What the first rule gives that gives something accepted; none, where no rule does.
 pub data FirstThat (Accepted : Found → Type 0) (t : Tree) : List Rule → Option Found → Type 0 where

@@ -15,7 +15,7 @@ mod laws;
 pub use ac_facts::AcFacts;
 pub use chain::{By, Chain, Step};
 pub use fact::{Fact, Origin, Overlap, Stop, System};
-pub use index::{Found, Index, Test, first_of};
+pub use index::{Found, Index, Test};
 pub use instance::{heads_differ, is_instance, matching};
 pub use joinable::{Joinable, Reason};
 pub use laws::{first_of_the_list, one_list};

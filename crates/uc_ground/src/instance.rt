@@ -45,18 +45,24 @@ pub struct OneInstance<'a, I> {
 impl<'a, I: Index> Test for OneInstance<'a, I> {
     ghost use Rattle.uc_ground.specs.Joining.{IsInstanceFrom};
 
-    ghost can_test = { λ s found. Unit {0} };
+    ghost can_test = { λ s found from to. Unit {0} };
 
     ghost accepts = { λ s found. IsInstanceFrom (I.live s.index.now) s.left.now s.right.now found.fact found.side };
 
-    fn rules_out(&self, fact: u32, side: Side) -> bool {
+    fn rules_out(&self, fact: u32, side: Side, _from: &Term, _to: &Term) -> bool {
         match sides(self.index, fact, side) {
             Some((_, to)) => differs(to.as_nodes(), self.right.as_nodes()),
             None => false,
         }
     }
 
-    fn passes(&self, alloc: Global, found: &Found) -> Result<bool, AllocError> {
+    fn passes(
+        &self,
+        alloc: Global,
+        found: &Found,
+        _from: &Term,
+        _to: &Term,
+    ) -> Result<bool, AllocError> {
         let Some((from, to)) = sides(self.index, found.fact, found.side) else {
             return Ok(false);
         };

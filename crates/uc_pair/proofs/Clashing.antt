@@ -13,7 +13,7 @@ use Rattle.uc_pair.proofs.Parts.{part_whole, no_fit}
 use Rattle.uc_pair.proofs.Walking.{at_start, at_clash}
 
 -- the first node of a part
-first_of : (ns : List Node) (p k : ℕ) (d : Node) → p < length ns → 0 < k → get_or (take k (drop p ns)) 0 d ≡ get_or ns p d
+pub first_of : (ns : List Node) (p k : ℕ) (d : Node) → p < length ns → 0 < k → get_or (take k (drop p ns)) 0 d ≡ get_or ns p d
 first_of ns p zero d h k = absurd (omega (arith, k))
 first_of ns p (suc k) d h _ = ap (λ (xs : List Node). get_or (take (suc k) xs) 0 d) (drop-at ns p d h)
 

@@ -13,7 +13,7 @@ use Rattle.uc_pair.specs.Overlapping.{shifted, IsBelow, Overlapping, IsApart, pe
 use Rattle.uc_pair.specs.Listing.{AtMost, by_instances, by_sides, LeadsUp, outer_up, inner_up, NeverDown, IsRepeated, at_variable, no_unifier, repeats, leads_up, is_listed}
 use Rattle.uc_pair.specs.declared.formation.Formation.TheVariants.{TooLarge as NoPair}
 use Rattle.uc_pair.specs.Pairs.{IsFormation, forms_none}
-use Rattle.uc_pair.specs.Reading.{renamed, AreApart, AreRenamed}
+use Rattle.uc_pair.specs.Reading.{renamed, AreApart, AreInstances}
 use Rattle.uc_pair.specs.Judging.{StaysAt, IsJudged, LeadDown, StaysUp, outer_stays, inner_stays, IsSizeBy, IsJudgedBy}
 use Rattle.uc_pair.proofs.Renaming.{apply-renamed, subterm-renamed, put-renamed, moved, most_general_back, no_unifier_back, Alike, alike}
 use Rattle.uc_pair.proofs.Names.{renamed_nodes}
@@ -67,7 +67,7 @@ abbrev pub terms_of : {outer inner : Rule} {place : ℕ} → Overlapping outer i
 terms_of o = five (peak o) (left_of o) (inner_from o) (inner_to o) (right_of o)
 
 -- where the rule's side is greater, so is each instance of it
-pub never_stays : (m : Meaning) → Laws m → (rule : Rule) (σ : ℕ → Tree) (from to : Tree) → m.greater rule.from rule.to → AreRenamed rule from to → StaysAt m.greater (apply σ from) (apply σ to) → ⊥
+pub never_stays : (m : Meaning) → Laws m → (rule : Rule) (σ : ℕ → Tree) (from to : Tree) → m.greater rule.from rule.to → AreInstances rule from to → StaysAt m.greater (apply σ from) (apply σ to) → ⊥
 never_stays m laws rule σ from to g r (s, t, q) = up q
   where
     down : m.greater (apply σ from) (apply σ to)
@@ -77,7 +77,7 @@ never_stays m laws rule σ from to g r (s, t, q) = up q
     up (inl h) = laws.irreflexive (apply σ from) (laws.transitive (apply σ from) (apply σ to) (apply σ from) down h)
     up (inr e) = laws.irreflexive (apply σ to) (subst (λ u. m.greater u (apply σ to)) e down)
 
-pub inner_renamed : (outer inner : Rule) (terms : RenamedApart) → AreApart outer inner terms → AreRenamed inner terms.inner_from terms.inner_to
+pub inner_renamed : (outer inner : Rule) (terms : RenamedApart) → AreApart outer inner terms → AreInstances inner terms.inner_from terms.inner_to
 inner_renamed outer inner terms x = (λ y. var (x.there (y + x.k)), from_is ∙ apply-renamed (λ y. var (x.there y)) (λ y. y + x.k) inner.from, to_is ∙ apply-renamed (λ y. var (x.there y)) (λ y. y + x.k) inner.to)
   where
     from_is : terms.inner_from ≡ renamed x.there (shifted x.k inner.from)

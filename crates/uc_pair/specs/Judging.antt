@@ -1,4 +1,4 @@
--- What the place of an outer side comes to, found by instances that are built only where they are small.
+-- What the place of an outer side comes to. Sizes are counted; instances are built only where they are small and are compared.
 use Rattle.std.specs.Prelude.{ℕ, ◌≡◌, ◌+◌, ◌⊎◌, ◌++◌, Bool, true, false, List, ◌∷◌, Option, Some, None}
 use Rattle.uc_term.specs.Tree.{Tree, apply, nodes, put}
 use Rattle.uc_term.specs.declared.node.Node.{Node}

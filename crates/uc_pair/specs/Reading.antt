@@ -15,9 +15,9 @@ pub record IsTold (Greater : Tree → Tree → Type 0) (r : Read) : Type 0 where
   pub never : IsTrue r.never_down ↔ NeverDown Greater (rule_read r)
   pub always : IsTrue r.always_down → Greater (rule_read r).from (rule_read r).to
 
--- two terms are the rule's sides with their variables renamed
-abbrev pub AreRenamed : Rule → Tree → Tree → Type 0
-AreRenamed rule from to = (ρ : ℕ → Tree) × (from ≡ apply ρ rule.from) × (to ≡ apply ρ rule.to)
+-- two terms are instances of the rule's sides, by one substitution
+abbrev pub AreInstances : Rule → Tree → Tree → Type 0
+AreInstances rule from to = (ρ : ℕ → Tree) × (from ≡ apply ρ rule.from) × (to ≡ apply ρ rule.to)
 
 -- the variables renamed
 abbrev pub renamed : (ℕ → ℕ) → Tree → Tree

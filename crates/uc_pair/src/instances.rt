@@ -61,7 +61,7 @@ pub(crate) fn instance_of(
     Ok(Some(Term::from_nodes(instance(alloc, nodes, subst)?)))
 }
 
-/// Fills a list with the nodes of the term's instance; whether this has at most 4,096 nodes. Else the list stays.
+/// Fills a list with the nodes of the term's instance; whether this has at most 4,096 nodes.
 pub(crate) fn fill_instance(
     list: &mut Vec<Node>,
     term: &Term,

@@ -6,7 +6,7 @@ ghost use Rattle.uc_term.specs.Subst.{image};
 ghost use Rattle.uc_term.specs.Variables.{IsApp};
 ghost use Rattle.uc_unify.specs.Unifiers.{IsMostGeneral};
 ghost use Rattle.uc_pair.specs.Listing.{NeverDown, IsRepeated};
-ghost use Rattle.uc_pair.specs.Reading.{rule_read, AreApart, AreRenamed, IsTold};
+ghost use Rattle.uc_pair.specs.Reading.{rule_read, AreApart, AreInstances, IsTold};
 ghost use Rattle.uc_pair.specs.Judging.{StaysAt, IsSmallSize, IsRightSize, IsSameOr, IsSizeBy, IsJudged, IsJudgedBy};
 
 use crate::fitting::fits_at;
@@ -110,7 +110,7 @@ fn goes_up<O: Order>(
     order: &O,
 ) -> Result<bool, AllocError>
     requires told { IsTold (O.meaning order.now).greater rule.now }
-    requires renamed { AreRenamed (rule_read rule.now) from.now to.now }
+    requires renamed { AreInstances (rule_read rule.now) from.now to.now }
     ensures { IfOk result (λ up. IsTrue up ↔ StaysAt (O.meaning order.now).greater (apply (image subst.now) from.now) (apply (image subst.now) to.now)) }
 {
     if rule.always_down {

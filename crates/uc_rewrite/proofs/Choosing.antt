@@ -63,17 +63,19 @@ pub all_known : (live : List Live) → AreRising live → Each (IsRuleOf live) (
 all_known live h = known_from 0 live h
 
 -- the rule by which it was found
-pub record FoundBy (live : List Live) (t : Tree) (found : Found) : Type 0 where
+pub record FoundBy (live : List Live) (t : Tree) (found : Found) (from to : Tree) : Type 0 where
   pub rule : Rule
   pub pairs : List (ℕ × Tree)
   pub known : IsRuleOf live rule
   pub is_match : IsMatch rule.from t pairs
   pub found_is : found ≡ found_by rule pairs
+  pub from_is : from ≡ rule.from
+  pub to_is : to ≡ rule.to
 
-pub found_rule : (live : List Live) (t : Tree) (rules : List Rule) (found : Found) → Each (IsRuleOf live) rules → IsFound t rules found → FoundBy live t found
-found_rule live t [] found k i = elim i [ ]
-found_rule live t (r ∷ rules) _ k (by_first {pairs = p} m) = record { rule = r; pairs = p; known = k.0; is_match = m; found_is = refl }
-found_rule live t (r ∷ rules) found k (by_later i) = found_rule live t rules found k.1 i
+pub found_rule : (live : List Live) (t : Tree) (rules : List Rule) (found : Found) (from to : Tree) → Each (IsRuleOf live) rules → IsFound t rules found from to → FoundBy live t found from to
+found_rule live t [] found from to k i = elim i [ ]
+found_rule live t (r ∷ rules) _ _ _ k (by_first {pairs = p} m) = record { rule = r; pairs = p; known = k.0; is_match = m; found_is = refl; from_is = refl; to_is = refl }
+found_rule live t (r ∷ rules) found from to k (by_later i) = found_rule live t rules found from to k.1 i
 
 module _ (Greater : Tree → Tree → Type 0) (least : Sym) (live : List Live) (u : Tree) where
   -- what is found leads down exactly where its rule makes a term

@@ -119,20 +119,20 @@ module _ (t : Tree) where
   something_by rule pairs m (is_no_instance n g) = n (image pairs) m.gives
 
   -- what is found by a part of the facts is found by all
-  pub found_more : (xs ys : List Rule) (found : Found) → IsFound t xs found → IsFound t (xs ++ ys) found
-  found_more [] ys found i = elim i [ ]
-  found_more (x ∷ xs) ys _ (by_first m) = by_first m
-  found_more (x ∷ xs) ys found (by_later i) = by_later (found_more xs ys found i)
+  pub found_more : (xs ys : List Rule) (found : Found) (from to : Tree) → IsFound t xs found from to → IsFound t (xs ++ ys) found from to
+  found_more [] ys found from to i = elim i [ ]
+  found_more (x ∷ xs) ys _ _ _ (by_first m) = by_first m
+  found_more (x ∷ xs) ys found from to (by_later i) = by_later (found_more xs ys found from to i)
 
-  found_in : (n i : ℕ) (es : List Equation) (found : Found) → IsFound t (rules_of (numbered_from (n + i) (drop i es))) found → IsFound t (rules_of (numbered_from n es)) found
-  found_in n zero es found f = subst (λ k. IsFound t (rules_of (numbered_from k es)) found) (let e : n + 0 ≡ n = omega arith in e) f
-  found_in n (suc i) [] found f = elim f [ ]
-  found_in n (suc i) (e ∷ es) found f = by_later (by_later (found_in (n + 1) i es found (subst (λ k. IsFound t (rules_of (numbered_from k (drop i es))) found) (let s : n + suc i ≡ n + 1 + i = omega arith in s) f)))
+  found_in : (n i : ℕ) (es : List Equation) (found : Found) (from to : Tree) → IsFound t (rules_of (numbered_from (n + i) (drop i es))) found from to → IsFound t (rules_of (numbered_from n es)) found from to
+  found_in n zero es found from to f = subst (λ k. IsFound t (rules_of (numbered_from k es)) found from to) (let e : n + 0 ≡ n = omega arith in e) f
+  found_in n (suc i) [] found from to f = elim f [ ]
+  found_in n (suc i) (e ∷ es) found from to f = by_later (by_later (found_in (n + 1) i es found from to (subst (λ k. IsFound t (rules_of (numbered_from k (drop i es))) found from to) (let s : n + suc i ≡ n + 1 + i = omega arith in s) f)))
 
-  pub found_at : (facts : List Equation) (i : ℕ) (fact : Equation) (found : Found) → drop i facts ≡ fact ∷ drop (i + 1) facts → IsFound t (rules_of (live_fact i fact ∷ [])) found → IsFound t (rules_of (numbered facts)) found
-  found_at facts i fact found at f =
-      let g : IsFound t (rules_of (numbered_from i (drop i facts))) found = subst (λ l. IsFound t (rules_of (numbered_from i l)) found) (sym at) (found_more (rules_of (live_fact i fact ∷ [])) (rules_of (numbered_from (i + 1) (drop (i + 1) facts))) found f) in
-      found_in 0 i facts found (subst (λ k. IsFound t (rules_of (numbered_from k (drop i facts))) found) (let e : i ≡ 0 + i = omega arith in e) g)
+  pub found_at : (facts : List Equation) (i : ℕ) (fact : Equation) (found : Found) (from to : Tree) → drop i facts ≡ fact ∷ drop (i + 1) facts → IsFound t (rules_of (live_fact i fact ∷ [])) found from to → IsFound t (rules_of (numbered facts)) found from to
+  found_at facts i fact found from to at f =
+      let g : IsFound t (rules_of (numbered_from i (drop i facts))) found from to = subst (λ l. IsFound t (rules_of (numbered_from i l)) found from to) (sym at) (found_more (rules_of (live_fact i fact ∷ [])) (rules_of (numbered_from (i + 1) (drop (i + 1) facts))) found from to f) in
+      found_in 0 i facts found from to (subst (λ k. IsFound t (rules_of (numbered_from k (drop i facts))) found from to) (let e : i ≡ 0 + i = omega arith in e) g)
 
 pub past_end : (es : List Equation) (i : ℕ) → length es ≤ i → drop i es ≡ []
 past_end es i h = drop_of_length-le es h

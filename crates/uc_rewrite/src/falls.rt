@@ -1,13 +1,11 @@
 //! Whether a step is possible.
 
-ghost use Rattle.std.specs.Prelude.{◌≡◌, ◌≤◌, length, MatchOption, None, IsTrue};
+ghost use Rattle.std.specs.Prelude.{◌≡◌, ◌≤◌, length, MatchOption, None};
 ghost use Rattle.uc_term.specs.Flat.{tree_of, IsWhole};
-ghost use Rattle.uc_term.specs.Equations.{side_of, other_side_of};
 ghost use Rattle.uc_fact.specs.Live.{rules_of, fact_at};
 ghost use Rattle.uc_fact.specs.Retrieval.{IsFound};
-ghost use Rattle.uc_rewrite.specs.Comparing.{VariablesAre, Tells};
+ghost use Rattle.uc_rewrite.specs.Comparing.{VariablesAre};
 ghost use Rattle.uc_rewrite.specs.Completed.{AreSides, LeadsDown};
-ghost use Rattle.uc_rewrite.specs.declared.comparison.Falling.TheVariants.{Never};
 
 use crate::comparison::{Comparison, Falling};
 use crate::completed::completed_instance;
@@ -30,21 +28,25 @@ pub struct Falls<'a, C, I> {
 }
 
 impl<'a, C: Comparison, I: Index> Test for Falls<'a, C, I> {
-    ghost can_test = { λ s found. IsWhole s.term.now × (length s.term.now ≤ 4096) × VariablesAre (C.knows s.rules.now.comparison.now) (tree_of s.term.now) × IsFound (tree_of s.term.now) (rules_of (I.live s.rules.now.index.now)) found };
+    ghost can_test = { λ s found from to. IsWhole s.term.now × (length s.term.now ≤ 4096) × VariablesAre (C.knows s.rules.now.comparison.now) (tree_of s.term.now) × IsFound (tree_of s.term.now) (rules_of (I.live s.rules.now.index.now)) found from to };
 
     ghost accepts = { λ s found. LeadsDown (C.greater s.rules.now.comparison.now) (C.constant s.rules.now.comparison.now) (I.live s.rules.now.index.now) (tree_of s.term.now) found };
 
-    fn rules_out(&self, fact: u32, side: Side) -> bool {
-        match self.rules.index.pair(fact) {
-            Some((left, right)) => never_falls(self.rules.comparison, fact, side, left, right),
-            None => false,
+    fn rules_out(&self, fact: u32, side: Side, from: &Term, to: &Term) -> bool {
+        match self.rules.comparison.of_sides(fact, from, to) {
+            Falling::Never => true,
+            Falling::Always => false,
+            Falling::Unclear => false,
         }
     }
 
-    fn passes(&self, alloc: Global, found: &Found) -> Result<bool, AllocError> {
-        let Some((from, to)) = sides(self.rules.index, found) else {
-            unreachable!()
-        };
+    fn passes(
+        &self,
+        alloc: Global,
+        found: &Found,
+        from: &Term,
+        to: &Term,
+    ) -> Result<bool, AllocError> {
         match self.rules.comparison.of_sides(found.fact, from, to) {
             Falling::Always => Ok(true),
             Falling::Never => Ok(false),
@@ -69,31 +71,5 @@ pub fn sides<'a, I: Index>(index: &'a I, found: &Found) -> Option<(&'a Term, &'a
     match found.side {
         Side::Left => Some((left, right)),
         Side::Right => Some((right, left)),
-    }
-}
-
-/// Whether no instance of a side of an equation is greater than that of the other one, as far as the sides tell.
-fn never_falls<C: Comparison>(
-    comparison: &C,
-    fact: u32,
-    side: Side,
-    left: &Term,
-    right: &Term,
-) -> bool
-    ensures { IsTrue result → Tells (C.greater comparison.now) (side_of side (record { left = left.now; right = right.now })) (other_side_of side (record { left = left.now; right = right.now })) Never }
-{
-    match side {
-        Side::Left => never_falls_from(comparison, fact, left, right),
-        Side::Right => never_falls_from(comparison, fact, right, left),
-    }
-}
-
-fn never_falls_from<C: Comparison>(comparison: &C, fact: u32, from: &Term, to: &Term) -> bool
-    ensures { IsTrue result → Tells (C.greater comparison.now) from.now to.now Never }
-{
-    match comparison.of_sides(fact, from, to) {
-        Falling::Never => true,
-        Falling::Always => false,
-        Falling::Unclear => false,
     }
 }

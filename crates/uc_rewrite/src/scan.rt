@@ -1,8 +1,9 @@
 //! An index that looks through a list of equations.
 
 ghost use Rattle.std.specs.Prelude.{◌≡◌, ◌<◌, ◌≤◌, ◌^◌, ◌++◌, ◌∷◌, [], length, IfOk, OnErr};
+ghost use Rattle.uc_term.specs.Tree.{Tree as AnyTree};
 ghost use Rattle.uc_term.specs.Flat.{tree_of, IsWhole};
-ghost use Rattle.uc_term.specs.Equations.{side_of};
+ghost use Rattle.uc_term.specs.Equations.{side_of, other_side_of};
 ghost use Rattle.uc_fact.specs.declared.index.Found.{Found as AnyFound};
 ghost use Rattle.uc_fact.specs.Live.{rule_of, rules_of};
 ghost use Rattle.uc_fact.specs.Retrieval.{FindsNothing, IsFound, FirstThat};
@@ -82,6 +83,16 @@ fn side_term(fact: &Equation, side: Side) -> &Term
     }
 }
 
+/// The other side of an equation.
+fn other_side_term(fact: &Equation, side: Side) -> &Term
+    ensures { result.now ≡ other_side_of side fact.now }
+{
+    match side {
+        Side::Left => &fact.right,
+        Side::Right => &fact.left,
+    }
+}
+
 /// Puts a side of a fact at the end of the list, where the term is an instance of it.
 fn add_match(
     alloc: Global,
@@ -119,7 +130,7 @@ fn first_of_sides<T: Test>(
 ) -> Result<Option<Found>, AllocError>
     requires whole { IsWhole term.now }
     requires small { length term.now ≤ MAX_NODES }
-    requires can { (found : AnyFound) → IsFound (tree_of term.now) (rules_of (live_fact number fact.now ∷ [])) found → T.can_test test.now found }
+    requires can { (found : AnyFound) (from to : AnyTree) → IsFound (tree_of term.now) (rules_of (live_fact number fact.now ∷ [])) found from to → T.can_test test.now found from to }
     ensures value { IfOk result (FirstThat (T.accepts test.now) (tree_of term.now) (rules_of (live_fact number fact.now ∷ []))) }
     ensures memory { OnErr result (FindsNothing (tree_of term.now) (rules_of (live_fact number fact.now ∷ [])) → ⊥) }
 {
@@ -140,15 +151,17 @@ fn first_of_side<T: Test>(
 ) -> Result<Option<Found>, AllocError>
     requires whole { IsWhole term.now }
     requires small { length term.now ≤ MAX_NODES }
-    requires can { (found : AnyFound) → IsFound (tree_of term.now) (rule_of side (live_fact number fact.now) ∷ []) found → T.can_test test.now found }
+    requires can { (found : AnyFound) (from to : AnyTree) → IsFound (tree_of term.now) (rule_of side (live_fact number fact.now) ∷ []) found from to → T.can_test test.now found from to }
     ensures value { IfOk result (FirstThat (T.accepts test.now) (tree_of term.now) (rule_of side (live_fact number fact.now) ∷ [])) }
     ensures memory { OnErr result (FindsNothing (tree_of term.now) (rule_of side (live_fact number fact.now) ∷ []) → ⊥) }
 {
-    let pattern = side_term(fact, side).as_nodes();
+    let from = side_term(fact, side);
+    let to = other_side_term(fact, side);
+    let pattern = from.as_nodes();
     if !is_instance(pattern, term) {
         return Ok(None);
     }
-    if test.rules_out(number, side) {
+    if test.rules_out(number, side, from, to) {
         return Ok(None);
     }
     match matches(alloc, pattern, term)? {
@@ -158,7 +171,7 @@ fn first_of_side<T: Test>(
                 side,
                 subst,
             };
-            if test.passes(alloc, &found)? {
+            if test.passes(alloc, &found, from, to)? {
                 Ok(Some(found))
             } else {
                 Ok(None)

@@ -30,19 +30,19 @@ module _ (all : List Entry) (t : Tree) where
 
   -- one of it
 
-  drop_found : (rule : Rule) (rules : List Rule) (found : Found) → is_dead all rule.number ≡ true → is_dead all found.fact ≡ false → IsFound t (rule ∷ rules) found → IsFound t rules found
-  drop_found rule rules _ d a (by_first m) = absurd (let e : true ≡ false = sym d ∙ a in cc)
-  drop_found rule rules found d a (by_later i) = i
+  drop_found : (rule : Rule) (rules : List Rule) (found : Found) (from to : Tree) → is_dead all rule.number ≡ true → is_dead all found.fact ≡ false → IsFound t (rule ∷ rules) found from to → IsFound t rules found from to
+  drop_found rule rules _ _ _ d a (by_first m) = absurd (let e : true ≡ false = sym d ∙ a in cc)
+  drop_found rule rules found from to d a (by_later i) = i
 
-  keep_found : (rule : Rule) (xs ys : List Rule) (found : Found) → IsFound t (rule ∷ xs) found → (IsFound t xs found → IsFound t ys found) → IsFound t (rule ∷ ys) found
-  keep_found rule xs ys _ (by_first m) k = by_first m
-  keep_found rule xs ys found (by_later i) k = by_later (k i)
+  keep_found : (rule : Rule) (xs ys : List Rule) (found : Found) (from to : Tree) → IsFound t (rule ∷ xs) found from to → (IsFound t xs found from to → IsFound t ys found from to) → IsFound t (rule ∷ ys) found from to
+  keep_found rule xs ys _ _ _ (by_first m) k = by_first m
+  keep_found rule xs ys found from to (by_later i) k = by_later (k i)
 
-  pub living_found : (fs : List Live) (found : Found) → is_dead all found.fact ≡ false → IsFound t (rules_of fs) found → IsFound t (rules_of (still_living all fs)) found
-  living_found [] found a i = elim i [ ]
-  living_found (f ∷ fs) found a i = elim (cases_Bool (is_dead all f.number)) as (λ _. IsFound t (rules_of (still_living all (f ∷ fs))) found) [
-    | inl b ↦ rw b (living_found fs found a (drop_found (rule_of Right f) (rules_of fs) found b a (drop_found (rule_of Left f) (rule_of Right f ∷ rules_of fs) found b a i)))
-    | inr b ↦ rw b (keep_found (rule_of Left f) (rule_of Right f ∷ rules_of fs) (rule_of Right f ∷ rules_of (still_living all fs)) found i (λ h. keep_found (rule_of Right f) (rules_of fs) (rules_of (still_living all fs)) found h (living_found fs found a)))
+  pub living_found : (fs : List Live) (found : Found) (from to : Tree) → is_dead all found.fact ≡ false → IsFound t (rules_of fs) found from to → IsFound t (rules_of (still_living all fs)) found from to
+  living_found [] found from to a i = elim i [ ]
+  living_found (f ∷ fs) found from to a i = elim (cases_Bool (is_dead all f.number)) as (λ _. IsFound t (rules_of (still_living all (f ∷ fs))) found from to) [
+    | inl b ↦ rw b (living_found fs found from to a (drop_found (rule_of Right f) (rules_of fs) found from to b a (drop_found (rule_of Left f) (rule_of Right f ∷ rules_of fs) found from to b a i)))
+    | inr b ↦ rw b (keep_found (rule_of Left f) (rule_of Right f ∷ rules_of fs) (rule_of Right f ∷ rules_of (still_living all fs)) found from to i (λ h. keep_found (rule_of Right f) (rules_of fs) (rules_of (still_living all fs)) found from to h (living_found fs found from to a)))
   ]
 
   -- the first that is accepted

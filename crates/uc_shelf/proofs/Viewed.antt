@@ -152,14 +152,14 @@ module _ (t : Tree) where
       found_none rule m (is_no_instance n g) = n m.σ m.gives
 
   -- what some of the rules find, all find
-  pub found_before : (xs ys : List Rule) (found : Found) → IsFound t xs found → IsFound t (xs ++ ys) found
-  found_before [] ys found i = elim i [ ]
-  found_before (x ∷ xs) ys _ (by_first m) = by_first m
-  found_before (x ∷ xs) ys found (by_later i) = by_later (found_before xs ys found i)
+  pub found_before : (xs ys : List Rule) (found : Found) (from to : Tree) → IsFound t xs found from to → IsFound t (xs ++ ys) found from to
+  found_before [] ys found from to i = elim i [ ]
+  found_before (x ∷ xs) ys _ _ _ (by_first m) = by_first m
+  found_before (x ∷ xs) ys found from to (by_later i) = by_later (found_before xs ys found from to i)
 
-  pub found_behind : (xs ys : List Rule) (found : Found) → IsFound t ys found → IsFound t (xs ++ ys) found
-  found_behind [] ys found i = i
-  found_behind (x ∷ xs) ys found i = by_later (found_behind xs ys found i)
+  pub found_behind : (xs ys : List Rule) (found : Found) (from to : Tree) → IsFound t ys found from to → IsFound t (xs ++ ys) found from to
+  found_behind [] ys found from to i = i
+  found_behind (x ∷ xs) ys found from to i = by_later (found_behind xs ys found from to i)
 
   module _ (Accepted : Found → Type 0) where
     pub first_past : (xs ys : List Rule) (answer : Option Found) → FirstThat Accepted t xs None → FirstThat Accepted t ys answer → FirstThat Accepted t (xs ++ ys) answer
@@ -179,20 +179,20 @@ module _ (t : Tree) where
     pub record Passes (all left : List Rule) : Type 0 where
       pub nothing : Generalises t all [] → Generalises t left []
       pub comes_to : (answer : Option Found) → FirstThat Accepted t left answer → FirstThat Accepted t all answer
-      pub finds : (found : Found) → IsFound t left found → IsFound t all found
+      pub finds : (found : Found) (from to : Tree) → IsFound t left found from to → IsFound t all found from to
 
     pub passes_on : (all left these later : List Rule) → left ≡ these ++ later → FirstThat Accepted t these None → Passes all left → Passes all later
     passes_on all left these later at f p = record {
       nothing = λ g. nothing_right these later (subst (λ r. Generalises t r []) at (p.nothing g));
       comes_to = λ answer h. p.comes_to answer (subst (λ r. FirstThat Accepted t r answer) (sym at) (first_past these later answer f h));
-      finds = λ found i. p.finds found (subst (λ r. IsFound t r found) (sym at) (found_behind these later found i));
+      finds = λ found from to i. p.finds found from to (subst (λ r. IsFound t r found from to) (sym at) (found_behind these later found from to i));
     }
 
     pub passes_here : (all left these later : List Rule) (found : Found) → left ≡ these ++ later → FirstThat Accepted t these (Some found) → Passes all left → FirstThat Accepted t all (Some found)
     passes_here all left these later found at f p = p.comes_to (Some found) (subst (λ r. FirstThat Accepted t r (Some found)) (sym at) (first_here these later found f))
 
-    pub found_here : (all left these later : List Rule) (found : Found) → left ≡ these ++ later → Passes all left → IsFound t these found → IsFound t all found
-    found_here all left these later found at p i = p.finds found (subst (λ r. IsFound t r found) (sym at) (found_before these later found i))
+    pub found_here : (all left these later : List Rule) (found : Found) (from to : Tree) → left ≡ these ++ later → Passes all left → IsFound t these found from to → IsFound t all found from to
+    found_here all left these later found from to at p i = p.finds found from to (subst (λ r. IsFound t r found from to) (sym at) (found_before these later found from to i))
 
     pub nothing_here : (all left these later : List Rule) → left ≡ these ++ later → Passes all left → Generalises t all [] → Generalises t these []
     nothing_here all left these later at p g = nothing_left these later (subst (λ r. Generalises t r []) at (p.nothing g))

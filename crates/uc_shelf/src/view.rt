@@ -1,6 +1,7 @@
 //! An index of the facts that live in a front.
 
 ghost use Rattle.std.specs.Prelude.{◌≡◌, ◌≤◌, ◌∷◌, ◌++◌, [], false, filter, not, length, map, IfOk, OnErr, OnOk, MatchOption, IsTrue};
+ghost use Rattle.uc_term.specs.Tree.{Tree as AnyTree};
 ghost use Rattle.uc_term.specs.Flat.{tree_of, IsWhole};
 ghost use Rattle.uc_term.specs.Equations.{side_of};
 ghost use Rattle.uc_unify.specs.Matching.{HasNoMatch};
@@ -72,19 +73,25 @@ struct Living<'a, T> {
 }
 
 impl<'a, T: Test> Test for Living<'a, T> {
-    ghost can_test = { λ s found. is_dead s.front.now.entries found.fact ≡ false → T.can_test s.test.now found };
+    ghost can_test = { λ s found from to. is_dead s.front.now.entries found.fact ≡ false → T.can_test s.test.now found from to };
 
     ghost accepts = { λ s found. (is_dead s.front.now.entries found.fact ≡ false) × T.accepts s.test.now found };
 
-    fn rules_out(&self, fact: u32, side: Side) -> bool {
-        self.test.rules_out(fact, side) || self.front.is_dead(fact)
+    fn rules_out(&self, fact: u32, side: Side, from: &Term, to: &Term) -> bool {
+        self.test.rules_out(fact, side, from, to) || self.front.is_dead(fact)
     }
 
-    fn passes(&self, alloc: Global, found: &Found) -> Result<bool, AllocError> {
+    fn passes(
+        &self,
+        alloc: Global,
+        found: &Found,
+        from: &Term,
+        to: &Term,
+    ) -> Result<bool, AllocError> {
         if self.front.is_dead(found.fact) {
             Ok(false)
         } else {
-            self.test.passes(alloc, found)
+            self.test.passes(alloc, found, from, to)
         }
     }
 }
@@ -146,7 +153,7 @@ impl<'a> View<'a> {
     ) -> Result<Option<Found>, AllocError>
         requires whole { IsWhole term.now }
         requires small { length term.now ≤ MAX_NODES }
-        requires can { (found : AnyFound) → IsFound (tree_of term.now) (rules_of (live self.now)) found → T.can_test test.now found }
+        requires can { (found : AnyFound) (from to : AnyTree) → IsFound (tree_of term.now) (rules_of (live self.now)) found from to → T.can_test test.now found from to }
         ensures { IfOk result (FirstThat (T.accepts test.now) (tree_of term.now) (rules_of (live self.now))) }
     {
         let living = Living {

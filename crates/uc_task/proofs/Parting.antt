@@ -1,5 +1,6 @@
--- Where a step by one equation is made, a side of it stands.
-use Rattle.std.proofs.Common.{◌≡◌, ℕ, zero, suc, ◌+◌, ◌-◌, ◌<◌, List, [], ◌∷◌, get_or, length, slice_get, Some, refl, sym, ap, ◌∙◌, subst, arith, ◌⊎◌, inl, inr}
+-- Where a step by one equation is made, a side of it stands; and where two first symbols are different, none does.
+use Rattle.std.proofs.Common.{◌≡◌, ℕ, zero, suc, ◌+◌, ◌-◌, ◌<◌, List, [], ◌∷◌, take, drop, get_or, length, slice_get, Some, refl, sym, ap, ◌∙◌, subst, arith, ◌⊎◌, inl, inr, IsTrue, Bool, true, false}
+use mathlib.Core.Bool.{not}
 use Rattle.std.proofs.lemmas.List.{get_or_default}
 use Rattle.std.proofs.Math.Seq.{get_or-append_right}
 use Rattle.std.proofs.Math.ListN.{get_or-append}
@@ -9,11 +10,39 @@ use Rattle.uc_term.specs.declared.equation.Side.TheVariants.{Left, Right}
 use Rattle.uc_term.specs.Tree.{Tree, var, app, Trees, none, more, nodes, nodes_all, apply, subterms, subterms_all, subterm}
 use Rattle.uc_term.specs.Equations.{side_of, other_side_of}
 use Rattle.uc_term.specs.Within.{Within, at_root, under, WithinOne, at_first, at_later}
-use Rattle.uc_term.proofs.Terms.{length-subterms, length-subterms_all, nodes_pos}
+use Rattle.uc_term.specs.declared.node.Sym.{Sym}
+use Rattle.uc_term.specs.declared.node.Node.{Node}
+use Rattle.uc_term.specs.declared.node.Node.TheVariants.{App}
+use Rattle.uc_term.specs.Flat.{tree_of, IsWhole}
+use Rattle.uc_term.proofs.Terms.{length-flat, length-subterms, length-subterms_all, nodes_pos, whole_one}
+use Rattle.uc_term.proofs.Ahead.{drop-at}
+use Rattle.uc_term.proofs.Parts.{split}
+use Rattle.uc_unify.specs.Matching.{HasNoMatch}
 use Rattle.uc_order.specs.Laws.{Meaning, Laws}
 use Rattle.uc_fact.specs.Ordered.{Falls}
+use Rattle.uc_fact.proofs.Fitting.{at_start, at_clash}
+use Rattle.uc_pair.proofs.Parts.{part_whole, part_tree}
+use Rattle.uc_pair.proofs.Clashing.{first_of}
 use Rattle.uc_machine.specs.Results.{StepsIn}
 use Rattle.uc_task.specs.Reducing.{HasNoPart}
+
+-- a part whose first node isn't the pattern's first symbol
+module _ (ns ps : List Node) (p : ℕ) (d : Node) (w : IsWhole ns) (v : IsWhole ps) (h : p < length ns) where
+  to : ℕ
+  to = p + nodes (tree_of (drop p ns))
+
+  some : 0 < length ps
+  some = omega (arith, ap length v, length-flat (tree_of ps), nodes_pos (tree_of ps))
+
+  pub no_match : (f : Sym) (n : ℕ) → get_or ps 0 d ≡ App f n → (get_or ns p d ≡ App f n → ⊥) → HasNoMatch (tree_of ps) (subterm (tree_of ns) p)
+  no_match f n e k =
+      let ss : List Node = take (to - p) (drop p ns) in
+      let wide : 0 < to - p = omega (arith, (split ns p to (whole_one ns w) h refl).within.0) in
+      subst (λ t. HasNoMatch (tree_of ps) t) (part_tree ns p to w h refl) (at_clash ps ss v (part_whole ns p to w h refl) 0 0 d some f n e (λ e'. k (sym (first_of ns p (to - p) d h wide) ∙ e')) (at_start ps ss v (part_whole ns p to w h refl)))
+
+pub refuted : {A : Type 0} (b : Bool) → IsTrue (not b) → (A → IsTrue b) → A → ⊥
+refuted false h k a = k a
+refuted true h k a = h
 
 root : (u : Tree) → subterm u 0 ≡ u
 root (var x) = refl

@@ -1,4 +1,4 @@
--- Whether an equation has another one as an instance, or a term has one of its sides.
+-- Whether an equation has another one as an instance, and whether a subterm is an instance of a pattern.
 use Rattle.std.specs.Prelude.{ℕ, ◌≡◌, ◌<◌}
 use Rattle.uc_term.specs.Tree.{Tree, apply, nodes, subterm}
 use Rattle.uc_term.specs.declared.equation.Equation.{Equation}

@@ -1,6 +1,6 @@
 //! Whether an equation may make a step in a term: a test that takes no memory.
 
-ghost use Rattle.std.specs.Prelude.{◌≡◌, ◌<◌, ◌≤◌, length, false};
+ghost use Rattle.std.specs.Prelude.{◌≡◌, ◌↔◌, ◌<◌, ◌≤◌, length, false, IsTrue};
 ghost use Rattle.uc_term.specs.Tree.{subterm};
 ghost use Rattle.uc_term.specs.Flat.{tree_of, IsWhole};
 ghost use Rattle.uc_unify.specs.Matching.{HasNoMatch};
@@ -10,10 +10,10 @@ ghost use Rattle.uc_task.specs.Reducing.{HasNoPart};
 
 use uc_fact::{Equation, is_instance};
 use uc_order::{Cmp, Order};
-use uc_term::{MAX_NODES, Node, Term, end_of};
+use uc_term::{MAX_NODES, Node, Sym, Term, end_of};
 
 /// Whether the equation may make an ordered step in the term, where it is known how its two sides compare: whether a subterm
-/// is an instance of a side that isn't less than the other one.
+/// is an instance of a side that is neither less than the other one nor equal to it.
 pub fn may_step<O: Order>(equation: &Equation, way: Cmp, term: &Term, _order: &O) -> bool
     requires { IsWayOf (O.meaning _order.now).greater equation.now way }
     ensures { result ≡ false → StepsIn (O.meaning _order.now) equation.now term.now → ⊥ }
@@ -38,7 +38,8 @@ fn has_part(term: &Term, pattern: &Term) -> bool
     false
 }
 
-/// Whether the subterm at a place is an instance of the pattern.
+/// Whether the subterm at a place is an instance of the pattern. Most places fail at their first symbol, so that one is looked
+/// at before the subterm's end is sought.
 fn is_part(nodes: &[Node], place: usize, pattern: &[Node]) -> bool
     requires whole { IsWhole nodes.now }
     requires whole_pattern { IsWhole pattern.now }
@@ -46,5 +47,24 @@ fn is_part(nodes: &[Node], place: usize, pattern: &[Node]) -> bool
     requires within { place < length nodes.now }
     ensures { result ≡ false → HasNoMatch (tree_of pattern.now) (subterm (tree_of nodes.now) place) }
 {
-    is_instance(pattern, &nodes[place..end_of(nodes, place)])
+    match pattern[0] {
+        Node::Var(_) => true,
+        Node::App(f, n) => {
+            if !is_head(nodes[place], f, n) {
+                return false;
+            }
+            is_instance(pattern, &nodes[place..end_of(nodes, place)])
+        }
+    }
+}
+
+/// Whether the node is this symbol with so many arguments.
+#[inline]
+fn is_head(node: Node, f: Sym, n: u32) -> bool
+    ensures { IsTrue result ↔ (node ≡ Node.App f n) }
+{
+    match node {
+        Node::App(g, m) => g == f && m == n,
+        Node::Var(_) => false,
+    }
 }

@@ -9,7 +9,7 @@ use Rattle.uc_rewrite.proofs.Scanned.{err_of, nothing_left, nothing_right, found
 use Rattle.uc_rewrite.proofs.scan.first_of_sides.Goals as goal
 
 pub first_of_side-requires-clause-can : goal.first_of_side-requires-clause-can
-first_of_side-requires-clause-can g c found i = c.requires.can found (found_more (tree_of c.args.term.now) (rule_of Left (live_fact c.args.number c.args.fact.now) ∷ []) (rule_of Right (live_fact c.args.number c.args.fact.now) ∷ []) found i)
+first_of_side-requires-clause-can g c found from to i = c.requires.can found from to (found_more (tree_of c.args.term.now) (rule_of Left (live_fact c.args.number c.args.fact.now) ∷ []) (rule_of Right (live_fact c.args.number c.args.fact.now) ∷ []) found from to i)
 
 pub returns-in-Some-clause-value : goal.returns-in-Some-clause-value
 returns-in-Some-clause-value g c = first_here (tree_of c.args.term.now) (g.T.Test.accepts c.args.test.now) (rule_of Left (live_fact c.args.number c.args.fact.now) ∷ []) (rule_of Right (live_fact c.args.number c.args.fact.now) ∷ []) c.in-Some.found (answered (g.T.Test.accepts c.args.test.now) (tree_of c.args.term.now) (rule_of Left (live_fact c.args.number c.args.fact.now) ∷ []) c.in_ok-found.field-0 (Some c.in-Some.found) c.in-Some.is c.in_ok-found.ensures.value)
@@ -18,7 +18,7 @@ pub returns-in-None-clause-value : goal.returns-in-None-clause-value
 returns-in-None-clause-value g c = IfOk-weaker c.first_of_side-in-None.result (FirstThat (g.T.Test.accepts c.args.test.now) (tree_of c.args.term.now) (rule_of Right (live_fact c.args.number c.args.fact.now) ∷ [])) (FirstThat (g.T.Test.accepts c.args.test.now) (tree_of c.args.term.now) ((rule_of Left (live_fact c.args.number c.args.fact.now) ∷ []) ++ (rule_of Right (live_fact c.args.number c.args.fact.now) ∷ []))) (λ answer f. first_past (tree_of c.args.term.now) (g.T.Test.accepts c.args.test.now) (rule_of Left (live_fact c.args.number c.args.fact.now) ∷ []) (rule_of Right (live_fact c.args.number c.args.fact.now) ∷ []) answer (answered (g.T.Test.accepts c.args.test.now) (tree_of c.args.term.now) (rule_of Left (live_fact c.args.number c.args.fact.now) ∷ []) c.in_ok-found.field-0 None c.in-None.is c.in_ok-found.ensures.value) f) c.first_of_side-in-None.ensures.value
 
 pub first_of_side-requires-in-None-clause-can : goal.first_of_side-requires-in-None-clause-can
-first_of_side-requires-in-None-clause-can g c found i = c.requires.can found (by_later i)
+first_of_side-requires-in-None-clause-can g c found from to i = c.requires.can found from to (by_later i)
 
 pub returns-in_err-found-clause-memory : goal.returns-in_err-found-clause-memory
 returns-in_err-found-clause-memory g c = err_of c.from_residual.result (FindsNothing (tree_of c.args.term.now) (rule_of Left (live_fact c.args.number c.args.fact.now) ∷ rule_of Right (live_fact c.args.number c.args.fact.now) ∷ []) → ⊥) (λ n. c.in_err-found.ensures.memory (nothing_left (tree_of c.args.term.now) (rule_of Left (live_fact c.args.number c.args.fact.now) ∷ []) (rule_of Right (live_fact c.args.number c.args.fact.now) ∷ []) n))

@@ -9,10 +9,10 @@ use Rattle.uc_disc.proofs.Telling.{first_some, first_none}
 use Rattle.uc_disc.proofs.tree.TreeIndex.first_that.Goals as goal
 
 pub first_from-requires-clause-can : goal.first_from-requires-clause-can
-first_from-requires-clause-can g c found i =
+first_from-requires-clause-can g c found from to i =
     let v = c.self.view_is in
     let same : risen 0 c.args.self.now ≡ lives c.as_slice.result.now = ap (risen 0) (let z : c.args.self.now ≡ c.self.inside.facts.items = cc in z) ∙ risen_same 0 c.self.inside.facts.items c.self.invariant.0 ∙ ap lives (sym c.as_slice.ensures.value) in
-    c.requires.can found (subst (λ (z : List Live). IsFound (tree_of c.args.term.now) (rules_of z) found) (sym same) i)
+    c.requires.can found from to (subst (λ (z : List Live). IsFound (tree_of c.args.term.now) (rules_of z) found from to) (sym same) i)
 
 pub returns-in_err-answer-clause-memory : goal.returns-in_err-answer-clause-memory
 returns-in_err-answer-clause-memory g c =

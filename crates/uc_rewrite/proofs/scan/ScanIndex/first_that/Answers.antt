@@ -7,7 +7,7 @@ use Rattle.uc_rewrite.proofs.Scanned.{err_of, nothing_at, drop_there, past_end, 
 use Rattle.uc_rewrite.proofs.scan.ScanIndex.first_that.Goals as goal
 
 pub first_of_sides-requires-clause-can : goal.first_of_sides-requires-clause-can
-first_of_sides-requires-clause-can g c found i = c.requires.can found (found_at (tree_of c.args.term.now) c.args.self.now.facts.now c.loop-number.number c.fact-item.result found (drop_there c.args.self.now.facts.now c.loop-number.number c.fact-item.result c.loop-number-test.true c.fact-item.is) i)
+first_of_sides-requires-clause-can g c found from to i = c.requires.can found from to (found_at (tree_of c.args.term.now) c.args.self.now.facts.now c.loop-number.number c.fact-item.result found from to (drop_there c.args.self.now.facts.now c.loop-number.number c.fact-item.result c.loop-number-test.true c.fact-item.is) i)
 
 pub returns-in-Some-clause-value : goal.returns-in-Some-clause-value
 returns-in-Some-clause-value g c = passes_here (tree_of c.args.term.now) (g.T.Test.accepts c.args.test.now) c.args.self.now.facts.now c.loop-number.number c.fact-item.result c.in-Some.found (drop_there c.args.self.now.facts.now c.loop-number.number c.fact-item.result c.loop-number-test.true c.fact-item.is) (answered (g.T.Test.accepts c.args.test.now) (tree_of c.args.term.now) (rules_of (live_fact c.loop-number.number c.fact-item.result ∷ [])) c.in_ok-found.field-0 (Some c.in-Some.found) c.in-Some.is c.in_ok-found.ensures.value) c.loop-number.invariant

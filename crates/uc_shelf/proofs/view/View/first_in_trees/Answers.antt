@@ -14,7 +14,7 @@ use Rattle.uc_shelf.proofs.Viewed.{answered, passes_on, passes_here, found_here,
 use Rattle.uc_shelf.proofs.view.View.first_in_trees.Goals as goal
 
 pub first_that-requires-clause-can : goal.first_that-requires-clause-can
-first_that-requires-clause-can g c found i alive =
+first_that-requires-clause-can g c found from to i alive =
     let ps = c.segments-segments.result.now in
     let es = entries_of ps in
     let k = c.loop-k.k in
@@ -25,8 +25,8 @@ first_that-requires-clause-can g c found i alive =
     let self : c.args.self.now ≡ es = sym c.self.view_is ∙ sym c.segments-segments.ensures.entries in
     let at = rules_here ps k p fs c.segments-segments.ensures.based c.loop-k-test.true c.index-segments-k.is of in
     let a : is_dead es found.fact ≡ false = ap (λ z. is_dead z found.fact) c.segments-segments.ensures.entries ∙ alive in
-    let here : IsFound t (rules_of (live es)) found = found_here t (g.T.Test.accepts c.args.test.now) (rules_of (live es)) (rules_of (living es (length (born (entries_of (take k ps)))) (entries_of (drop k ps)))) (rules_of (still_living es fs)) (rules_of (living es (length (born (entries_of (take (k + 1) ps)))) (entries_of (drop (k + 1) ps)))) found at c.loop-k.invariant (living_found es t fs found a i) in
-    c.requires.can found (subst (λ z. IsFound t (rules_of (live z)) found) (sym self) here)
+    let here : IsFound t (rules_of (live es)) found from to = found_here t (g.T.Test.accepts c.args.test.now) (rules_of (live es)) (rules_of (living es (length (born (entries_of (take k ps)))) (entries_of (drop k ps)))) (rules_of (still_living es fs)) (rules_of (living es (length (born (entries_of (take (k + 1) ps)))) (entries_of (drop (k + 1) ps)))) found from to at c.loop-k.invariant (living_found es t fs found from to a i) in
+    c.requires.can found from to (subst (λ z. IsFound t (rules_of (live z)) found from to) (sym self) here)
 
 pub returns-in-Some : goal.returns-in-Some
 returns-in-Some g c =
