@@ -104,8 +104,15 @@ module _ (Greater : Tree → Tree → Type 0) (least : Sym) (live : List Live) (
     stands (inl s) = s
     stands (inr e) = absurd (not_empty front top e.0)
 
+    -- the next argument of the innermost subterm, in frames
     pub record Descent : Type 0 where
       pub within : place < length list
+      pub frames : List Frame
+      pub argument : Tree
+      pub t_is : tree_of list ≡ plug frames argument
+      pub opened_is : front ++ record { place = top.place; pending = top.pending - 1 } ∷ [] ≡ opens frames
+      pub place_is : place ≡ hole frames
+      pub frames_behind : IsBehind Greater least live frames
       pub goes : (opened : List Open) (to : ℕ) → opened ≡ (front ++ record { place = top.place; pending = top.pending - 1 } ∷ []) ++ record { place = place; pending = arguments_of (node_at list place) } ∷ [] → to ≡ place + 1 → Over opened to
 
     descent_at : (s : Stands Greater least live (tree_of list) (front ++ top ∷ []) place) (u : Tree) (after : List Tree) → s.u ≡ u → s.after ≡ after → 0 < top.pending → Descent
@@ -113,7 +120,7 @@ module _ (Greater : Tree → Tree → Type 0) (least : Sym) (live : List Live) (
         absurd (let e : top.pending ≡ length s.after = ap (λ o. o.pending) (last_same front (opens s.frames) top (record { place = hole s.frames; pending = length s.after }) s.opened_is).1 in omega (arith, e, ap length ea))
     descent_at s (var x) (c ∷ rest) eu ea pos =
         absurd (let e : 0 ≡ length (s.before ++ c ∷ rest) = ap length (ap arguments (sym eu) ∙ s.arguments_are ∙ ap (λ l. s.before ++ l) ea) in omega (arith, length-append s.before (c ∷ rest)))
-    descent_at s (app f ts) (c ∷ rest) eu ea pos = record { within = within; goes = goes }
+    descent_at s (app f ts) (c ∷ rest) eu ea pos = record { within = within; frames = frame ∷ s.frames; argument = c; t_is = t_is; opened_is = opened_is; place_is = (let p = s.place_is in omega arith); frames_behind = (s.behind, s.frames_behind); goes = goes }
       where
         args : list_of ts ≡ s.before ++ c ∷ rest
         args = ap arguments (sym eu) ∙ s.arguments_are ∙ ap (λ l. s.before ++ l) ea
@@ -133,9 +140,12 @@ module _ (Greater : Tree → Tree → Type 0) (least : Sym) (live : List Live) (
         left_over : top.pending - 1 ≡ length rest
         left_over = let e : top.pending ≡ length s.after = ap (λ o. o.pending) ends.1 in omega (arith, e, ap length ea)
 
+        opened_is : front ++ record { place = top.place; pending = top.pending - 1 } ∷ [] ≡ opens (frame ∷ s.frames)
+        opened_is = ap₂ (λ a b. a ++ b ∷ []) ends.0 (ap₂ (λ a b. record { place = a; pending = b }) (ap (λ o. o.place) ends.1) left_over)
+
         goes : (opened : List Open) (to : ℕ) → opened ≡ (front ++ record { place = top.place; pending = top.pending - 1 } ∷ []) ++ record { place = place; pending = arguments_of (node_at list place) } ∷ [] → to ≡ place + 1 → Over opened to
         goes opened to e p =
-            enters (frame ∷ s.frames) c opened to t_is (s.behind, s.frames_behind) (e ∙ ap₂ (λ a b. a ++ b ∷ []) (ap₂ (λ a b. a ++ b ∷ []) ends.0 (ap₂ (λ a b. record { place = a; pending = b }) (ap (λ o. o.place) ends.1) left_over)) (ap (λ n. record { place = n; pending = arguments_of (node_at list n) }) s.place_is)) (let q = s.place_is in omega arith)
+            enters (frame ∷ s.frames) c opened to t_is (s.behind, s.frames_behind) (e ∙ ap₂ (λ a b. a ++ b ∷ []) opened_is (ap (λ n. record { place = n; pending = arguments_of (node_at list n) }) s.place_is)) (let q = s.place_is in omega arith)
 
     pub descent : 0 < top.pending → Over (front ++ top ∷ []) place → Descent
     descent pos over = let s = stands over in descent_at s s.u s.after refl refl pos
@@ -156,7 +166,7 @@ module _ (Greater : Tree → Tree → Type 0) (least : Sym) (live : List Live) (
       pub leaves : FirstThat (LeadsDown Greater least live (tree_of part)) (tree_of part) (rules_of live) None → Over front place
       pub stops : (found : Found) → FirstThat (LeadsDown Greater least live (tree_of part)) (tree_of part) (rules_of live) (Some found) → Stops Greater least live (tree_of list) front (record { from = top.place; to = place; found = found })
 
-    left_behind : (frames : List Frame) (u : Tree) → tree_of list ≡ plug frames u → front ≡ opens frames → place ≡ hole frames + nodes u → IsBehind Greater least live frames → IsIrreducible Greater least (equations_of live) u → Over front place
+    pub left_behind : (frames : List Frame) (u : Tree) → tree_of list ≡ plug frames u → front ≡ opens frames → place ≡ hole frames + nodes u → IsBehind Greater least live frames → IsIrreducible Greater least (equations_of live) u → Over front place
     left_behind [] u t_is f p b n = inr (f, subst (IsIrreducible Greater least (equations_of live)) (sym t_is) n)
     left_behind (frame ∷ frames) u t_is f p b n =
         inl (record {

@@ -112,14 +112,15 @@ module _ (Greater : Tree → Tree → Type 0) (least : Sym) (live : List Live) (
     pub known : IsRuleOf live rule
     pub number_is : found.fact ≡ rule.number
     pub side_is : found.side ≡ rule.side
+    pub is_match : IsMatch rule.from u found.subst
     pub first : FirstRule Greater least u (apply (completed least found.subst) rule.to) rules rule
 
   pub chosen : (rules : List Rule) (found : Found) → Each (IsRuleOf live) rules → FirstThat (LeadsDown Greater least live u) u rules (Some found) → Chosen rules found
   chosen [] found k f = elim f [ ]
-  chosen (r ∷ rules) _ k (accepted {pairs = p} m d) = record { rule = r; known = k.0; number_is = refl; side_is = refl; first = this_rule (makes r p k.0 m d) }
+  chosen (r ∷ rules) _ k (accepted {pairs = p} m d) = record { rule = r; known = k.0; number_is = refl; side_is = refl; is_match = m; first = this_rule (makes r p k.0 m d) }
   chosen (r ∷ rules) found k (not_accepted n f) =
       let c = chosen rules found k.1 f in
-      record { rule = c.rule; known = c.known; number_is = c.number_is; side_is = c.side_is; first = later_rule (makes_none r k.0 n) c.first }
+      record { rule = c.rule; known = c.known; number_is = c.number_is; side_is = c.side_is; is_match = c.is_match; first = later_rule (makes_none r k.0 n) c.first }
 
   pub nothing : (rules : List Rule) → Each (IsRuleOf live) rules → FirstThat (LeadsDown Greater least live u) u rules None → MakeNothing Greater least u rules
   nothing [] k f = tt

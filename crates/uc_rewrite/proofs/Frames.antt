@@ -55,7 +55,7 @@ module _ (list : List Node) (w : IsWhole list) (frames : List Frame) (u : Tree) 
   pub list_is : list ≡ left frames ++ (flat u ++ right frames)
   list_is = sym w ∙ ap flat t_is ∙ flat_plug frames u
 
-  drop_hole : drop (hole frames) list ≡ flat u ++ right frames
+  pub drop_hole : drop (hole frames) list ≡ flat u ++ right frames
   drop_hole = ap₂ (λ n l. drop n l) (sym (length_left frames)) list_is ∙ drop-append_seam (left frames) (flat u ++ right frames)
 
   pub length_is : length list ≡ hole frames + (nodes u + length (right frames))

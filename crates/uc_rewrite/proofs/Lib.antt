@@ -5,6 +5,7 @@ pub mod Choosing
 pub mod Frames
 pub mod Lifting
 pub mod Advancing
+pub mod Keeping
 pub mod Telling
 pub mod Testing
 pub mod Stepping

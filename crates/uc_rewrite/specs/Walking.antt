@@ -1,11 +1,13 @@
 -- A walk over a term in postorder: where it stands, and what is known of what lies behind it.
-use Rattle.std.specs.Prelude.{ℕ, ◌≡◌, ◌+◌, ◌-◌, ◌*◌, ◌<◌, ◌≤◌, ◌⊎◌, List, [], ◌∷◌, ◌++◌, length, Some}
+use Rattle.std.specs.Prelude.{ℕ, ◌≡◌, ◌+◌, ◌-◌, ◌*◌, ◌<◌, ◌≤◌, ◌⊎◌, List, [], ◌∷◌, ◌++◌, length, take, drop, get_or, slice_get, Some}
 use Rattle.uc_term.specs.declared.node.Sym.{Sym}
 use Rattle.uc_term.specs.declared.node.Node.{Node}
 use Rattle.uc_term.specs.declared.node.Node.TheVariants.{Var, App}
 use Rattle.uc_term.specs.Tree.{Tree, var, app, of_list, list_of, nodes, nodes_all}
 use Rattle.uc_order.specs.Members.{Each}
-use Rattle.uc_term.specs.Flat.{tree_of}
+use Rattle.uc_term.specs.Flat.{flat, tree_of}
+use Rattle.uc_term.specs.Subst.{found}
+use Rattle.uc_term.specs.Variables.{IsApp}
 use Rattle.uc_fact.specs.declared.chain.Step.{Step}
 use Rattle.uc_fact.specs.Live.{Live, Rule, rules_of, equations_of}
 use Rattle.uc_fact.specs.Retrieval.{FirstThat}
@@ -24,6 +26,28 @@ arguments (app f ts) = list_of ts
 abbrev pub arguments_of : Node → ℕ
 arguments_of (Var x) = 0
 arguments_of (App f n) = n
+
+-- the part of the list between the two places is a term that one of the substitutions has for a variable
+pub record IsKeptPart (kept : List (List (ℕ × Tree))) (list : List Node) (from to : ℕ) : Type 0 where
+  pub number : ℕ
+  pub pairs : List (ℕ × Tree)
+  pub pairs_are : slice_get kept number ≡ Some pairs
+  pub x : ℕ
+  pub v : Tree
+  pub v_is : found pairs x ≡ Some v
+  pub to_is : to ≡ from + nodes v
+  pub part_is : take (to - from) (drop from list) ≡ flat v
+
+-- a substitution is put behind the others, where the side that was found is no variable
+abbrev pub Keeps : Tree → List (ℕ × Tree) → List (List (ℕ × Tree)) → List (List (ℕ × Tree)) → Type 0
+Keeps side pairs old new = (new ≡ old) ⊎ (IsApp side × (new ≡ old ++ pairs ∷ []))
+
+-- The walk, from which a subterm with arguments to come was taken, entered the next one of them, or passed over it, since it is
+-- a term that is kept.
+abbrev pub GoesOn : List (List (ℕ × Tree)) → List Node → Open → List Open → ℕ → List Open → ℕ → Type 0
+GoesOn kept list top old from new to =
+    ((new ≡ (old ++ record { place = top.place; pending = top.pending - 1 } ∷ []) ++ record { place = from; pending = arguments_of (get_or list from (Var 0)) } ∷ []) × (to ≡ from + 1)) ⊎
+    ((new ≡ old ++ record { place = top.place; pending = top.pending - 1 } ∷ []) × IsKeptPart kept list from to)
 
 -- a term without one of its arguments: its head, the arguments before that one and those behind it
 pub record Frame : Type 0 where
@@ -72,6 +96,10 @@ module _ (Greater : Tree → Tree → Type 0) (least : Sym) (live : List Live) w
   -- the walk over t goes on, or it is at its end and t is irreducible
   abbrev pub Walks : Tree → List Open → ℕ → Type 0
   Walks t opened place = Stands t opened place ⊎ ((opened ≡ []) × IsIrreducible Greater least (equations_of live) t)
+
+  -- the terms that these substitutions have for variables are irreducible
+  abbrev pub AreKept : List (List (ℕ × Tree)) → Type 0
+  AreKept kept = Each (λ pairs. (x : ℕ) (v : Tree) → found pairs x ≡ Some v → IsIrreducible Greater least (equations_of live) v) kept
 
   -- the walk, from which the innermost subterm was taken, went on by one move
   abbrev pub Advances : List Node → List Open → ℕ → List Open → ℕ → Type 0

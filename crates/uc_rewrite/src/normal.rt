@@ -1,6 +1,6 @@
 //! Normalising by the first possible step.
 
-ghost use Rattle.std.specs.Prelude.{◌≡◌, IfOk, IsTrue, false};
+ghost use Rattle.std.specs.Prelude.{◌≡◌, IfOk, OnOk, IsTrue, false};
 ghost use Rattle.uc_term.specs.Flat.{tree_of};
 ghost use Rattle.uc_fact.specs.declared.fact.Stop.TheVariants.{Full};
 ghost use Rattle.uc_fact.specs.Live.{equations_of};
@@ -9,7 +9,7 @@ ghost use Rattle.uc_fact.specs.Chains.{Links, last_term};
 ghost use Rattle.uc_order.specs.VarOrders.{HasOnly, represented};
 ghost use Rattle.uc_rewrite.specs.Comparing.{VariablesAre};
 ghost use Rattle.uc_rewrite.specs.Normalising.{IsNormalOf};
-ghost use Rattle.uc_rewrite.specs.Walking.{Walks};
+ghost use Rattle.uc_rewrite.specs.Walking.{Walks, AreKept};
 ghost use Rattle.uc_rewrite.specs.Ends.{CanStep, IsNext, IsLast, normal_by};
 
 use crate::comparison::{ByOrder, Comparison, UnderCases};
@@ -152,13 +152,15 @@ fn next_step<C: Comparison, I: Index>(
 ) -> Result<Next, AllocError>
     requires known { VariablesAre (C.knows rules.now.comparison.now) term.now }
     requires walks { Walks (C.greater rules.now.comparison.now) (C.constant rules.now.comparison.now) (I.live rules.now.index.now) term.now walk.old.opened.items walk.old.place }
-    ensures { IfOk result (IsNext (C.greater rules.now.comparison.now) (C.constant rules.now.comparison.now) (I.live rules.now.index.now) term.now walk.new.opened.items walk.new.place) }
+    requires kept { AreKept (C.greater rules.now.comparison.now) (C.constant rules.now.comparison.now) (I.live rules.now.index.now) walk.old.kept.items }
+    ensures kept { OnOk result (AreKept (C.greater rules.now.comparison.now) (C.constant rules.now.comparison.now) (I.live rules.now.index.now) walk.new.kept.items) }
+    ensures next { IfOk result (IsNext (C.greater rules.now.comparison.now) (C.constant rules.now.comparison.now) (I.live rules.now.index.now) term.now walk.new.opened.items walk.new.place) }
 {
     let list = term.as_nodes();
     let Some(redex) = walk.next(alloc, list, rules)? else {
         return Ok(Next::Irreducible);
     };
-    match walk.step(alloc, list, rules, &redex)? {
+    match walk.step(alloc, list, rules, redex)? {
         Some(step) => Ok(Next::Made(step)),
         None => Ok(Next::TooLarge),
     }
@@ -173,6 +175,7 @@ fn last_stop<C: Comparison, I: Index>(
 ) -> Result<Stop, AllocError>
     requires known { VariablesAre (C.knows rules.now.comparison.now) term.now }
     requires walks { Walks (C.greater rules.now.comparison.now) (C.constant rules.now.comparison.now) (I.live rules.now.index.now) term.now walk.old.opened.items walk.old.place }
+    requires kept { AreKept (C.greater rules.now.comparison.now) (C.constant rules.now.comparison.now) (I.live rules.now.index.now) walk.old.kept.items }
     ensures { IfOk result (IsLast (C.greater rules.now.comparison.now) (C.constant rules.now.comparison.now) (I.live rules.now.index.now) term.now) }
 {
     let Some(_redex) = walk.next(alloc, term.as_nodes(), rules)? else {
