@@ -14,14 +14,6 @@ use Rattle.uc_disc.specs.Trail.{before}
 abbrev pub part : List Node → ℕ → Tree
 part ns q = tree_of (drop q ns)
 
--- the end of each subterm from a place on is known
-abbrev pub AreEndsFrom : List Node → List ℕ → ℕ → Type 0
-AreEndsFrom ns ends from = (q : ℕ) → from ≤ q → q < length ns → slice_index ends q ≡ q + nodes (part ns q)
-
--- each subterm's end is known
-abbrev pub AreEnds : List Node → List ℕ → Type 0
-AreEnds ns ends = (q : ℕ) → q < length ns → slice_index ends q ≡ q + nodes (part ns q)
-
 -- a label leads from one place of the term to the next one
 abbrev pub Moves : List Node → List ℕ → ℕ → Label → Type 0
 Moves ns at m (Head f n) = (slice_get ns (slice_index at m) ≡ Some (App (record { 0 = f }) n)) × (slice_index at (m + 1) ≡ slice_index at m + 1)

@@ -12,7 +12,6 @@
 #![tactic(auto)]
 
 mod build;
-mod ends;
 mod facts;
 mod heads;
 mod place;

@@ -8,11 +8,9 @@ ghost use Rattle.uc_fact.specs.Live.{rules_of};
 ghost use Rattle.uc_fact.specs.Retrieval.{IsFound, FindsNothing};
 ghost use Rattle.uc_disc.specs.Numbered.{lives};
 ghost use Rattle.uc_disc.specs.Trail.{IsTree};
-ghost use Rattle.uc_disc.specs.Standing.{AreEnds};
 ghost use Rattle.uc_disc.specs.Heads.{IsRoot, AreHeads, AreParts};
 ghost use Rattle.uc_disc.specs.Retrieving.{IsTried, IsFirstFrom, IsBest, IsBetter, IsBestBefore};
 
-use crate::ends::fill_ends;
 use crate::facts::{other_side_term, side_of_rule, side_term};
 use crate::heads::{Head, Part, Parts, parts_of};
 use crate::place::{Mark, Place, leaf_rule};
@@ -142,14 +140,11 @@ fn best_in<T: Test>(
     from: u32,
     term: &[Node],
     test: &T,
-    ends: &[u16],
     at: &mut [u16],
     part: Part,
 ) -> Result<Best, AllocError>
     requires whole { IsWhole term.now }
     requires small { length term.now ≤ MAX_NODES }
-    requires ends { AreEnds term.now ends.now }
-    requires room_ends { length term.now ≤ length ends.now }
     requires tree { IsTree (rules_of (lives facts.now)) places.now marks.now (length at.old - 1) }
     requires room { 1 < length at.old }
     requires few { length facts.now < 2 ^ 31 }
@@ -163,13 +158,11 @@ fn best_in<T: Test>(
 {
     at[0] = 0;
     let mut best = best;
-    let mut i = next_leaf(
-        places, marks, term, ends, at, part.start, part.stop, best.bound,
-    );
+    let mut i = next_leaf(places, marks, term, at, part.start, part.stop, best.bound);
     while i < part.stop {
         let rule = leaf_rule(places[i].label);
         best = better(facts, alloc, best, from, rule, term, test)?;
-        i = next_leaf(places, marks, term, ends, at, i + 1, part.stop, best.bound);
+        i = next_leaf(places, marks, term, at, i + 1, part.stop, best.bound);
     }
     Ok(best)
 }
@@ -186,12 +179,10 @@ fn first_in<T: Test>(
     term: &[Node],
     test: &T,
     parts: Parts,
-    ends: &mut [u16],
     at: &mut [u16],
 ) -> Result<Option<Answer>, AllocError>
     requires whole { IsWhole term.now }
     requires small { length term.now ≤ MAX_NODES }
-    requires room_ends { length term.now ≤ length ends.old }
     requires tree { IsTree (rules_of (lives facts.now)) places.now marks.now (length at.old - 1) }
     requires parts { AreParts term.now places.now parts }
     requires room { 1 < length at.old }
@@ -200,7 +191,6 @@ fn first_in<T: Test>(
     ensures value { IfOk result (IsFirstFrom (T.accepts test.now) (tree_of term.now) (rules_of (lives facts.now)) from) }
     ensures memory { OnErr result (FindsNothing (tree_of term.now) (rules_of (lives facts.now)) → ⊥) }
 {
-    fill_ends(term, ends);
     let none = Best {
         answer: None,
         bound: u32::MAX,
@@ -210,7 +200,7 @@ fn first_in<T: Test>(
         stop: parts.first,
     };
     let best = best_in(
-        facts, places, marks, alloc, none, from, term, test, ends, at, first,
+        facts, places, marks, alloc, none, from, term, test, at, first,
     )?;
     if parts.second.start >= parts.second.stop {
         return Ok(best.answer);
@@ -224,7 +214,6 @@ fn first_in<T: Test>(
         from,
         term,
         test,
-        ends,
         at,
         parts.second,
     )?;
@@ -251,10 +240,9 @@ fn first_shallow<T: Test>(
     ensures value { IfOk result (IsFirstFrom (T.accepts test.now) (tree_of term.now) (rules_of (lives facts.now)) from) }
     ensures memory { OnErr result (FindsNothing (tree_of term.now) (rules_of (lives facts.now)) → ⊥) }
 {
-    let mut ends = [0u16; 64];
     let mut at = [0u16; 64];
     first_in(
-        facts, places, marks, alloc, from, term, test, parts, &mut ends, &mut at,
+        facts, places, marks, alloc, from, term, test, parts, &mut at,
     )
 }
 
@@ -279,10 +267,9 @@ fn first_deep<T: Test>(
     ensures value { IfOk result (IsFirstFrom (T.accepts test.now) (tree_of term.now) (rules_of (lives facts.now)) from) }
     ensures memory { OnErr result (FindsNothing (tree_of term.now) (rules_of (lives facts.now)) → ⊥) }
 {
-    let mut ends = [0u16; 4096];
     let mut at = [0u16; 4098];
     first_in(
-        facts, places, marks, alloc, from, term, test, parts, &mut ends, &mut at,
+        facts, places, marks, alloc, from, term, test, parts, &mut at,
     )
 }
 

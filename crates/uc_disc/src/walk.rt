@@ -4,11 +4,11 @@ ghost use Rattle.std.specs.Prelude.{◌≡◌, ◌↔◌, IsTrue, ◌+◌, ◌<�
 ghost use Rattle.uc_term.specs.Flat.{IsWhole};
 ghost use Rattle.uc_disc.specs.Trail.{IsShaped};
 ghost use Rattle.uc_disc.specs.Trail.{RefersBack};
-ghost use Rattle.uc_disc.specs.Standing.{part, AreEnds, IsFollowed, StandsAt, FailsAt, IsLeafAt};
+ghost use Rattle.uc_disc.specs.Standing.{part, IsFollowed, StandsAt, FailsAt, IsLeafAt};
 ghost use Rattle.uc_disc.specs.declared.place.Label.TheVariants.{Leaf};
 
 use crate::place::{Label, Mark, Place};
-use uc_term::{MAX_NODES, Node, same_nodes};
+use uc_term::{MAX_NODES, Node, end_of, same_nodes};
 
 /// Whether the node is this symbol with so many arguments.
 #[inline]
@@ -23,10 +23,9 @@ fn is_head(node: Node, f: u32, n: u32) -> bool
 
 /// Whether a subterm stands at the first place, and is the one at the other place.
 #[inline]
-fn is_same_part(term: &[Node], ends: &[u16], first: usize, here: usize) -> bool
+fn is_same_part(term: &[Node], first: usize, here: usize) -> bool
     requires whole { IsWhole term.now }
-    requires ends { AreEnds term.now ends.now }
-    requires room_ends { length term.now ≤ length ends.now }
+    requires small { length term.now ≤ MAX_NODES }
     requires within { here < length term.now }
     ensures { IsTrue result ↔ (first < length term.now) × (part term.now first ≡ part term.now here) }
 {
@@ -36,18 +35,17 @@ fn is_same_part(term: &[Node], ends: &[u16], first: usize, here: usize) -> bool
     if first == here {
         return true;
     }
-    let first_end = ends[first] as usize;
-    let end = ends[here] as usize;
-    same_nodes(&term[first..first_end], &term[here..end])
+    same_nodes(
+        &term[first..end_of(term, first)],
+        &term[here..end_of(term, here)],
+    )
 }
 
 /// Tells whether a label leads on from a depth; then the place of the term after it is noted.
 #[inline]
-fn follow(term: &[Node], ends: &[u16], at: &mut [u16], depth: usize, label: Label) -> bool
+fn follow(term: &[Node], at: &mut [u16], depth: usize, label: Label) -> bool
     requires whole { IsWhole term.now }
     requires small { length term.now ≤ MAX_NODES }
-    requires ends { AreEnds term.now ends.now }
-    requires room_ends { length term.now ≤ length ends.now }
     requires room { depth + 1 < length at.old }
     requires back { RefersBack label depth }
     requires label { (r : ℕ) → label ≡ Leaf r → ⊥ }
@@ -68,8 +66,8 @@ fn follow(term: &[Node], ends: &[u16], at: &mut [u16], depth: usize, label: Labe
             }
         }
         Label::Variable(k) => {
-            if is_same_part(term, ends, at[k as usize] as usize, here) {
-                at[depth + 1] = ends[here];
+            if is_same_part(term, at[k as usize] as usize, here) {
+                at[depth + 1] = end_of(term, here) as u16;
                 true
             } else {
                 false
@@ -86,7 +84,6 @@ pub fn next_leaf(
     places: &[Place],
     marks: &[Mark],
     term: &[Node],
-    ends: &[u16],
     at: &mut [u16],
     start: usize,
     stop: usize,
@@ -95,8 +92,6 @@ pub fn next_leaf(
     requires tree { IsShaped places.now marks.now (length at.old - 1) }
     requires whole { IsWhole term.now }
     requires small { length term.now ≤ MAX_NODES }
-    requires ends { AreEnds term.now ends.now }
-    requires room_ends { length term.now ≤ length ends.now }
     requires within { (start ≤ length places.now) × (stop ≤ length places.now) }
     requires stands { StandsAt term.now places.now start at.old }
     ensures within { (start ≤ result) × (result ≤ length places.now) }
@@ -113,7 +108,7 @@ pub fn next_leaf(
             match places[i].label {
                 Label::Leaf(_) => return i,
                 label => {
-                    if follow(term, ends, at, places[i].depth as usize, label) {
+                    if follow(term, at, places[i].depth as usize, label) {
                         i += 1;
                     } else {
                         i = marks[i].skip;

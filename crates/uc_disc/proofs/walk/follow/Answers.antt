@@ -6,6 +6,7 @@ use Rattle.uc_term.specs.declared.node.Node.{Node}
 use Rattle.uc_term.specs.declared.node.Node.TheVariants.{App}
 use Rattle.uc_term.specs.Flat.{IsWhole}
 use Rattle.uc_term.specs.Tree.{nodes}
+use Rattle.uc_term.proofs.Terms.{whole_one}
 use Rattle.uc_disc.specs.declared.place.Label.{Label}
 use Rattle.uc_disc.specs.declared.place.Label.TheVariants.{Variable, Head}
 use Rattle.uc_disc.specs.Standing.{part, Moves, Stands, IsFollowed}
@@ -56,9 +57,12 @@ moves_part ns old depth k q room h inside e is =
     let o = old_kept ns old depth q room in
     rw (o k h, o depth (omega arith), new_noted ns old depth q room) (h, inside, e, is)
 
+pub end_of-requires-clause-whole : goal.end_of-requires-clause-whole
+end_of-requires-clause-whole c = whole_one c.args.term.now c.requires.whole
+
 pub returns-then-is_same_part-clause-value : goal.returns-then-is_same_part-clause-value
 returns-then-is_same_part-clause-value c =
-    rw c.in-Variable.is (goes_on c.args.term.now c.args.at.now c.args.depth _ c.requires.room (Variable c.in-Variable.k) (moves_part c.args.term.now c.args.at.now c.args.depth c.in-Variable.k _ c.requires.room (rw c.in-Variable.is at c.requires.back) c.if-here-term.false (c.is_same_part.ensures.0 c.if-is_same_part.true).1 (c.requires.ends (slice_index c.args.at.now c.args.depth) c.if-here-term.false)))
+    rw c.in-Variable.is (goes_on c.args.term.now c.args.at.now c.args.depth _ c.requires.room (Variable c.in-Variable.k) (moves_part c.args.term.now c.args.at.now c.args.depth c.in-Variable.k _ c.requires.room (rw c.in-Variable.is at c.requires.back) c.if-here-term.false (c.is_same_part.ensures.0 c.if-is_same_part.true).1 c.end_of.ensures.end))
 
 pub returns-else-is_same_part-clause-value : goal.returns-else-is_same_part-clause-value
 returns-else-is_same_part-clause-value c =

@@ -72,8 +72,6 @@ pub follow-requires : goal.follow-requires
 follow-requires c = record {
   whole = c.requires.whole;
   small = c.requires.small;
-  ends = c.requires.ends;
-  room_ends = c.requires.room_ends;
   room = omega (arith, c.loop-i.invariant.1, room c.args.term.now c.args.places.now c.args.marks.now _ c.requires.tree c.args.start c.args.bound c.loop-i.i c.loop-i.at c.loop-i.invariant.0 (omega (arith, c.loop-i-test.true, c.requires.within.1)) (record { label = Variable 0; depth = 0 }) (record { skip = 0; least = 0 }));
   back = back c.args.term.now c.args.places.now c.args.marks.now _ c.requires.tree c.args.start c.args.bound c.loop-i.i c.loop-i.at c.loop-i.invariant.0 (omega (arith, c.loop-i-test.true, c.requires.within.1)) _ (record { skip = 0; least = 0 });
   label = c.in_default.not-Leaf;
