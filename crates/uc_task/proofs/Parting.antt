@@ -1,6 +1,6 @@
--- Where a step by one equation is made, a side of it stands; and where two first symbols are different, none does.
-use Rattle.std.proofs.Common.{◌≡◌, ℕ, zero, suc, ◌+◌, ◌-◌, ◌<◌, List, [], ◌∷◌, take, drop, get_or, length, slice_get, Some, refl, sym, ap, ◌∙◌, subst, arith, ◌⊎◌, inl, inr, IsTrue, Bool, true, false}
-use mathlib.Core.Bool.{not}
+-- Where a step by one equation is made, a side of it stands; none does where two first symbols are different, or fewer nodes are
+-- left than the side has.
+use Rattle.std.proofs.Common.{◌≡◌, ℕ, zero, suc, ◌+◌, ◌-◌, ◌<◌, List, [], ◌∷◌, take, drop, get_or, length, slice_get, Some, refl, sym, ap, ◌∙◌, subst, arith, length-take, length-drop, ◌⊎◌, inl, inr, IsTrue, Bool, true, false}
 use Rattle.std.proofs.lemmas.List.{get_or_default}
 use Rattle.std.proofs.Math.Seq.{get_or-append_right}
 use Rattle.std.proofs.Math.ListN.{get_or-append}
@@ -14,8 +14,7 @@ use Rattle.uc_term.specs.declared.node.Sym.{Sym}
 use Rattle.uc_term.specs.declared.node.Node.{Node}
 use Rattle.uc_term.specs.declared.node.Node.TheVariants.{App}
 use Rattle.uc_term.specs.Flat.{tree_of, IsWhole}
-use Rattle.uc_term.proofs.Terms.{length-flat, length-subterms, length-subterms_all, nodes_pos, whole_one}
-use Rattle.uc_term.proofs.Ahead.{drop-at}
+use Rattle.uc_term.proofs.Terms.{length-flat, length-subterms, nodes_pos, nodes_whole, whole_one}
 use Rattle.uc_term.proofs.Parts.{split}
 use Rattle.uc_unify.specs.Matching.{HasNoMatch}
 use Rattle.uc_order.specs.Laws.{Meaning, Laws}
@@ -23,12 +22,13 @@ use Rattle.uc_fact.specs.Ordered.{Falls}
 use Rattle.uc_fact.proofs.Fitting.{at_start, at_clash}
 use Rattle.uc_pair.proofs.Parts.{part_whole, part_tree}
 use Rattle.uc_pair.proofs.Clashing.{first_of}
+use Rattle.uc_pair.proofs.Replacing.{nodes-instance}
 use Rattle.uc_machine.specs.Results.{StepsIn}
 use Rattle.uc_task.specs.Reducing.{HasNoPart}
 
 -- a part whose first node isn't the pattern's first symbol
 module _ (ns ps : List Node) (p : ℕ) (d : Node) (w : IsWhole ns) (v : IsWhole ps) (h : p < length ns) where
-  to : ℕ
+  abbrev to : ℕ
   to = p + nodes (tree_of (drop p ns))
 
   some : 0 < length ps
@@ -40,9 +40,16 @@ module _ (ns ps : List Node) (p : ℕ) (d : Node) (w : IsWhole ns) (v : IsWhole 
       let wide : 0 < to - p = omega (arith, (split ns p to (whole_one ns w) h refl).within.0) in
       subst (λ t. HasNoMatch (tree_of ps) t) (part_tree ns p to w h refl) (at_clash ps ss v (part_whole ns p to w h refl) 0 0 d some f n e (λ e'. k (sym (first_of ns p (to - p) d h wide) ∙ e')) (at_start ps ss v (part_whole ns p to w h refl)))
 
-pub refuted : {A : Type 0} (b : Bool) → IsTrue (not b) → (A → IsTrue b) → A → ⊥
-refuted false h k a = k a
-refuted true h k a = h
+  -- a part with fewer nodes than the pattern
+  pub too_short : length ns - p < length ps → HasNoMatch (tree_of ps) (subterm (tree_of ns) p)
+  too_short k σ e =
+      let ss : List Node = take (to - p) (drop p ns) in
+      let whole : IsWhole ss = part_whole ns p to w h refl in
+      omega (arith, k, nodes-instance σ (tree_of ps), ap nodes e, ap nodes (part_tree ns p to w h refl), nodes_whole ps v, nodes_whole ss whole, length-take (to - p) (drop p ns), length-drop p ns, (split ns p to (whole_one ns w) h refl).within.0, (split ns p to (whole_one ns w) h refl).within.1)
+
+pub refuted : {A : Type 0} (b : Bool) → b ≡ false → (A → IsTrue b) → A → ⊥
+refuted false h k a = (let t = k a in cc)
+refuted true h k a = cc
 
 root : (u : Tree) → subterm u 0 ≡ u
 root (var x) = refl

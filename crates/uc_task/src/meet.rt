@@ -40,8 +40,9 @@ pub fn meet<O: Order>(
     if let Some(other) = stale_by(alloc, number, &own, facts.as_slice(), order)? {
         return Ok(Finding::Stale(other));
     }
-    let kills = kills(alloc, number, &own, facts.as_slice(), order)?;
-    let overlaps = meetings(alloc, number, &own, facts.as_slice(), order)?;
+    let way = way_of(number, &own, order);
+    let kills = kills(alloc, number, &own, way, facts.as_slice(), order)?;
+    let overlaps = meetings(alloc, number, &own, way, facts.as_slice(), order)?;
     Ok(Finding::Met { kills, overlaps })
 }
 
@@ -76,8 +77,7 @@ fn is_reduced_by<O: Order>(
     if fact.number == number {
         return Ok(false);
     }
-    let way = way_of(fact.number, fact.equation, order);
-    reduces(alloc, fact.number, fact.equation, way, own, order)
+    reduces(alloc, fact.number, fact.equation, None, own, order)
 }
 
 /// The earlier facts of the list that the equation of this number reduces.
@@ -85,12 +85,13 @@ fn kills<O: Order>(
     alloc: Global,
     number: u32,
     own: &Equation,
+    way: Cmp,
     facts: &[Lent],
     order: &O,
 ) -> Result<Seq<u32>, AllocError>
+    requires { IsWayOf (O.meaning order.now).greater own.now way }
     ensures { IfOk result (λ list. (entries : List Entry) → AreKills (O.meaning order.now) entries number own.now (map lent_of facts.now) list) }
 {
-    let way = way_of(number, own, order);
     let mut list = Seq::new(alloc);
     for fact in facts {
         add_kill(alloc, &mut list, number, own, way, fact, order)?;
@@ -114,7 +115,7 @@ fn add_kill<O: Order>(
     if fact.number >= number {
         return Ok(());
     }
-    if !reduces(alloc, number, own, way, fact.equation, order)? {
+    if !reduces(alloc, number, own, Some(way), fact.equation, order)? {
         return Ok(());
     }
     list.push(fact.number)?;
@@ -127,12 +128,13 @@ fn meetings<O: Order>(
     alloc: Global,
     number: u32,
     own: &Equation,
+    way: Cmp,
     facts: &[Lent],
     order: &O,
 ) -> Result<Seq<Formed>, AllocError>
+    requires { IsWayOf (O.meaning order.now).greater own.now way }
     ensures { IfOk result (λ list. (entries : List Entry) → AreMeetings (O.meaning order.now) entries number own.now (map lent_of facts.now) list) }
 {
-    let way = way_of(number, own, order);
     let mut space = Space::new(alloc);
     let mut list = Seq::new(alloc);
     for fact in facts {

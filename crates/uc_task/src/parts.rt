@@ -1,6 +1,6 @@
 //! Whether an equation may make a step in a term: a test that takes no memory.
 
-ghost use Rattle.std.specs.Prelude.{◌≡◌, ◌↔◌, ◌<◌, ◌≤◌, length, false, IsTrue};
+ghost use Rattle.std.specs.Prelude.{◌≡◌, ◌↔◌, ◌<◌, ◌≤◌, length, false, IfSome, IsTrue};
 ghost use Rattle.uc_term.specs.Tree.{subterm};
 ghost use Rattle.uc_term.specs.Flat.{tree_of, IsWhole};
 ghost use Rattle.uc_unify.specs.Matching.{HasNoMatch};
@@ -10,27 +10,53 @@ ghost use Rattle.uc_task.specs.Reducing.{HasNoPart};
 
 use uc_fact::{Equation, is_instance};
 use uc_order::{Cmp, Order};
+use uc_pair::way_of;
 use uc_term::{MAX_NODES, Node, Sym, Term, end_of};
 
-/// Whether the equation may make an ordered step in the term, where it is known how its two sides compare: whether a subterm
-/// is an instance of a side that is neither less than the other one nor equal to it.
-pub fn may_step<O: Order>(equation: &Equation, way: Cmp, term: &Term, _order: &O) -> bool
-    requires { IsWayOf (O.meaning _order.now).greater equation.now way }
-    ensures { result ≡ false → StepsIn (O.meaning _order.now) equation.now term.now → ⊥ }
+/// Whether the equation of a fact may make an ordered step in a term: whether a subterm is an instance of a side that is neither
+/// less than the other one nor equal to it. How its two sides compare is asked, by the fact's number, only where some side has
+/// an instance and it isn't known yet.
+pub fn may_step<O: Order>(
+    number: u32,
+    equation: &Equation,
+    known: Option<Cmp>,
+    term: &Term,
+    order: &O,
+) -> bool
+    requires { IfSome known (IsWayOf (O.meaning order.now).greater equation.now) }
+    ensures { result ≡ false → StepsIn (O.meaning order.now) equation.now term.now → ⊥ }
 {
-    match way {
-        Cmp::Greater => has_part(term, &equation.left),
-        Cmp::Less => has_part(term, &equation.right),
+    let left = has_part(term, &equation.left);
+    let right = has_part(term, &equation.right);
+    if !left && !right {
+        return false;
+    }
+    match way_or_known(number, equation, known, order) {
+        Cmp::Greater => left,
+        Cmp::Less => right,
         Cmp::Equal => false,
-        Cmp::Unknown => has_part(term, &equation.left) || has_part(term, &equation.right),
+        Cmp::Unknown => true,
     }
 }
 
-/// Whether a subterm is an instance of the pattern.
+/// How the two sides of a fact compare, if that isn't known.
+#[inline]
+fn way_or_known<O: Order>(number: u32, equation: &Equation, known: Option<Cmp>, order: &O) -> Cmp
+    requires { IfSome known (IsWayOf (O.meaning order.now).greater equation.now) }
+    ensures { IsWayOf (O.meaning order.now).greater equation.now result }
+{
+    match known {
+        Some(way) => way,
+        None => way_of(number, equation, order),
+    }
+}
+
+/// Whether a subterm is an instance of the pattern. Where fewer nodes are left than the pattern has, none is.
 fn has_part(term: &Term, pattern: &Term) -> bool
     ensures { result ≡ false → HasNoPart pattern.now term.now }
 {
-    for place in 0..term.nodes() {
+    let places = (term.nodes() + 1).saturating_sub(pattern.nodes());
+    for place in 0..places {
         if is_part(term.as_nodes(), place as usize, pattern.as_nodes()) {
             return true;
         }

@@ -1,6 +1,6 @@
 //! Whether an equation reduces another one.
 
-ghost use Rattle.std.specs.Prelude.{◌↔◌, IsTrue, IfOk};
+ghost use Rattle.std.specs.Prelude.{◌↔◌, IsTrue, IfOk, IfSome};
 ghost use Rattle.uc_pair.specs.Listing.{IsWayOf};
 ghost use Rattle.uc_machine.specs.Results.{Reduces, StepsIn};
 ghost use Rattle.uc_task.specs.Reducing.{HasInstance, Gives};
@@ -16,23 +16,23 @@ use uc_term::Term;
 use uc_unify::matches_both;
 
 /// Whether the equation of a fact makes an ordered step in a side of another one, or has it as an instance, either way round.
-/// It is known how the two sides of the fact's equation compare. By the fact's number the order is asked this again where a
-/// step may be made; the answer is the same for each number.
+/// How the two sides of the fact's equation compare may be known; else the order is asked where a side has an instance. By the
+/// fact's number it is asked again where a step may be made; the answer is the same for each number.
 pub fn reduces<O: Order>(
     alloc: Global,
     number: u32,
     equation: &Equation,
-    way: Cmp,
+    known: Option<Cmp>,
     other: &Equation,
     order: &O,
 ) -> Result<bool, AllocError>
-    requires { IsWayOf (O.meaning order.now).greater equation.now way }
+    requires { IfSome known (IsWayOf (O.meaning order.now).greater equation.now) }
     ensures { IfOk result (λ answer. IsTrue answer ↔ Reduces (O.meaning order.now) equation.now other.now) }
 {
-    if steps_in(alloc, number, equation, way, &other.left, order)? {
+    if steps_in(alloc, number, equation, known, &other.left, order)? {
         return Ok(true);
     }
-    if steps_in(alloc, number, equation, way, &other.right, order)? {
+    if steps_in(alloc, number, equation, known, &other.right, order)? {
         return Ok(true);
     }
     has_instance(alloc, equation, other)
@@ -43,14 +43,14 @@ fn steps_in<O: Order>(
     alloc: Global,
     number: u32,
     equation: &Equation,
-    way: Cmp,
+    known: Option<Cmp>,
     term: &Term,
     order: &O,
 ) -> Result<bool, AllocError>
-    requires { IsWayOf (O.meaning order.now).greater equation.now way }
+    requires { IfSome known (IsWayOf (O.meaning order.now).greater equation.now) }
     ensures { IfOk result (λ answer. IsTrue answer ↔ StepsIn (O.meaning order.now) equation.now term.now) }
 {
-    if !may_step(equation, way, term, order) {
+    if !may_step(number, equation, known, term, order) {
         return Ok(false);
     }
     let order = OfFact { order, number };
