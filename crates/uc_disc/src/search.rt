@@ -220,7 +220,7 @@ fn first_in<T: Test>(
     Ok(last.answer)
 }
 
-/// Does the same with little room, for small terms in a shallow tree.
+/// Does the same with little room, for a shallow tree.
 fn first_shallow<T: Test>(
     facts: &[(u32, Equation)],
     places: &[Place],
@@ -232,7 +232,7 @@ fn first_shallow<T: Test>(
     parts: Parts,
 ) -> Result<Option<Answer>, AllocError>
     requires whole { IsWhole term.now }
-    requires small { length term.now ≤ 64 }
+    requires small { length term.now ≤ MAX_NODES }
     requires tree { IsTree (rules_of (lives facts.now)) places.now marks.now 63 }
     requires parts { AreParts term.now places.now parts }
     requires few { length facts.now < 2 ^ 31 }
@@ -246,7 +246,7 @@ fn first_shallow<T: Test>(
     )
 }
 
-/// Does the same with room for every term.
+/// Does the same with room for every tree.
 #[inline(never)]
 fn first_deep<T: Test>(
     facts: &[(u32, Equation)],
@@ -300,7 +300,7 @@ pub fn first_from<T: Test>(
     if parts.first == 0 && parts.second.start >= parts.second.stop {
         return Ok(None);
     }
-    if deep < 64 && term.len() <= 64 {
+    if deep < 64 {
         first_shallow(facts, places, marks, alloc, from, term, test, parts)
     } else {
         first_deep(facts, places, marks, alloc, from, term, test, parts)

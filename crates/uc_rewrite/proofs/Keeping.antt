@@ -20,8 +20,8 @@ use Rattle.uc_fact.proofs.Occurring.{occurs}
 use Rattle.uc_fact.proofs.Matched.{first_is_one}
 use Rattle.uc_rewrite.specs.declared.walk.Open.{Open}
 use Rattle.uc_rewrite.specs.declared.walk.Redex.{Redex}
-use Rattle.uc_rewrite.specs.Completed.{AreSides}
-use Rattle.uc_rewrite.specs.Walking.{AreKept, IsKeptPart, Keeps, GoesOn, Advances, Walks, Stops, hole}
+use Rattle.uc_rewrite.specs.Completed.{AreSides, completed}
+use Rattle.uc_rewrite.specs.Walking.{AreKept, IsKeptPart, IsKeptValue, Keeps, GoesIn, enters_it, leaves_it, GoesOn, Advances, Walks, Stops, hole}
 use Rattle.uc_rewrite.proofs.Frames.{drop_hole}
 use Rattle.uc_rewrite.proofs.Reading.{none_below}
 use Rattle.uc_rewrite.proofs.Choosing.{Chosen, chosen, all_known}
@@ -40,6 +40,11 @@ kept_at : {A : Type 0} (P : A → Type 0) (xs : List A) (n : ℕ) (x : A) → sl
 kept_at P [] n x h e = absurd cc
 kept_at P (y ∷ xs) zero x h e = subst P (let s : y ≡ x = cc in s) e.0
 kept_at P (y ∷ xs) (suc n) x h e = kept_at P xs n x h e.1
+
+first_ones : {A : Type 0} (P : A → Type 0) (n : ℕ) (xs : List A) → Each P xs → Each P (take n xs)
+first_ones P zero xs e = tt
+first_ones P (suc n) [] e = tt
+first_ones P (suc n) (x ∷ xs) e = (e.0, first_ones P n xs e.1)
 
 one_more : {A : Type 0} (P : A → Type 0) (xs : List A) (x : A) → Each P xs → P x → Each P (xs ++ x ∷ [])
 one_more P [] x e p = (p, tt)
@@ -92,9 +97,20 @@ module _ (Greater : Tree → Tree → Type 0) (least : Sym) (live : List Live) w
         let e : by.known.equation ≡ sides.equation = (let p : fact_at live redex.found.fact ≡ Some by.known.equation = ap (fact_at live) by.number_is ∙ by.known.equation_is in let q = sides.equation_is in cc) in
         by.known.from_is ∙ ap₂ side_of (sym by.side_is) e ∙ sym sides.from_is
 
-    pub step_kept : (old new : List (List (ℕ × Tree))) → AreKept Greater least live old → Keeps from redex.found.subst old new → AreKept Greater least live new
+    values : IsApp from → (x : ℕ) (v : Tree) → found redex.found.subst x ≡ Some v → N v
+    values a = match_kept from s.u redex.found.subst a (subst (λ z. IsMatch z s.u redex.found.subst) from_is by.is_match) (none_below Greater least live s.u s.behind)
+
+    step_kept : (old new : List (List (ℕ × Tree))) → AreKept Greater least live old → Keeps from redex.found.subst old new → AreKept Greater least live new
     step_kept old new k (inl e) = subst (AreKept Greater least live) (sym e) k
-    step_kept old new k (inr e) = subst (AreKept Greater least live) (sym e.1) (one_more (λ pairs. (x : ℕ) (v : Tree) → found pairs x ≡ Some v → N v) old redex.found.subst k (match_kept from s.u redex.found.subst e.0 (subst (λ z. IsMatch z s.u redex.found.subst) from_is by.is_match) (none_below Greater least live s.u s.behind)))
+    step_kept old new k (inr e) = subst (AreKept Greater least live) (sym e.2) (one_more (λ pairs. (x : ℕ) (v : Tree) → found pairs x ≡ Some v → N v) (take e.1 old) redex.found.subst (first_ones (λ pairs. (x : ℕ) (v : Tree) → found pairs x ≡ Some v → N v) e.1 old k) (values e.0))
+
+    pub still_kept : (ns : List Node) (end place new_place : ℕ) (old opened : List Open) (kept new : List (List (ℕ × Tree))) → AreKept Greater least live kept → GoesIn from to redex.found.subst ns end old place kept opened new_place new → AreKept Greater least live new
+    still_kept ns end place new_place old opened kept new k (enters_it o p m) = step_kept kept new k m
+    still_kept ns end place new_place old opened kept new k (leaves_it o p m v) = subst (AreKept Greater least live) (sym m) k
+
+    -- a new subterm that is left behind at once
+    pub value_irreducible : IsKeptValue from to redex.found.subst → N (apply (completed least redex.found.subst) to)
+    value_irreducible k = subst N (sym (ap (apply (completed least redex.found.subst)) k.other_is ∙ ap (λ p. unwrap_or p (app least none)) k.v_is)) (values k.no_variable k.x k.v k.v_is)
 
   -- over the next argument
   module _ (list : List Node) (w : IsWhole list) (front : List Open) (top : Open) (place : ℕ) (kept : List (List (ℕ × Tree))) (k : AreKept Greater least live kept) (d : Descent Greater least live list w front top place) where

@@ -15,13 +15,14 @@ use Rattle.uc_rewrite.specs.declared.walk.Open.{Open}
 use Rattle.uc_rewrite.specs.declared.walk.Redex.{Redex}
 use Rattle.uc_rewrite.specs.Completed.{completed, AreSides}
 use Rattle.uc_rewrite.specs.Normalising.{FirstRule, FirstStep, at_the_term, is_left}
-use Rattle.uc_rewrite.specs.Walking.{Frame, plug, hole, arguments_of, Walks, Stops, Steps, IsLarge}
+use Rattle.uc_rewrite.specs.Walking.{Frame, plug, hole, arguments_of, Walks, Stops, Steps, IsLarge, GoesIn, enters_it, leaves_it}
 use Rattle.uc_rewrite.specs.Ends.{CanStep}
 use Rattle.uc_rewrite.proofs.Choosing.{Chosen, chosen, all_known}
 use Rattle.uc_rewrite.proofs.Reading.{none_below}
 use Rattle.uc_rewrite.proofs.Lifting.{first_in_frames}
 use Rattle.uc_rewrite.proofs.Frames.{left, right, flat_plug, length_left, length_is, replaced_is, inside}
-use Rattle.uc_rewrite.proofs.Advancing.{enters}
+use Rattle.uc_rewrite.proofs.Advancing.{enters, left_behind}
+use Rattle.uc_rewrite.proofs.Keeping.{value_irreducible}
 use Rattle.uc_rewrite.proofs.Testing.{whole_flat, tree_flat}
 
 abbrev pub step_of : ℕ → Side → ℕ → Tree → Step
@@ -83,13 +84,22 @@ module _ (Greater : Tree → Tree → Type 0) (least : Sym) (live : List Live) (
     pub small_place : redex.from < length list
     small_place = omega (arith, s.from_is, inside list w s.frames s.u s.t_is)
 
-    pub steps : nodes whole_term ≤ 4096 → (ns : List Node) → ns ≡ flat whole_term → (opened : List Open) (place : ℕ) → opened ≡ front ++ record { place = redex.from; pending = arguments_of (get_or ns redex.from (Var 0)) } ∷ [] → place ≡ redex.from + 1 → (new : Tree) → new ≡ whole_term → Steps Greater least live (tree_of list) (step_of redex.found.fact redex.found.side redex.from new) opened place
-    steps h ns e opened place o p new is = record {
+    pub inside_end : (ns : List Node) → ns ≡ flat whole_term → redex.from + length part ≤ length ns
+    inside_end ns e = omega (arith, s.from_is, ap length part_is, length-flat v, ap length e, length-flat whole_term, nodes_plug s.frames v)
+
+    went_in : (ns : List Node) → ns ≡ flat whole_term → (end : ℕ) → end ≡ redex.from + length part → (kept new_kept : List (List (ℕ × Tree))) (opened : List Open) (place : ℕ) → GoesIn from to redex.found.subst ns end front redex.from kept opened place new_kept → Walks Greater least live whole_term opened place
+    went_in ns e end e_is kept new_kept opened place (enters_it o p k) =
+        subst (λ t. Walks Greater least live t opened place) (tree_flat ns whole_term e) (enters Greater least live ns (whole_flat ns whole_term e) s.frames v opened place (tree_flat ns whole_term e) s.frames_behind (o ∙ ap₂ (λ a n. a ++ record { place = n; pending = arguments_of (get_or ns n (Var 0)) } ∷ []) s.opened_is s.from_is) (omega (arith, p, s.from_is)))
+    went_in ns e end e_is kept new_kept opened place (leaves_it o p k value) =
+        subst (λ t. Walks Greater least live t opened place) (tree_flat ns whole_term e) (left_behind Greater least live ns (whole_flat ns whole_term e) opened (record { place = 0; pending = 0 }) place s.frames v (tree_flat ns whole_term e) (o ∙ s.opened_is) (omega (arith, p, e_is, s.from_is, ap length part_is, length-flat v)) s.frames_behind (value_irreducible Greater least live rising list front redex s from to sides value))
+
+    pub steps : nodes whole_term ≤ 4096 → (ns : List Node) → ns ≡ flat whole_term → (end : ℕ) → end ≡ redex.from + length part → (kept new_kept : List (List (ℕ × Tree))) (opened : List Open) (place : ℕ) → GoesIn from to redex.found.subst ns end front redex.from kept opened place new_kept → (new : Tree) → new ≡ whole_term → Steps Greater least live (tree_of list) (step_of redex.found.fact redex.found.side redex.from new) opened place
+    steps h ns e end e_is kept new_kept opened place went new is = record {
       at = hole s.frames;
       rule = by.rule;
       v = whole_term;
       first = first;
       step_is = ap₂ (λ n side. step_of n side redex.from new) by.number_is by.side_is ∙ ap₂ (λ n z. step_of by.rule.number by.rule.side n z) s.from_is is;
       small = h;
-      walks = subst (λ t. Walks Greater least live t opened place) (tree_flat ns whole_term e) (enters Greater least live ns (whole_flat ns whole_term e) s.frames v opened place (tree_flat ns whole_term e) s.frames_behind (o ∙ ap₂ (λ a n. a ++ record { place = n; pending = arguments_of (get_or ns n (Var 0)) } ∷ []) s.opened_is s.from_is) (omega (arith, p, s.from_is)));
+      walks = went_in ns e end e_is kept new_kept opened place went;
     }

@@ -38,9 +38,22 @@ pub record IsKeptPart (kept : List (List (ℕ × Tree))) (list : List Node) (fro
   pub to_is : to ≡ from + nodes v
   pub part_is : take (to - from) (drop from list) ≡ flat v
 
--- a substitution is put behind the others, where the side that was found is no variable
+-- a substitution is put behind the first ones of the others, where the side that was found is no variable
 abbrev pub Keeps : Tree → List (ℕ × Tree) → List (List (ℕ × Tree)) → List (List (ℕ × Tree)) → Type 0
-Keeps side pairs old new = (new ≡ old) ⊎ (IsApp side × (new ≡ old ++ pairs ∷ []))
+Keeps side pairs old new = (new ≡ old) ⊎ (IsApp side × (n : ℕ) × (new ≡ take n old ++ pairs ∷ []))
+
+-- the side that was found is no variable, and the other one is one that has a term
+pub record IsKeptValue (side other : Tree) (pairs : List (ℕ × Tree)) : Type 0 where
+  pub no_variable : IsApp side
+  pub x : ℕ
+  pub v : Tree
+  pub other_is : other ≡ var x
+  pub v_is : found pairs x ≡ Some v
+
+-- the walk enters the new subterm of a step; or it is a value of the rule's variables, which the walk leaves behind
+pub data GoesIn (side other : Tree) (pairs : List (ℕ × Tree)) (list : List Node) (end : ℕ) (old : List Open) (from : ℕ) (kept : List (List (ℕ × Tree))) (new : List Open) (to : ℕ) (new_kept : List (List (ℕ × Tree))) : Type 0 where
+  enters_it : new ≡ old ++ record { place = from; pending = arguments_of (get_or list from (Var 0)) } ∷ [] → to ≡ from + 1 → Keeps side pairs kept new_kept → GoesIn side other pairs list end old from kept new to new_kept
+  leaves_it : new ≡ old → to ≡ end → new_kept ≡ kept → IsKeptValue side other pairs → GoesIn side other pairs list end old from kept new to new_kept
 
 -- The walk, from which a subterm with arguments to come was taken, entered the next one of them, or passed over it, since it is
 -- a term that is kept.

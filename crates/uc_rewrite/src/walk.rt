@@ -2,7 +2,7 @@
 //! what it has left behind outside of that stays irreducible; and in the new subterm it passes over the values of the rule's
 //! variables, which it has left behind before.
 
-ghost use Rattle.std.specs.Prelude.{◌≡◌, ◌↔◌, ◌+◌, ◌-◌, ◌*◌, ◌<◌, ◌≤◌, ◌++◌, ◌∷◌, [], false, length, take, drop, get_or, IfOk, IfSome, OnOk, MatchOption};
+ghost use Rattle.std.specs.Prelude.{◌≡◌, ◌↔◌, ◌+◌, ◌-◌, ◌*◌, ◌<◌, ◌≤◌, ◌++◌, ◌∷◌, [], false, length, take, drop, get_or, IfOk, IfSome, OnOk, MatchOption, IsTrue};
 ghost use Rattle.uc_term.specs.Tree.{nodes};
 ghost use Rattle.uc_term.specs.Flat.{flat, tree_of, IsWhole};
 ghost use Rattle.uc_term.specs.Variables.{IsApp};
@@ -13,7 +13,7 @@ ghost use Rattle.uc_fact.specs.Ordered.{IsIrreducible};
 ghost use Rattle.uc_rewrite.specs.Normalising.{is_left};
 ghost use Rattle.uc_rewrite.specs.Comparing.{VariablesAre};
 ghost use Rattle.uc_rewrite.specs.Completed.{LeadsDown};
-ghost use Rattle.uc_rewrite.specs.Walking.{arguments_of, Walks, Advances, Stops, Steps, IsLarge, AreKept, IsKeptPart, Keeps, GoesOn};
+ghost use Rattle.uc_rewrite.specs.Walking.{arguments_of, Walks, Advances, Stops, Steps, IsLarge, AreKept, IsKeptPart, IsKeptValue, Keeps, GoesIn, GoesOn};
 
 use crate::comparison::Comparison;
 use crate::completed::completed_instance;
@@ -47,7 +47,8 @@ struct Note {
 }
 
 /// A walk over a term in postorder: the subterms that it goes through, from the whole term inwards, and the place that comes
-/// next in prefix order; the substitutions of its steps, whose terms are irreducible, and where these stand, the next one last.
+/// next in prefix order; the substitutions of its steps that notes may name, whose terms are irreducible; and the notes where
+/// these stand, the next one last.
 #[derive(Drop)]
 pub struct Walk {
     opened: Vec<Open>,
@@ -258,20 +259,42 @@ impl Walk {
             return Ok(None);
         }
         let new = replaced(alloc, list, redex.from, redex.to, part.as_slice())?;
+        let end = redex.from + part.len();
         self.place = redex.from;
-        self.enter(new.as_nodes())?;
         let step = Step {
             by: By::Fact(redex.found.fact),
             left_to_right: is_left(redex.found.side),
             position: Pos(redex.from as u32),
             to: new,
         };
-        self.keep(from, to, redex.found.subst, list.len() - redex.to)?;
+        self.go_in(step.to.as_nodes(), from, to, redex.found.subst, end)?;
         Ok(Some(step))
     }
 
+    /// Enters the new subterm of a step, which ends at a place; or leaves it behind, where it is the value of a variable.
+    fn go_in(
+        &mut self,
+        list: &[Node],
+        from: &Term,
+        to: &Term,
+        subst: Subst,
+        end: usize,
+    ) -> Result<(), AllocError>
+        requires within { self.old.place < length list.now }
+        requires end { end ≤ length list.now }
+        ensures { OnOk result (GoesIn from.now to.now subst list.now end self.old.opened.items self.old.place self.old.kept.items self.new.opened.items self.new.place self.new.kept.items) }
+    {
+        if is_kept_value(from, to, &subst) {
+            self.place = end;
+            return Ok(());
+        }
+        self.enter(list)?;
+        self.keep(from, to, subst, list.len() - end)
+    }
+
     /// Keeps the substitution of a step, unless its terms may be reducible, since the side that was found is a variable; and
-    /// notes where its terms stand in the instance of the other side, behind which there are so many nodes.
+    /// notes where its terms stand in the instance of the other side, behind which there are so many nodes. Those that no note
+    /// names any more are dropped before.
     fn keep(
         &mut self,
         from: &Term,
@@ -286,6 +309,7 @@ impl Walk {
         if is_variable(from) {
             return Ok(());
         }
+        self.kept.truncate(count_noted(self.notes.as_slice()));
         note_values(
             &mut self.notes,
             to.as_nodes(),
@@ -295,6 +319,27 @@ impl Walk {
         )?;
         self.kept.push(subst)?;
         Ok(())
+    }
+}
+
+/// Whether the side that was found is no variable, and the other one is one that has a term: then this term is irreducible.
+fn is_kept_value(from: &Term, to: &Term, subst: &Subst) -> bool
+    ensures { IsTrue result → IsKeptValue from.now to.now subst.now }
+{
+    if is_variable(from) {
+        return false;
+    }
+    match to.as_nodes()[0] {
+        Node::Var(x) => subst.get(x).is_some(),
+        Node::App(_, _) => false,
+    }
+}
+
+/// Counts the substitutions that notes may name: those of later steps are noted later, and none behind that of the last note.
+fn count_noted(notes: &[Note]) -> usize {
+    match notes.last() {
+        Some(note) => note.number.saturating_add(1),
+        None => 0,
     }
 }
 
