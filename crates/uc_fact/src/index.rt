@@ -26,7 +26,7 @@ pub trait Test {
     ghost accepts: { Self → Found → Type 0 };
 
     /// Whether nothing that is found at this side of this fact is accepted, as far as that is seen without the
-    /// substitution. It is told that side and the other one; of other terms its answer says nothing. It takes no memory.
+    /// substitution. It takes no memory.
     fn rules_out(&self, fact: u32, side: Side, from: &Term, to: &Term) -> bool
         ensures { IsTrue result → (found : Found) → can_test self.now found from.now to.now → found.fact ≡ fact → found.side ≡ side → accepts self.now found → ⊥ };
 
