@@ -1,10 +1,13 @@
 //! The rounds of a search.
 
-ghost use Rattle.std.specs.Prelude.{◌≡◌, ◌<◌, ◌^◌, ℕ, [], Some, IfOk, IfErr, OnOk, OnErr};
+ghost use Rattle.std.specs.Prelude.{◌≡◌, ◌+◌, ◌-◌, ◌<◌, ◌^◌, ℕ, [], Some, length, min, IfOk, IfErr, OnOk, OnErr};
 ghost use Rattle.uc_book.specs.Openings.{opening_of};
 ghost use Rattle.uc_book.specs.Answers.{IsSameBook, IsAnEnd};
 ghost use Rattle.uc_machine.specs.Events.{commits_by};
+ghost use Rattle.uc_shelf.specs.Fronts.{IsOf};
 ghost use Rattle.uc_machine.specs.Finals.{IsFinal};
+ghost use Rattle.uc_machine.specs.State.{State};
+ghost use Rattle.uc_final.specs.Stages.{stages_of};
 ghost use Rattle.uc_machine.specs.Runs.{IsDrained, Reaches};
 ghost use Rattle.uc_machine.specs.declared.task.Outcome.TheVariants.{Missing as Lacks};
 ghost use Rattle.uc_search.specs.Working.{Counts, IsSamePass};
@@ -15,12 +18,14 @@ use crate::working::{Ended, has_few_commits, work_alone};
 use std::alloc::{AllocError, Global};
 use std::sync::Wait;
 use std::thread::Threads;
+use uc_bank::Bank;
 use uc_book::{Audited, Book, Pass};
+use uc_fact::Equation;
 use uc_final::{FinalPasses, final_pass};
-use uc_machine::{Missing, Outcome, Verdict};
+use uc_machine::{Missing, Outcome, Stage, Verdict};
 use uc_order::Order;
 use uc_problem::Encoded;
-use uc_shelf::Shelf;
+use uc_shelf::{Front, Shelf};
 use uc_term::Seq;
 
 /// Works on a book until it has a verdict. Each time that it is drained the final pass is made: what is missing is kept and
@@ -142,7 +147,7 @@ pub fn end_round<R: Threads + Wait + Sync, O: Order + Sync>(
     let stages = book.stages(alloc)?;
     let front = book.front();
     let axioms = book.axioms();
-    let outcome = final_pass(
+    let outcome = outcome_of(
         rt,
         alloc,
         shelf,
@@ -157,6 +162,40 @@ pub fn end_round<R: Threads + Wait + Sync, O: Order + Sync>(
         Ok(all) => audit_all(rt, alloc, book, all),
         Err(end) => Ok(Some(book.close(&end))),
     }
+}
+
+/// Makes the final pass by a bank's order, which remembers how the two sides of each fact of the front compare.
+fn outcome_of<R: Threads + Sync, O: Order + Sync>(
+    rt: &R,
+    alloc: Global,
+    shelf: &Shelf,
+    front: &Front,
+    axioms: &[Equation],
+    stages: &[Stage],
+    order: &O,
+    workers: u32,
+    passes: &mut FinalPasses,
+) -> Result<Outcome, AllocError>
+    requires of { IsOf shelf.now front.now }
+    requires few_axioms { length axioms.now < 2 ^ 31 }
+    requires few_goals { length stages.now < 2 ^ 31 }
+    ensures outcome { IfOk result (λ outcome. (s : State) → s.entries ≡ front.now.entries → stages_of s.goals ≡ stages.now → IsFinal (O.meaning order.now) axioms.now s outcome) }
+    ensures passes { passes.new ≡ min (passes.old + 1) (2 ^ 64 - 1) }
+{
+    let mut bank = Bank::new(alloc, shelf, order);
+    // What can't be remembered is compared anew.
+    let _ = bank.learn(alloc, front);
+    final_pass(
+        rt,
+        alloc,
+        shelf,
+        front,
+        axioms,
+        stages,
+        bank.order(),
+        workers,
+        passes,
+    )
 }
 
 /// The equations that are missing; or, where that isn't the outcome, the outcome.
