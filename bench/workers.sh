@@ -25,6 +25,18 @@ search() {
             BEGIN { sub(".*/tmp[^/]*/", "", problem); printf "%s %s, %d workers: %s in %.1f s, %.2f times as fast, with %.2f processors, %.1f processor seconds\n", problem, options, workers, status, t, one / t, used / t, used }'
     done
 }
+python3 bench/dihedral.py 24 >"$folder/dihedral-24.p"
+at_once() {
+    for _ in $(seq "$1"); do
+        "$program" prove --budget 1000000 --pairs 8000000 "$folder/dihedral-24.p" >/dev/null &
+    done
+    wait
+}
+for commands in 1 2 4; do
+    read -r seconds used < <(timed at_once "$commands")
+    alone=${alone:-$seconds}
+    awk -v n="$commands" -v t="$seconds" -v used="$used" -v one="$alone" 'BEGIN { printf "%d commands at once: %.1f s, %.2f times the work of one, %.1f processor seconds each\n", n, t, n * one / t, used / n }'
+done
 search examples/group-not-commutative.p --budget 65000
 search examples/harder/ring-derivation.p --budget 15000 --pairs 8000000
 search bench/beside/ac.p --budget 12000 --pairs 8000000
