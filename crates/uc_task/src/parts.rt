@@ -26,28 +26,39 @@ pub fn may_step<O: Order>(
     requires { IfSome known (IsWayOf (O.meaning order.now).greater equation.now) }
     ensures { result ≡ false → StepsIn (O.meaning order.now) equation.now term.now → ⊥ }
 {
+    match known {
+        Some(way) => may_step_by(equation, way, term, order),
+        None => may_step_asking(number, equation, term, order),
+    }
+}
+
+/// The same, where it is known how the two sides compare.
+fn may_step_by<O: Order>(equation: &Equation, way: Cmp, term: &Term, _order: &O) -> bool
+    requires { IsWayOf (O.meaning _order.now).greater equation.now way }
+    ensures { result ≡ false → StepsIn (O.meaning _order.now) equation.now term.now → ⊥ }
+{
+    match way {
+        Cmp::Greater => has_part(term, &equation.left),
+        Cmp::Less => has_part(term, &equation.right),
+        Cmp::Equal => false,
+        Cmp::Unknown => has_part(term, &equation.left) || has_part(term, &equation.right),
+    }
+}
+
+/// The same, where it is asked how the two sides compare, if one of them has an instance.
+fn may_step_asking<O: Order>(number: u32, equation: &Equation, term: &Term, order: &O) -> bool
+    ensures { result ≡ false → StepsIn (O.meaning order.now) equation.now term.now → ⊥ }
+{
     let left = has_part(term, &equation.left);
     let right = has_part(term, &equation.right);
     if !left && !right {
         return false;
     }
-    match way_or_known(number, equation, known, order) {
+    match way_of(number, equation, order) {
         Cmp::Greater => left,
         Cmp::Less => right,
         Cmp::Equal => false,
         Cmp::Unknown => true,
-    }
-}
-
-/// How the two sides of a fact compare, if that isn't known.
-#[inline]
-fn way_or_known<O: Order>(number: u32, equation: &Equation, known: Option<Cmp>, order: &O) -> Cmp
-    requires { IfSome known (IsWayOf (O.meaning order.now).greater equation.now) }
-    ensures { IsWayOf (O.meaning order.now).greater equation.now result }
-{
-    match known {
-        Some(way) => way,
-        None => way_of(number, equation, order),
     }
 }
 
