@@ -13,7 +13,7 @@ use std::io::Print;
 use std::rt::Env;
 use std::sync::Wait;
 use std::{env, io};
-use uc_fact::{Found, Index, Side, Test};
+use uc_fact::{Found, Index, Outlook, Side, Test};
 use uc_shelf::{Front, Shelf, View};
 use uc_term::Term;
 
@@ -40,8 +40,8 @@ impl Test for Nothing {
 
     ghost accepts = { λ _ _. ⊥ };
 
-    fn rules_out(&self, fact: u32, side: Side, _from: &Term, _to: &Term) -> bool {
-        false
+    fn outlook(&self, fact: u32, side: Side, _from: &Term, _to: &Term) -> Outlook {
+        Outlook::Unclear
     }
 
     fn passes(
@@ -63,8 +63,8 @@ impl Test for Anything {
 
     ghost accepts = { λ _ _. Unit {0} };
 
-    fn rules_out(&self, fact: u32, side: Side, _from: &Term, _to: &Term) -> bool {
-        false
+    fn outlook(&self, fact: u32, side: Side, _from: &Term, _to: &Term) -> Outlook {
+        Outlook::Unclear
     }
 
     fn passes(

@@ -8,7 +8,7 @@ use crate::fronts::put;
 use std::alloc::{AllocError, Global};
 use std::sync::Wait;
 use std::test::Fail;
-use uc_fact::{Found, Index, Side, Test};
+use uc_fact::{Found, Index, Outlook, Side, Test};
 use uc_shelf::{Entry, Front, Shelf};
 use uc_term::{Sym, Term, TermFault};
 
@@ -80,8 +80,8 @@ impl Test for IsLeft {
 
     ghost accepts = { λ s found. found.side ≡ Left };
 
-    fn rules_out(&self, _fact: u32, _side: Side, _from: &Term, _to: &Term) -> bool {
-        false
+    fn outlook(&self, _fact: u32, _side: Side, _from: &Term, _to: &Term) -> Outlook {
+        Outlook::Unclear
     }
 
     fn passes(

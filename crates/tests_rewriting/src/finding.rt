@@ -7,7 +7,7 @@ use crate::terms::term;
 use std::alloc::{AllocError, Global};
 use std::sync::Wait;
 use std::test::Fail;
-use uc_fact::{Chain, Equation, Fact, Found, Index, Origin, Side, Stop, Test};
+use uc_fact::{Chain, Equation, Fact, Found, Index, Origin, Outlook, Side, Stop, Test};
 use uc_rewrite::Scan;
 use uc_shelf::{Entry, Front, Shelf, View};
 use uc_term::{Seq, Subst, Term, TermFault};
@@ -126,8 +126,12 @@ impl Test for Leaves {
 
     ghost accepts = { λ s found. found.fact % 3 ≡ s.rest };
 
-    fn rules_out(&self, fact: u32, _side: Side, _from: &Term, _to: &Term) -> bool {
-        fact % 3 != self.rest
+    fn outlook(&self, fact: u32, _side: Side, _from: &Term, _to: &Term) -> Outlook {
+        if fact % 3 != self.rest {
+            Outlook::Fails
+        } else {
+            Outlook::Unclear
+        }
     }
 
     fn passes(

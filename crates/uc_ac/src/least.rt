@@ -8,7 +8,7 @@ ghost use Rattle.uc_ac.specs.Found.{IsInstanceOf};
 
 use crate::ac_law::{AcLaw, is_law};
 use std::alloc::{AllocError, Global};
-use uc_fact::{AcFacts, Found, Index, Side, Test};
+use uc_fact::{AcFacts, Found, Index, Outlook, Side, Test};
 use uc_term::{MAX_NODES, Node, Sym, Term};
 
 /// The least facts that make the symbol associative and commutative. None exactly where no facts do.
@@ -90,8 +90,12 @@ impl<'a, I: Index> Test for LawTest<'a, I> {
 
     ghost accepts = { λ s found. IsFactThat (I.live s.index.now) s.law s.symbol found.fact };
 
-    fn rules_out(&self, fact: u32, _side: Side, _from: &Term, _to: &Term) -> bool {
-        !is_fact_that(self.index, self.law, self.symbol, fact)
+    fn outlook(&self, fact: u32, _side: Side, _from: &Term, _to: &Term) -> Outlook {
+        if is_fact_that(self.index, self.law, self.symbol, fact) {
+            Outlook::Passes
+        } else {
+            Outlook::Fails
+        }
     }
 
     fn passes(

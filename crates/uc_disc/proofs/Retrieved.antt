@@ -22,7 +22,7 @@ use Rattle.uc_disc.specs.declared.search.Best.{Best}
 use Rattle.uc_disc.specs.Spelling.{labels_of}
 use Rattle.uc_disc.specs.Trail.{on, trail, before, Spells, AreSpelled, leaf, leaves, numbers_below}
 use Rattle.uc_disc.specs.Standing.{Stands, Fails, StandsAt, FailsAt, IsLeafAt}
-use Rattle.uc_disc.specs.Retrieving.{GivesNone, Gives, IsFirstFrom, IsBest, IsBestBefore, IsBetter}
+use Rattle.uc_disc.specs.Retrieving.{GivesNone, Gives, IsFirstFrom, IsBest, IsBestBefore, IsBetter, IsPassed}
 use Rattle.std.proofs.Common.{MatchOption}
 use Rattle.uc_term.specs.declared.equation.Equation.{Equation}
 use Rattle.uc_term.specs.declared.equation.Side.{Side}
@@ -138,8 +138,8 @@ module _ (Accepted : Found → Type 0) (ns : List Node) (w : IsWhole ns) (rules 
   pub none_left : (a b : ℕ) (best : Best) → IsBestBefore Accepted (tree_of ns) rules ps from a best → b ≤ a → FailsAt ns ps b (length ps) best.bound → IsBestBefore Accepted (tree_of ns) rules ps from (length ps) best
   none_left a b best s h f = none_past a (length ps) best s (λ j p r k l e is v. f j p r (omega arith) l e is v)
 
-  pub none_at_start : (best : Best) → IsBest Accepted (tree_of ns) rules from best.bound best.answer → IsBestBefore Accepted (tree_of ns) rules ps from 0 best
-  none_at_start best b = record { best_is = b; none = λ k p r h e is u v. absurd (omega arith) }
+  pub none_at_start : (start : ℕ) (best : Best) → IsBest Accepted (tree_of ns) rules from best.bound best.answer → IsPassed Accepted (tree_of ns) rules ps from start → IsBestBefore Accepted (tree_of ns) rules ps from start best
+  none_at_start start best b passed = record { best_is = b; none = passed.none best.bound }
 
   pub first_found : (start : ℕ) (best : Best) (j : ℕ) (at : List ℕ) → IsBestBefore Accepted (tree_of ns) rules ps from start best → StandsAt ns ps j at → (j < stop → IsLeafAt ns ps j) → FailsAt ns ps start j best.bound → Searching Accepted ns rules ps from stop j best at
   first_found start best j at b st l f = record { stands = st; is_leaf = l; so_far = none_past start j best b f }
@@ -172,10 +172,10 @@ module _ (Accepted : Found → Type 0) (ns : List Node) (w : IsWhole ns) (rules 
   search_ends bound (Some x) s = (s.best_is.1, s.best_is.2, λ k u v. all_none (record { answer = Some x; bound = bound }) s k u (omega (arith, s.best_is.0)))
 
   -- no leaf can be reached
-  pub search_empty : (a b c : ℕ) → a ≡ 0 → c ≤ b → ((bound : ℕ) → FailsAt ns ps a b bound) → ((bound : ℕ) → FailsAt ns ps c (length ps) bound) → IsFirstFrom Accepted (tree_of ns) rules from None
-  search_empty a b c e h between behind =
+  pub search_empty : (start a b c : ℕ) → IsPassed Accepted (tree_of ns) rules ps from start → a ≤ start → c ≤ b → ((bound : ℕ) → FailsAt ns ps a b bound) → ((bound : ℕ) → FailsAt ns ps c (length ps) bound) → IsFirstFrom Accepted (tree_of ns) rules from None
+  search_empty start a b c passed e h between behind =
       let none : Best = record { answer = None; bound = length rules } in
-      search_ends (length rules) None (none_left b c none (none_past 0 b none (none_at_start none (let z : length rules ≤ length rules = omega arith in z)) (λ j p r k l g is v. between (length rules) j p r (omega (arith, e)) l g is v)) h (behind (length rules)))
+      search_ends (length rules) None (none_left b c none (none_past start b none (none_at_start start none (let z : length rules ≤ length rules = omega arith in z) passed) (λ j p r k l g is v. between (length rules) j p r (omega arith) l g is v)) h (behind (length rules)))
 
 pub err_of : {T E : Type 0} (r : Result T E) (P : Type 0) → P → OnErr r P
 err_of (Ok x) P p = tt

@@ -8,6 +8,7 @@ use Rattle.uc_fact.specs.Retrieval.{found_by}
 use Rattle.uc_fact.specs.Against.{HasMatch}
 use Rattle.uc_disc.specs.declared.place.Label.TheVariants.{Leaf}
 use Rattle.uc_disc.specs.declared.place.Place.{Place}
+use Rattle.uc_disc.specs.Heads.{IsRoot}
 use Rattle.uc_disc.specs.declared.search.Answer.{Answer}
 use Rattle.uc_disc.specs.declared.search.Best.{Best}
 
@@ -48,6 +49,12 @@ module _ (Accepted : Found → Type 0) (t : Tree) (rules : List Rule) where
   -- no leaf before a place gives anything from a number on and below a bound
   abbrev pub NoneBefore : List Place → ℕ → ℕ → ℕ → Type 0
   NoneBefore ps i from bound = (j : ℕ) (p : Place) (r : ℕ) → j < i → slice_get ps j ≡ Some p → p.label ≡ Leaf r → from ≤ r → r < bound → GivesNone r
+
+  -- a branch of the root, before which no leaf gives anything from a number on
+  pub record IsPassed (ps : List Place) (from i : ℕ) : Type 0 where
+    pub root : IsRoot ps i
+    pub within : i ≤ length ps
+    pub none : (bound : ℕ) → NoneBefore ps i from bound
 
   -- the best answer of the leaves before a place
   pub record IsBestBefore (ps : List Place) (from i : ℕ) (best : Best) : Type 0 where

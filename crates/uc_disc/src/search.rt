@@ -1,22 +1,23 @@
 //! Finds the first rule that gives something that passes a test.
 
-ghost use Rattle.std.specs.Prelude.{◌≡◌, ◌+◌, ◌*◌, ◌-◌, ◌<◌, ◌≤◌, ◌^◌, ℕ, IfOk, OnErr, length};
+ghost use Rattle.std.specs.Prelude.{◌≡◌, ◌+◌, ◌*◌, ◌-◌, ◌<◌, ◌≤◌, ◌^◌, ℕ, [], IfOk, OnErr, length};
 ghost use Rattle.uc_term.specs.Tree.{Tree as AnyTree};
 ghost use Rattle.uc_term.specs.Flat.{tree_of, IsWhole};
 ghost use Rattle.uc_fact.specs.declared.index.Found.{Found as AnyFound};
 ghost use Rattle.uc_fact.specs.Live.{rules_of};
 ghost use Rattle.uc_fact.specs.Retrieval.{IsFound, FindsNothing};
 ghost use Rattle.uc_disc.specs.Numbered.{lives};
-ghost use Rattle.uc_disc.specs.Trail.{IsTree};
+ghost use Rattle.uc_disc.specs.Trail.{IsTree, AreSupported};
 ghost use Rattle.uc_disc.specs.Heads.{IsRoot, AreHeads, AreParts};
-ghost use Rattle.uc_disc.specs.Retrieving.{IsTried, IsFirstFrom, IsBest, IsBetter, IsBestBefore};
+ghost use Rattle.uc_disc.specs.Retrieving.{IsTried, IsFirstFrom, IsBest, IsBetter, IsBestBefore, IsPassed};
+ghost use Rattle.uc_disc.specs.Idle.{AreIdle};
 
 use crate::facts::{other_side_term, side_of_rule, side_term};
 use crate::heads::{Head, Part, Parts, parts_of};
 use crate::place::{Mark, Place, leaf_rule};
 use crate::walk::next_leaf;
 use std::alloc::{AllocError, Global};
-use uc_fact::{Equation, Found, Side, Test};
+use uc_fact::{Equation, Found, Outlook, Side, Test, passes_by};
 use uc_term::{MAX_NODES, Node, Term};
 use uc_unify::matches;
 
@@ -42,8 +43,8 @@ impl Test for Any {
 
     ghost accepts = { λ _ _. Unit {0} };
 
-    fn rules_out(&self, fact: u32, side: Side, from: &Term, to: &Term) -> bool {
-        false
+    fn outlook(&self, fact: u32, side: Side, from: &Term, to: &Term) -> Outlook {
+        Outlook::Passes
     }
 
     fn passes(
@@ -76,7 +77,8 @@ fn try_rule<T: Test>(
     let side = side_of_rule(facts, rule);
     let from = side_term(&fact.1, side);
     let to = other_side_term(&fact.1, side);
-    if test.rules_out(fact.0, side, from, to) {
+    let outlook = test.outlook(fact.0, side, from, to);
+    if let Outlook::Fails = outlook {
         return Ok(None);
     }
     match matches(alloc, from.as_nodes(), term)? {
@@ -86,7 +88,7 @@ fn try_rule<T: Test>(
                 side,
                 subst,
             };
-            if test.passes(alloc, &found, from, to)? {
+            if passes_by(alloc, test, outlook, &found, from, to)? {
                 Ok(Some(found))
             } else {
                 Ok(None)
@@ -167,8 +169,8 @@ fn best_in<T: Test>(
     Ok(best)
 }
 
-/// Finds the first rule from a number on that gives something that passes the test, in the two parts. Where no rule gives
-/// anything, this takes no memory.
+/// Finds the first rule from a number on that gives something that passes the test, in the two parts, where no leaf before a
+/// place gives any. Where no rule gives anything, this takes no memory.
 #[inline(always)]
 fn first_in<T: Test>(
     facts: &[(u32, Equation)],
@@ -178,12 +180,14 @@ fn first_in<T: Test>(
     from: u32,
     term: &[Node],
     test: &T,
+    passed: usize,
     parts: Parts,
     at: &mut [u16],
 ) -> Result<Option<Answer>, AllocError>
     requires whole { IsWhole term.now }
     requires small { length term.now ≤ MAX_NODES }
     requires tree { IsTree (rules_of (lives facts.now)) places.now marks.now (length at.old - 1) }
+    requires passed { IsPassed (T.accepts test.now) (tree_of term.now) (rules_of (lives facts.now)) places.now from passed }
     requires parts { AreParts term.now places.now parts }
     requires room { 1 < length at.old }
     requires few { length facts.now < 2 ^ 31 }
@@ -196,7 +200,7 @@ fn first_in<T: Test>(
         bound: u32::MAX,
     };
     let first = Part {
-        start: 0,
+        start: passed,
         stop: parts.first,
     };
     let best = best_in(
@@ -229,11 +233,13 @@ fn first_shallow<T: Test>(
     from: u32,
     term: &[Node],
     test: &T,
+    passed: usize,
     parts: Parts,
 ) -> Result<Option<Answer>, AllocError>
     requires whole { IsWhole term.now }
     requires small { length term.now ≤ MAX_NODES }
     requires tree { IsTree (rules_of (lives facts.now)) places.now marks.now 63 }
+    requires passed { IsPassed (T.accepts test.now) (tree_of term.now) (rules_of (lives facts.now)) places.now from passed }
     requires parts { AreParts term.now places.now parts }
     requires few { length facts.now < 2 ^ 31 }
     requires can { (found : AnyFound) (from to : AnyTree) → IsFound (tree_of term.now) (rules_of (lives facts.now)) found from to → T.can_test test.now found from to }
@@ -242,7 +248,7 @@ fn first_shallow<T: Test>(
 {
     let mut at = [0u16; 64];
     first_in(
-        facts, places, marks, alloc, from, term, test, parts, &mut at,
+        facts, places, marks, alloc, from, term, test, passed, parts, &mut at,
     )
 }
 
@@ -256,9 +262,11 @@ fn first_deep<T: Test>(
     from: u32,
     term: &[Node],
     test: &T,
+    passed: usize,
     parts: Parts,
 ) -> Result<Option<Answer>, AllocError>
     requires tree { IsTree (rules_of (lives facts.now)) places.now marks.now 4097 }
+    requires passed { IsPassed (T.accepts test.now) (tree_of term.now) (rules_of (lives facts.now)) places.now from passed }
     requires parts { AreParts term.now places.now parts }
     requires whole { IsWhole term.now }
     requires small { length term.now ≤ MAX_NODES }
@@ -269,8 +277,26 @@ fn first_deep<T: Test>(
 {
     let mut at = [0u16; 4098];
     first_in(
-        facts, places, marks, alloc, from, term, test, parts, &mut at,
+        facts, places, marks, alloc, from, term, test, passed, parts, &mut at,
     )
+}
+
+/// Returns a place before which no leaf gives anything that passes the test: that of the idle rules' end, where it refuses them.
+#[inline]
+fn passed_by<T: Test>(
+    facts: &[(u32, Equation)],
+    places: &[Place],
+    idle: usize,
+    from: u32,
+    term: &[Node],
+    test: &T,
+) -> usize
+    requires supported { AreSupported [] places.now }
+    requires idle { AreIdle (rules_of (lives facts.now)) places.now idle }
+    requires can { (found : AnyFound) (from to : AnyTree) → IsFound (tree_of term.now) (rules_of (lives facts.now)) found from to → T.can_test test.now found from to }
+    ensures { IsPassed (T.accepts test.now) (tree_of term.now) (rules_of (lives facts.now)) places.now from result }
+{
+    if test.refuses_variables() { idle } else { 0 }
 }
 
 /// Finds the first rule from a number on that gives something that passes the test. Where no rule gives anything, this
@@ -281,6 +307,7 @@ pub fn first_from<T: Test>(
     marks: &[Mark],
     heads: &[Head],
     deep: usize,
+    idle: usize,
     alloc: Global,
     from: u32,
     term: &[Node],
@@ -288,6 +315,7 @@ pub fn first_from<T: Test>(
 ) -> Result<Option<Answer>, AllocError>
     requires tree { IsTree (rules_of (lives facts.now)) places.now marks.now deep }
     requires heads { AreHeads places.now heads.now (length places.now) }
+    requires idle { AreIdle (rules_of (lives facts.now)) places.now idle }
     requires shallow { deep ≤ 4097 }
     requires whole { IsWhole term.now }
     requires small { length term.now ≤ MAX_NODES }
@@ -296,13 +324,14 @@ pub fn first_from<T: Test>(
     ensures value { IfOk result (IsFirstFrom (T.accepts test.now) (tree_of term.now) (rules_of (lives facts.now)) from) }
     ensures memory { OnErr result (FindsNothing (tree_of term.now) (rules_of (lives facts.now)) → ⊥) }
 {
+    let passed = passed_by(facts, places, idle, from, term, test);
     let parts = parts_of(heads, places, term);
-    if parts.first == 0 && parts.second.start >= parts.second.stop {
+    if parts.first <= passed && parts.second.start >= parts.second.stop {
         return Ok(None);
     }
     if deep < 64 {
-        first_shallow(facts, places, marks, alloc, from, term, test, parts)
+        first_shallow(facts, places, marks, alloc, from, term, test, passed, parts)
     } else {
-        first_deep(facts, places, marks, alloc, from, term, test, parts)
+        first_deep(facts, places, marks, alloc, from, term, test, passed, parts)
     }
 }

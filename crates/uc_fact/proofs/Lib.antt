@@ -1,4 +1,5 @@
 pub mod Occurring
+pub mod Seen
 pub mod Matched
 pub mod Lists
 pub mod NewVariables

@@ -1,5 +1,7 @@
 //! Indexes of facts: which sides of live facts a term is an instance of.
 
+ghost use Rattle.std.specs.Prelude.{◌≡◌, ◌↔◌, IsTrue, IfOk};
+
 use std::alloc::{AllocError, Global};
 use uc_term::{MAX_NODES, Node, Seq, Side, Subst, Term};
 
@@ -12,12 +14,21 @@ pub struct Found {
     pub subst: Subst,
 }
 
+/// What is foreseen of all that may be found at a side of a fact: that it passes a test, that it fails, or neither.
+#[derive(Clone, Copy, PartialEq, Eq)]
+pub enum Outlook {
+    Passes,
+    Fails,
+    Unclear,
+}
+
 /// A test of what is found for a term. It is told the side of the fact from which the term is an instance, and the other side,
 /// so that it needn't look for them.
 pub trait Test {
     ghost use Rattle.std.specs.Prelude.{◌≡◌, ◌↔◌, IsTrue, IfOk};
     ghost use Rattle.uc_term.specs.Tree.{Tree};
     ghost use Rattle.uc_fact.specs.declared.index.Found.{Found};
+    ghost use Rattle.uc_fact.specs.Variable.{IsVariableOf};
 
     /// What the test may be asked of, with the two sides.
     ghost can_test: { Self → Found → Tree → Tree → Type 0 };
@@ -25,10 +36,19 @@ pub trait Test {
     /// What it accepts.
     ghost accepts: { Self → Found → Type 0 };
 
-    /// Whether nothing that is found at this side of this fact is accepted, as far as that is seen without the
+    /// Whether all or nothing that is found at this side of this fact is accepted, as far as that is seen without the
     /// substitution. It takes no memory.
-    fn rules_out(&self, fact: u32, side: Side, from: &Term, to: &Term) -> bool
-        ensures { IsTrue result → (found : Found) → can_test self.now found from.now to.now → found.fact ≡ fact → found.side ≡ side → accepts self.now found → ⊥ };
+    fn outlook(&self, fact: u32, side: Side, from: &Term, to: &Term) -> Outlook
+        ensures passes { result ≡ Outlook.Passes → (found : Found) → can_test self.now found from.now to.now → found.fact ≡ fact → found.side ≡ side → accepts self.now found }
+        ensures fails { result ≡ Outlook.Fails → (found : Found) → can_test self.now found from.now to.now → found.fact ≡ fact → found.side ≡ side → accepts self.now found → ⊥ };
+
+    /// Whether nothing is accepted that is found at a side that is a variable of the other side. A term is an instance of each
+    /// such side, so that an index passes over them where this is so. It takes no memory.
+    fn refuses_variables(&self) -> bool
+        ensures { IsTrue result → (found : Found) → (from to : Tree) → can_test self.now found from to → IsVariableOf from to → accepts self.now found → ⊥ }
+    {
+        false
+    }
 
     /// Whether the test accepts what was found.
     fn passes(
@@ -40,6 +60,28 @@ pub trait Test {
     ) -> Result<bool, AllocError>
         requires { can_test self.now found.now from.now to.now }
         ensures { IfOk result (λ passes. IsTrue passes ↔ accepts self.now found.now) };
+}
+
+/// Whether a test accepts what was found at a side of a fact, of which the outlook is this one. The test is asked only where
+/// that is unclear.
+pub fn passes_by<T: Test>(
+    alloc: Global,
+    test: &T,
+    outlook: Outlook,
+    found: &Found,
+    from: &Term,
+    to: &Term,
+) -> Result<bool, AllocError>
+    requires can { T.can_test test.now found.now from.now to.now }
+    requires passes { outlook ≡ Outlook.Passes → T.accepts test.now found.now }
+    requires fails { outlook ≡ Outlook.Fails → T.accepts test.now found.now → ⊥ }
+    ensures { IfOk result (λ passes. IsTrue passes ↔ T.accepts test.now found.now) }
+{
+    match outlook {
+        Outlook::Passes => Ok(true),
+        Outlook::Fails => Ok(false),
+        Outlook::Unclear => test.passes(alloc, found, from, to),
+    }
 }
 
 /// An index of facts. Its answers are a function of the facts that live in it, each with its number.

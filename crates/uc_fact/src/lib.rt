@@ -11,12 +11,14 @@ mod index;
 mod instance;
 mod joinable;
 mod laws;
+mod variable;
 
 pub use ac_facts::AcFacts;
 pub use chain::{By, Chain, Step};
 pub use fact::{Fact, Origin, Overlap, Stop, System};
-pub use index::{Found, Index, Test};
+pub use index::{Found, Index, Outlook, Test, passes_by};
 pub use instance::{heads_differ, is_instance, matching};
 pub use joinable::{Joinable, Reason};
 pub use laws::{first_of_the_list, one_list};
 pub use uc_term::{Equation, Side};
+pub use variable::is_variable_of;

@@ -1,3 +1,4 @@
 pub mod Joining
 pub mod Sides
 pub mod Ends
+pub mod Orders

@@ -1,16 +1,14 @@
 //! Whether two terms are the two sides of one instance of a fact.
 
-ghost use Rattle.std.specs.Prelude.{◌≡◌, ◌↔◌, IsTrue, IfOk, MatchOption};
-ghost use Rattle.uc_term.specs.Flat.{tree_of, IsWhole};
+ghost use Rattle.std.specs.Prelude.{◌≡◌, IfOk, MatchOption};
 ghost use Rattle.uc_term.specs.Equations.{side_of, other_side_of};
-ghost use Rattle.uc_unify.specs.Matching.{HasNoMatch};
 ghost use Rattle.uc_fact.specs.Live.{fact_at};
 ghost use Rattle.uc_ground.specs.Joining.{IsLeastInstance, IsNoInstance};
 ghost use Rattle.uc_ground.specs.Sides.{AreSides};
 
 use std::alloc::{AllocError, Global};
-use uc_fact::{Found, Index, Side, Test};
-use uc_term::{Node, Sym, Term};
+use uc_fact::{Found, Index, Outlook, Side, Test, heads_differ};
+use uc_term::Term;
 use uc_unify::matches_both;
 
 /// The least fact of which two terms are, either way round, the two sides of one instance. None exactly where there is none.
@@ -49,10 +47,16 @@ impl<'a, I: Index> Test for OneInstance<'a, I> {
 
     ghost accepts = { λ s found. IsInstanceFrom (I.live s.index.now) s.left.now s.right.now found.fact found.side };
 
-    fn rules_out(&self, fact: u32, side: Side, _from: &Term, _to: &Term) -> bool {
+    fn outlook(&self, fact: u32, side: Side, _from: &Term, _to: &Term) -> Outlook {
         match sides(self.index, fact, side) {
-            Some((_, to)) => differs(to.as_nodes(), self.right.as_nodes()),
-            None => false,
+            Some((_, to)) => {
+                if heads_differ(to.as_nodes(), self.right.as_nodes()) {
+                    Outlook::Fails
+                } else {
+                    Outlook::Unclear
+                }
+            }
+            None => Outlook::Unclear,
         }
     }
 
@@ -85,29 +89,5 @@ fn sides<I: Index>(index: &I, fact: u32, side: Side) -> Option<(&Term, &Term)>
     match side {
         Side::Left => Some((left, right)),
         Side::Right => Some((right, left)),
-    }
-}
-
-/// Whether the heads of a pattern and a term are two different symbols, or the term alone is a variable; then no
-/// substitution makes the pattern the term. It takes no memory.
-fn differs(pattern: &[Node], term: &[Node]) -> bool
-    requires whole_pattern { IsWhole pattern.now }
-    requires whole_term { IsWhole term.now }
-    ensures { IsTrue result → HasNoMatch (tree_of pattern.now) (tree_of term.now) }
-{
-    match pattern[0] {
-        Node::Var(_) => false,
-        Node::App(f, n) => !is_head(term[0], f, n),
-    }
-}
-
-/// Whether the node is this symbol with this number of arguments.
-#[inline]
-fn is_head(node: Node, f: Sym, n: u32) -> bool
-    ensures { IsTrue result ↔ (node ≡ Node.App f n) }
-{
-    match node {
-        Node::App(g, m) => g == f && m == n,
-        Node::Var(_) => false,
     }
 }

@@ -1,10 +1,11 @@
 //! The test for ground joinability.
 
-ghost use Rattle.std.specs.Prelude.{IfOk, MatchOption};
+ghost use Rattle.std.specs.Prelude.{◌≡◌, IfOk, MatchOption};
 ghost use Rattle.uc_fact.specs.Live.{equations_of};
 ghost use Rattle.uc_fact.specs.Ground.{AreOfSignature, IsJoinable};
 ghost use Rattle.uc_order.specs.VarOrders.{HasOnly, orders_of};
 ghost use Rattle.uc_order.specs.Laws.{HasSym};
+ghost use Rattle.uc_ground.specs.Orders.{first_of, others_of};
 ghost use Rattle.uc_ground.specs.Joining.{AreVariables, IsLeastInstance, IsNoInstance, IsTriedUnder, IsAnswer, IsJoined};
 ghost use Rattle.uc_ground.specs.Ends.{EndsAgree, EndsDiffer};
 
@@ -14,7 +15,7 @@ use std::alloc::{AllocError, Global};
 use uc_fact::{Index, Joinable, Reason};
 use uc_order::{Order, var_orders};
 use uc_rewrite::normalise_under;
-use uc_term::{Term, VarOrder};
+use uc_term::{Seq, Term, VarOrder};
 
 /// The most variables whose orders are tried.
 const MOST_VARIABLES: usize = 5;
@@ -54,7 +55,8 @@ pub fn ground_join<O: Order, I: Index>(
     join_under_orders(alloc, s, t, vars.as_slice(), index, order)
 }
 
-/// Tries each order of the variables of two terms.
+/// Tries each order of the variables of two terms. Most terms that aren't joined differ under the first one, so that is tried
+/// before the others are listed.
 fn join_under_orders<O: Order, I: Index>(
     alloc: Global,
     s: &Term,
@@ -66,12 +68,50 @@ fn join_under_orders<O: Order, I: Index>(
     requires { AreVariables s.now t.now vars.now }
     ensures { IfOk result (IsTriedUnder (O.meaning order.now) (I.live index.now) s.now t.now (orders_of vars.now)) }
 {
-    for cases in var_orders(alloc, vars)? {
+    let first = first_order(alloc, vars)?;
+    match different_ends(alloc, &first, s, t, index, order)? {
+        Some((left, right)) => Ok(Joinable::Apart {
+            cases: first,
+            left,
+            right,
+        }),
+        None => join_under_others(alloc, s, t, vars, index, order),
+    }
+}
+
+/// Tries the orders of the variables of two terms that come after the first one, under which their ends agree.
+fn join_under_others<O: Order, I: Index>(
+    alloc: Global,
+    s: &Term,
+    t: &Term,
+    vars: &[u32],
+    index: &I,
+    order: &O,
+) -> Result<Joinable, AllocError>
+    requires { AreVariables s.now t.now vars.now }
+    ensures { IfOk result (IsTriedUnder (O.meaning order.now) (I.live index.now) s.now t.now (others_of vars.now)) }
+{
+    let mut orders = var_orders(alloc, vars)?;
+    let _ = orders.remove(0);
+    for cases in orders {
         if let Some((left, right)) = different_ends(alloc, &cases, s, t, index, order)? {
             return Ok(Joinable::Apart { cases, left, right });
         }
     }
     Ok(Joinable::Joined(Reason::Orders))
+}
+
+/// The first order of some variables: each stands alone, the last one first.
+fn first_order(alloc: Global, vars: &[u32]) -> Result<VarOrder, AllocError>
+    ensures { IfOk result (λ first. first ≡ first_of vars.now) }
+{
+    let mut classes = Vec::new(alloc);
+    for var in vars {
+        let mut class = Vec::new(alloc);
+        class.push(*var)?;
+        classes.insert(0, Seq::from_vec(class))?;
+    }
+    Ok(VarOrder::from_classes(Seq::from_vec(classes)))
 }
 
 /// The ends of two terms under an order of their variables. None exactly where they agree.

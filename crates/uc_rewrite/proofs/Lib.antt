@@ -6,7 +6,6 @@ pub mod Frames
 pub mod Lifting
 pub mod Advancing
 pub mod Keeping
-pub mod Telling
 pub mod Testing
 pub mod Stepping
 pub mod Chaining

@@ -1,5 +1,5 @@
 -- When what is found leads down.
-use Rattle.std.proofs.Common.{◌≡◌, ℕ, List, true, false, IsTrue, refl, sym, ap, ap₂, ◌∙◌, subst}
+use Rattle.std.proofs.Common.{◌≡◌, ℕ, List, sym, ap, ap₂, ◌∙◌, subst}
 use Rattle.uc_term.specs.declared.node.Node.{Node}
 use Rattle.uc_term.specs.declared.node.Sym.{Sym}
 use Rattle.uc_term.specs.Equations.{side_of, other_side_of}
@@ -70,15 +70,10 @@ module _ (Greater : Tree → Tree → Type 0) (least : Sym) (live : List Live) (
   pub never_down : apply (completed least found.subst) from ≡ t → Tells Greater from to Never → Down → ⊥
   never_down e tells d = tells (completed least found.subst) (subst (λ z. Greater z smaller) (sym e) (down_greater d))
 
-pub refused : {A : Type 0} → (A → ⊥) → (IsTrue false → A) × (A → IsTrue false)
-refused {A} n = ((λ h. absurd (no h)), (λ a. absurd (n a)))
-  where
-    no : IsTrue false → ⊥
-    no h = cc
-
-pub agreed : {A : Type 0} → A → (IsTrue true → A) × (A → IsTrue true)
-agreed a = ((λ _. a), (λ _. refl))
-
 -- a side of which no instance is greater leads down nowhere
 pub ruled_out : (Greater : Tree → Tree → Type 0) (least : Sym) (live : List Live) → AreRising live → (t from to : Tree) (found : Found) → Tells Greater from to Never → IsFound t (rules_of live) found from to → LeadsDown Greater least live t found → ⊥
 ruled_out Greater least live rising t from to found tells i d = never_down Greater least live t from to found (found_sides least live t from to found rising i) (instance_is least live t from to found rising i) tells d
+
+-- one of which each instance is greater leads down from each of its instances
+pub let_through : (Greater : Tree → Tree → Type 0) (least : Sym) (live : List Live) → AreRising live → (t from to : Tree) (found : Found) → Tells Greater from to Always → IsFound t (rules_of live) found from to → LeadsDown Greater least live t found
+let_through Greater least live rising t from to found tells i = always_down Greater least live t from to found (found_sides least live t from to found rising i) (instance_is least live t from to found rising i) tells

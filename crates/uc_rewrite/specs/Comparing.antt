@@ -1,6 +1,6 @@
 -- What a comparison tells of the two sides of a fact.
-use Rattle.std.specs.Prelude.{ℕ, ◌≡◌}
-use Rattle.uc_term.specs.Tree.{Tree, var, apply}
+use Rattle.std.specs.Prelude.{ℕ}
+use Rattle.uc_term.specs.Tree.{Tree, apply}
 use Rattle.uc_term.specs.Variables.{Occurs}
 use Rattle.uc_order.specs.VarOrders.{Classes}
 use Rattle.uc_order.specs.Laws.{Meaning}
@@ -20,9 +20,3 @@ Tells Greater from to Unclear = Unit {0}
 -- the same by an order, and by it under each order of variables
 abbrev pub TellsAll : Meaning → Tree → Tree → Falling → Type 0
 TellsAll m from to answer = Tells m.greater from to answer × ((cases : Classes) → Tells (m.under cases) from to answer)
-
--- the term is a variable, and it occurs in the other one
-pub record IsVariableOf (term other : Tree) : Type 0 where
-  pub x : ℕ
-  pub term_is : term ≡ var x
-  pub occurs : Occurs x other

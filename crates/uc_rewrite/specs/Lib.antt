@@ -1,5 +1,6 @@
 pub mod Normalising
 pub mod Comparing
+pub mod Instances
 pub mod Completed
 pub mod Walking
 pub mod Ends

@@ -1,10 +1,9 @@
 //! How terms are compared where facts are used: by an order, or by it under an order of variables.
 
-ghost use Rattle.std.specs.Prelude.{◌≡◌, ◌↔◌, IsTrue};
-ghost use Rattle.uc_term.specs.Flat.{tree_of, IsWhole};
-ghost use Rattle.uc_term.specs.Variables.{Occurs};
-ghost use Rattle.uc_rewrite.specs.Comparing.{IsVariableOf, TellsAll};
+ghost use Rattle.std.specs.Prelude.{◌≡◌, ◌↔◌};
+ghost use Rattle.uc_rewrite.specs.Comparing.{TellsAll};
 
+use uc_fact::{Side, is_variable_of};
 use uc_order::{Cmp, Order};
 use uc_term::{MAX_INSTANCE, Node, Sym, Term, VarOrder};
 
@@ -23,6 +22,8 @@ pub trait Comparison {
     ghost use Rattle.uc_term.specs.Tree.{Tree};
     ghost use Rattle.uc_term.specs.Flat.{tree_of, IsWhole};
     ghost use Rattle.uc_term.specs.declared.node.Sym.{Sym as AnySym};
+    ghost use Rattle.uc_fact.specs.Variable.{IsVariableOf};
+    ghost use Rattle.uc_rewrite.specs.declared.comparison.Falling.TheVariants.{Never};
     ghost use Rattle.uc_rewrite.specs.Comparing.{VariablesAre, Tells};
 
     /// What is greater.
@@ -44,14 +45,17 @@ pub trait Comparison {
         requires t_known { VariablesAre (knows self.now) (tree_of t.now) }
         ensures { IsTrue result ↔ greater self.now (tree_of s.now) (tree_of t.now) };
 
-    /// What the two sides of a fact tell of their instances. The answer is theirs, whatever the fact's number is. It takes no
-    /// memory.
-    fn of_sides(&self, fact: u32, from: &Term, to: &Term) -> Falling
+    /// What the two sides of a fact tell of their instances, read from one side to the other. The answer is theirs, whatever the
+    /// fact's number and that side are. It takes no memory.
+    fn of_sides(&self, fact: u32, side: Side, from: &Term, to: &Term) -> Falling
         ensures { Tells (greater self.now) from.now to.now result };
 
     /// The constant that stands for the variables that only one side of a fact has.
     fn least(&self) -> Sym
         ensures { result ≡ constant self.now };
+
+    /// No instance of a variable is greater than that of a term in which it occurs.
+    ghost no_variable: { (s : Self) → (from to : Tree) → IsVariableOf from to → Tells (greater s) from to Never };
 }
 
 /// The comparison by an order.
@@ -61,18 +65,22 @@ pub struct ByOrder<'a, O> {
 }
 
 impl<'a, O: Order> Comparison for ByOrder<'a, O> {
+    ghost use Rattle.uc_rewrite.specs.Instances.{never_by};
+
     ghost greater = { λ s. (O.meaning s.order.now).greater };
 
     ghost constant = { λ s. (O.meaning s.order.now).least };
 
     ghost knows = { λ s x. Unit {0} };
 
+    ghost no_variable = { λ s. never_by (O.meaning s.order.now) (O.laws s.order.now) };
+
     fn is_greater(&self, s: &[Node], t: &[Node]) -> bool {
         self.order.compare(s, t) == Cmp::Greater
     }
 
-    fn of_sides(&self, fact: u32, from: &Term, to: &Term) -> Falling {
-        told_by_sides(self.order, fact, from, to)
+    fn of_sides(&self, fact: u32, side: Side, from: &Term, to: &Term) -> Falling {
+        told_by_sides(self.order, fact, side, from, to)
     }
 
     fn least(&self) -> Sym {
@@ -89,6 +97,7 @@ pub struct UnderCases<'a, O> {
 
 impl<'a, O: Order> Comparison for UnderCases<'a, O> {
     ghost use Rattle.uc_order.specs.VarOrders.{Among};
+    ghost use Rattle.uc_rewrite.specs.Instances.{never_under};
 
     ghost greater = { λ s. (O.meaning s.order.now).under s.cases.now };
 
@@ -96,13 +105,15 @@ impl<'a, O: Order> Comparison for UnderCases<'a, O> {
 
     ghost knows = { λ s. Among s.cases.now };
 
+    ghost no_variable = { λ s. never_under (O.meaning s.order.now) (O.laws s.order.now) s.cases.now };
+
     fn is_greater(&self, s: &[Node], t: &[Node]) -> bool {
         self.order.compare_under(self.cases, s, t) == Cmp::Greater
     }
 
     // The order of the variables says nothing of those of a fact, but what is greater without it is greater under it.
-    fn of_sides(&self, fact: u32, from: &Term, to: &Term) -> Falling {
-        told_by_sides(self.order, fact, from, to)
+    fn of_sides(&self, fact: u32, side: Side, from: &Term, to: &Term) -> Falling {
+        told_by_sides(self.order, fact, side, from, to)
     }
 
     fn least(&self) -> Sym {
@@ -113,13 +124,13 @@ impl<'a, O: Order> Comparison for UnderCases<'a, O> {
 /// What the two sides of a fact tell of their instances, by an order and by it under each order of variables: an order keeps
 /// to instances, and what is greater is so under every order of variables. A variable that occurs in the other side needn't
 /// be compared: its instances are subterms.
-fn told_by_sides<O: Order>(order: &O, fact: u32, from: &Term, to: &Term) -> Falling
+fn told_by_sides<O: Order>(order: &O, fact: u32, side: Side, from: &Term, to: &Term) -> Falling
     ensures { TellsAll (O.meaning order.now) from.now to.now result }
 {
     if is_variable_of(from, to) {
         return Falling::Never;
     }
-    match order.compare_pair(fact, from.as_nodes(), to.as_nodes()) {
+    match compared(order, fact, side, from, to) {
         Cmp::Greater => Falling::Always,
         Cmp::Less => Falling::Never,
         Cmp::Equal => Falling::Never,
@@ -127,37 +138,30 @@ fn told_by_sides<O: Order>(order: &O, fact: u32, from: &Term, to: &Term) -> Fall
     }
 }
 
-/// Tells that a term is a variable that occurs in the other one. It looks at that one only where the term is a variable.
+/// How two sides of a fact compare. The order is asked about the fact's left side and its right one, since it remembers those.
 #[inline]
-fn is_variable_of(term: &Term, other: &Term) -> bool
-    ensures { IsTrue result → IsVariableOf term.now other.now }
+fn compared<O: Order>(order: &O, fact: u32, side: Side, from: &Term, to: &Term) -> Cmp
+    ensures greater { (result ≡ Cmp.Greater) ↔ (O.meaning order.now).greater from.now to.now }
+    ensures less { (result ≡ Cmp.Less) ↔ (O.meaning order.now).greater to.now from.now }
+    ensures equal { (result ≡ Cmp.Equal) ↔ (from.now ≡ to.now) }
 {
-    match term.as_nodes()[0] {
-        Node::Var(x) => has_variable(other.as_nodes(), x),
-        Node::App(_, _) => false,
+    match side {
+        Side::Left => order.compare_pair(fact, from.as_nodes(), to.as_nodes()),
+        Side::Right => turned(order.compare_pair(fact, to.as_nodes(), from.as_nodes())),
     }
 }
 
-/// Tells that a variable occurs in a term.
-fn has_variable(nodes: &[Node], x: u32) -> bool
-    requires { IsWhole nodes.now }
-    ensures { IsTrue result → Occurs x (tree_of nodes.now) }
-{
-    for node in nodes {
-        if is_var(*node, x) {
-            return true;
-        }
-    }
-    false
-}
-
-/// Whether the node is this variable.
+/// How two terms compare the other way round.
 #[inline]
-fn is_var(node: Node, x: u32) -> bool
-    ensures { IsTrue result ↔ (node ≡ Node.Var x) }
+fn turned(cmp: Cmp) -> Cmp
+    ensures greater { (result ≡ Cmp.Greater) ↔ (cmp ≡ Cmp.Less) }
+    ensures less { (result ≡ Cmp.Less) ↔ (cmp ≡ Cmp.Greater) }
+    ensures equal { (result ≡ Cmp.Equal) ↔ (cmp ≡ Cmp.Equal) }
 {
-    match node {
-        Node::Var(y) => y == x,
-        Node::App(_, _) => false,
+    match cmp {
+        Cmp::Greater => Cmp::Less,
+        Cmp::Less => Cmp::Greater,
+        Cmp::Equal => Cmp::Equal,
+        Cmp::Unknown => Cmp::Unknown,
     }
 }

@@ -10,7 +10,7 @@ ghost use Rattle.uc_rewrite.specs.Completed.{AreSides, LeadsDown};
 use crate::comparison::{Comparison, Falling};
 use crate::completed::completed_instance;
 use std::alloc::{AllocError, Global};
-use uc_fact::{Found, Index, Side, Test};
+use uc_fact::{Found, Index, Outlook, Side, Test};
 use uc_term::{MAX_NODES, Node, Term};
 
 /// The facts of an index, and a comparison by which they are used.
@@ -32,12 +32,17 @@ impl<'a, C: Comparison, I: Index> Test for Falls<'a, C, I> {
 
     ghost accepts = { λ s found. LeadsDown (C.greater s.rules.now.comparison.now) (C.constant s.rules.now.comparison.now) (I.live s.rules.now.index.now) (tree_of s.term.now) found };
 
-    fn rules_out(&self, fact: u32, side: Side, from: &Term, to: &Term) -> bool {
-        match self.rules.comparison.of_sides(fact, from, to) {
-            Falling::Never => true,
-            Falling::Always => false,
-            Falling::Unclear => false,
+    fn outlook(&self, fact: u32, side: Side, from: &Term, to: &Term) -> Outlook {
+        match self.rules.comparison.of_sides(fact, side, from, to) {
+            Falling::Always => Outlook::Passes,
+            Falling::Never => Outlook::Fails,
+            Falling::Unclear => Outlook::Unclear,
         }
+    }
+
+    // A variable of the other side stands for a subterm of its instance.
+    fn refuses_variables(&self) -> bool {
+        true
     }
 
     fn passes(
@@ -47,19 +52,10 @@ impl<'a, C: Comparison, I: Index> Test for Falls<'a, C, I> {
         from: &Term,
         to: &Term,
     ) -> Result<bool, AllocError> {
-        match self.rules.comparison.of_sides(found.fact, from, to) {
-            Falling::Always => Ok(true),
-            Falling::Never => Ok(false),
-            Falling::Unclear => {
-                let least = self.rules.comparison.least();
-                let smaller = completed_instance(alloc, to.as_nodes(), &found.subst, least)?;
-                let falls = self
-                    .rules
-                    .comparison
-                    .is_greater(self.term, smaller.as_slice());
-                Ok(falls)
-            }
-        }
+        let least = self.rules.comparison.least();
+        let smaller = completed_instance(alloc, to.as_nodes(), &found.subst, least)?;
+        let comparison = self.rules.comparison;
+        Ok(comparison.is_greater(self.term, smaller.as_slice()))
     }
 }
 

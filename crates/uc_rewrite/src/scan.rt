@@ -10,7 +10,7 @@ ghost use Rattle.uc_fact.specs.Retrieval.{FindsNothing, IsFound, FirstThat};
 ghost use Rattle.uc_rewrite.specs.Scanning.{live_fact, Adds};
 
 use std::alloc::{AllocError, Global};
-use uc_fact::{Equation, Found, Index, Side, Test, is_instance, matching};
+use uc_fact::{Equation, Found, Index, Outlook, Side, Test, is_instance, matching, passes_by};
 use uc_term::{MAX_NODES, Node, Seq, Term};
 use uc_unify::matches;
 
@@ -161,7 +161,8 @@ fn first_of_side<T: Test>(
     if !is_instance(pattern, term) {
         return Ok(None);
     }
-    if test.rules_out(number, side, from, to) {
+    let outlook = test.outlook(number, side, from, to);
+    if let Outlook::Fails = outlook {
         return Ok(None);
     }
     match matches(alloc, pattern, term)? {
@@ -171,7 +172,7 @@ fn first_of_side<T: Test>(
                 side,
                 subst,
             };
-            if test.passes(alloc, &found, from, to)? {
+            if passes_by(alloc, test, outlook, &found, from, to)? {
                 Ok(Some(found))
             } else {
                 Ok(None)

@@ -19,7 +19,7 @@ use crate::segment::births;
 use crate::{Entry, Front, Shelf};
 use std::alloc::{AllocError, Global};
 use std::marker::Model;
-use uc_fact::{Equation, Fact, Found, Index, Side, Test, is_instance};
+use uc_fact::{Equation, Fact, Found, Index, Outlook, Side, Test, is_instance};
 use uc_term::{MAX_NODES, Node, Seq, Term};
 
 /// An index of the facts that are born and not dead in a front. A contract sees the front's entries.
@@ -77,8 +77,21 @@ impl<'a, T: Test> Test for Living<'a, T> {
 
     ghost accepts = { λ s found. (is_dead s.front.now.entries found.fact ≡ false) × T.accepts s.test.now found };
 
-    fn rules_out(&self, fact: u32, side: Side, from: &Term, to: &Term) -> bool {
-        self.test.rules_out(fact, side, from, to) || self.front.is_dead(fact)
+    // Most that fails does so by its sides, so that these are looked at first.
+    fn outlook(&self, fact: u32, side: Side, from: &Term, to: &Term) -> Outlook {
+        let outlook = self.test.outlook(fact, side, from, to);
+        if let Outlook::Fails = outlook {
+            return Outlook::Fails;
+        }
+        if self.front.is_dead(fact) {
+            Outlook::Fails
+        } else {
+            outlook
+        }
+    }
+
+    fn refuses_variables(&self) -> bool {
+        self.test.refuses_variables()
     }
 
     fn passes(

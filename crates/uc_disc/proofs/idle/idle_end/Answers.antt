@@ -1,0 +1,6 @@
+use Rattle.std.proofs.Common.{arith}
+use Rattle.uc_disc.proofs.Passing.{root_first}
+use Rattle.uc_disc.proofs.idle.idle_end.Goals as goal
+
+pub returns-else-is_root : goal.returns-else-is_root
+returns-else-is_root c = record { within = omega arith; root = root_first c.args.places.now c.requires.supported; idle = λ j p r h e is. absurd (omega arith) }
