@@ -9,20 +9,22 @@ ghost use Rattle.uc_pair.specs.Listing.{NeverDown, IsRepeated};
 ghost use Rattle.uc_pair.specs.Reading.{rule_read, AreApart, AreInstances, IsTold};
 ghost use Rattle.uc_pair.specs.Judging.{StaysAt, IsSmallSize, IsRightSize, IsSameOr, IsSizeBy, IsJudged, IsJudgedBy};
 
+use crate::Size;
 use crate::fitting::fits_at;
-use crate::instances::{RenamedApart, fill_instance, is_too_large, put_part};
+use crate::instances::{RenamedApart, fill_instance, fill_put, is_too_large};
 use crate::reading::{Read, is_at_most, is_repeated};
-use crate::{Size, Space};
+use crate::space::Judging;
+use crate::term_ref::TermRef;
 use std::alloc::{AllocError, Global};
 use uc_order::Order;
-use uc_term::{Pos, Subst, Term, end_of, instance_size, same_nodes};
+use uc_term::{Subst, end_of, instance_size, same_nodes};
 use uc_unify::{Unified, unify_in};
 
 /// The size of the overlap of two rules, each of which leads down somewhere, at a place of the outer one's side. None where
 /// there is no overlap, or it is left out. Where the parts don't fit, it takes no memory.
 pub(crate) fn size_at<O: Order>(
     alloc: Global,
-    space: &mut Space,
+    space: &mut Judging,
     terms: &RenamedApart,
     outer: &Read,
     inner: &Read,
@@ -55,14 +57,13 @@ pub(crate) fn size_at<O: Order>(
         Unified::Apart => Ok(None),
         // the peak is at least as large, and the rules themselves lead down
         Unified::TooLarge => Ok(Some(Size::Large)),
-        Unified::Unifier(subst) => judged(alloc, space, terms, outer, inner, place, &subst, order),
+        Unified::Unifier(subst) => judged(space, terms, outer, inner, place, &subst, order),
     }
 }
 
 /// The size of the pair of an overlap by this unifier. None where one of the rules goes up or stays from the peak.
 fn judged<O: Order>(
-    alloc: Global,
-    space: &mut Space,
+    space: &mut Judging,
     terms: &RenamedApart,
     outer: &Read,
     inner: &Read,
@@ -96,16 +97,16 @@ fn judged<O: Order>(
     )? {
         return Ok(None);
     }
-    Ok(Some(size_by(alloc, space, terms, place, subst)?))
+    Ok(Some(size_by(space, terms, place, subst)?))
 }
 
 /// Whether the instance of a rule's renamed side is at most that of its other side, where both are small. No instance is built
 /// where the rule leads down everywhere.
 fn goes_up<O: Order>(
-    space: &mut Space,
+    space: &mut Judging,
     rule: &Read,
-    from: &Term,
-    to: &Term,
+    from: &TermRef,
+    to: &TermRef,
     subst: &Subst,
     order: &O,
 ) -> Result<bool, AllocError>
@@ -127,8 +128,7 @@ fn goes_up<O: Order>(
 
 /// The size of the pair that a unifier makes. It is counted, and the two sides are built only where they have as many nodes.
 fn size_by(
-    alloc: Global,
-    space: &mut Space,
+    space: &mut Judging,
     terms: &RenamedApart,
     place: u32,
     subst: &Subst,
@@ -143,14 +143,14 @@ fn size_by(
         return Ok(Size::Large);
     };
     if left == right {
-        same_or(alloc, space, terms, place, subst, left + right)
+        same_or(space, terms, place, subst, left + right)
     } else {
         Ok(Size::Weight(left + right))
     }
 }
 
 /// How many nodes the term's instance has. None exactly where these are more than 4,096.
-fn small_size(term: &Term, subst: &Subst) -> Option<u32>
+fn small_size(term: &TermRef, subst: &Subst) -> Option<u32>
     ensures { IsSmallSize (apply (image subst.now) term.now) result }
 {
     let size = instance_size(term.as_nodes(), subst);
@@ -181,8 +181,7 @@ fn right_size(terms: &RenamedApart, place: u32, subst: &Subst) -> Option<u32>
 
 /// Whether the pair's two small sides are equal; else their weight.
 fn same_or(
-    alloc: Global,
-    space: &mut Space,
+    space: &mut Judging,
     terms: &RenamedApart,
     place: u32,
     subst: &Subst,
@@ -191,13 +190,16 @@ fn same_or(
     requires inside { place < nodes terms.now.outer_from }
     ensures { IfOk result (IsSameOr (apply (image subst.now) terms.now.outer_to) (apply (image subst.now) (put terms.now.outer_from place terms.now.inner_to)) weight) }
 {
-    let Some(right) = put_part(alloc, &terms.outer_from, Pos(place), &terms.inner_to)? else {
-        return Ok(Size::Weight(weight));
-    };
     if !fill_instance(&mut space.from, &terms.outer_to, subst)? {
         return Ok(Size::Weight(weight));
     }
-    if !fill_instance(&mut space.to, &right.term, subst)? {
+    if !fill_put(
+        &mut space.to,
+        &terms.outer_from,
+        place,
+        &terms.inner_to,
+        subst,
+    )? {
         return Ok(Size::Weight(weight));
     }
     if same_nodes(space.from.as_slice(), space.to.as_slice()) {

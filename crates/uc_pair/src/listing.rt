@@ -118,9 +118,17 @@ fn add_inner<O: Order>(
     let Some(first) = first_fit(outer.from, inner.from) else {
         return Ok(());
     };
-    let terms = rename_apart(alloc, &mut space.names, outer, inner)?;
+    let terms = rename_apart(&mut space.renaming, outer, inner)?;
     for place in first..outer.from.nodes() {
-        let size = size_at(alloc, space, &terms, outer, inner, place, order)?;
+        let size = size_at(
+            alloc,
+            &mut space.judging,
+            &terms,
+            outer,
+            inner,
+            place,
+            order,
+        )?;
         add(list, outer, inner, place, size)?;
     }
     Ok(())
