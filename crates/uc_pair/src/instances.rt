@@ -5,15 +5,17 @@ ghost use Rattle.std.specs.List.{flat_map};
 ghost use Rattle.uc_term.specs.Tree.{Tree, nodes, apply, put};
 ghost use Rattle.uc_term.specs.Subst.{image};
 ghost use Rattle.uc_term.proofs.Instances.{node_image};
+ghost use Rattle.uc_pair.specs.Fitting.{IsPart};
 ghost use Rattle.uc_pair.specs.Reading.{rule_read, AreApart};
 ghost use Rattle.uc_pair.specs.Judging.{IsInstance, IsFilled, AreAdded, IsPut, IsReplaced};
 
+use crate::fitting::Part;
 use crate::numbering::number_in;
 use crate::reading::Read;
 use crate::space::Renaming;
 use crate::term_ref::TermRef;
 use std::alloc::{AllocError, Global};
-use uc_term::{MAX_NODES, Node, Pos, Subst, Term, TermFault, end_of, instance, instance_size};
+use uc_term::{MAX_NODES, Node, Pos, Subst, Term, TermFault, instance, instance_size};
 
 /// The sides of an outer and an inner rule, with their variables numbered by first occurrence, those of the inner one behind
 /// those of the outer one.
@@ -82,28 +84,26 @@ pub(crate) fn fill_instance(
     add_instance(list, term.as_nodes(), subst)
 }
 
-/// Fills a list with the nodes of the instance of a term with another one at a place; whether this has at most 4,096 nodes.
+/// Fills a list with the nodes of the instance of a term with another one in place of a part; whether this has at most 4,096 nodes.
 pub(crate) fn fill_put(
     list: &mut Vec<Node>,
     term: &TermRef,
-    place: u32,
+    there: Part,
     part: &TermRef,
     subst: &Subst,
 ) -> Result<bool, AllocError>
-    requires { place < nodes term.now }
-    ensures { IfOk result (IsFilled (apply (image subst.now) (put term.now place part.now)) list.new.items) }
+    requires { IsPart term.now there }
+    ensures { IfOk result (IsFilled (apply (image subst.now) (put term.now there.place part.now)) list.new.items) }
 {
     let nodes = term.as_nodes();
-    let from = place as usize;
-    let to = end_of(nodes, from);
     list.clear();
-    if !add_instance(list, &nodes[..from], subst)? {
+    if !add_instance(list, &nodes[..there.place as usize], subst)? {
         return Ok(false);
     }
     if !add_instance(list, part.as_nodes(), subst)? {
         return Ok(false);
     }
-    add_instance(list, &nodes[to..], subst)
+    add_instance(list, &nodes[there.end as usize..], subst)
 }
 
 /// Adds the nodes of the pattern's instance to a list, where this has at most 4,096 then; whether it has.

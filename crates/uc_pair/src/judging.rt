@@ -1,63 +1,56 @@
 //! Whether there is an overlap at a place, whether it is left out, and how large its pair is.
 
 ghost use Rattle.std.specs.Prelude.{◌≡◌, ◌↔◌, ◌<◌, IsTrue, IfOk};
-ghost use Rattle.uc_term.specs.Tree.{apply, nodes, subterm, put};
+ghost use Rattle.uc_term.specs.Tree.{apply, put};
 ghost use Rattle.uc_term.specs.Subst.{image};
-ghost use Rattle.uc_term.specs.Variables.{IsApp};
-ghost use Rattle.uc_unify.specs.Unifiers.{IsMostGeneral};
+ghost use Rattle.uc_pair.specs.Fitting.{IsPart, IsFit};
 ghost use Rattle.uc_pair.specs.Listing.{NeverDown, IsRepeated};
 ghost use Rattle.uc_pair.specs.Reading.{rule_read, AreApart, AreInstances, IsTold};
 ghost use Rattle.uc_pair.specs.Judging.{StaysAt, IsSmallSize, IsRightSize, IsSameOr, IsSizeBy, IsJudged, IsJudgedBy};
 
 use crate::Size;
-use crate::fitting::fits_at;
+use crate::fitting::Part;
 use crate::instances::{RenamedApart, fill_instance, fill_put, is_too_large};
 use crate::reading::{Read, is_at_most, is_repeated};
 use crate::space::Judging;
 use crate::term_ref::TermRef;
 use std::alloc::{AllocError, Global};
 use uc_order::Order;
-use uc_term::{Subst, end_of, instance_size, same_nodes};
+use uc_term::{Subst, instance_size, same_nodes};
 use uc_unify::{Unified, unify_in};
 
-/// The size of the overlap of two rules, each of which leads down somewhere, at a place of the outer one's side. None where
-/// there is no overlap, or it is left out. Where the parts don't fit, it takes no memory.
+/// The size of the overlap of two rules, each of which leads down somewhere, at a part of the outer one's side at which a symbol
+/// stands. None where there is no overlap, or it is left out.
 pub(crate) fn size_at<O: Order>(
     alloc: Global,
     space: &mut Judging,
     terms: &RenamedApart,
     outer: &Read,
     inner: &Read,
-    place: u32,
+    there: Part,
     order: &O,
 ) -> Result<Option<Size>, AllocError>
     requires apart { AreApart (rule_read outer.now) (rule_read inner.now) terms.now }
-    requires inside { place < nodes outer.now.from.now }
+    requires fit { IsFit outer.now.from.now there }
     requires outer_down { NeverDown (O.meaning order.now).greater (rule_read outer.now) → ⊥ }
     requires inner_down { NeverDown (O.meaning order.now).greater (rule_read inner.now) → ⊥ }
     requires outer_told { IsTold (O.meaning order.now).greater outer.now }
     requires inner_told { IsTold (O.meaning order.now).greater inner.now }
-    ensures { IfOk result (IsJudged (O.meaning order.now).greater (rule_read outer.now) (rule_read inner.now) place) }
+    ensures { IfOk result (IsJudged (O.meaning order.now).greater (rule_read outer.now) (rule_read inner.now) there.place) }
 {
-    if is_repeated(outer, inner, place) {
+    if is_repeated(outer, inner, there.place) {
         return Ok(None);
     }
-    if !fits_at(outer.from.as_nodes(), place as usize, inner.from.as_nodes()) {
-        return Ok(None);
-    }
-    let nodes = terms.outer_from.as_nodes();
-    let from = place as usize;
-    let to = end_of(nodes, from);
     match unify_in(
         alloc,
         &mut space.unifying,
-        &nodes[from..to],
+        terms.outer_from.part(there),
         terms.inner_from.as_nodes(),
     )? {
         Unified::Apart => Ok(None),
         // the peak is at least as large, and the rules themselves lead down
         Unified::TooLarge => Ok(Some(Size::Large)),
-        Unified::Unifier(subst) => judged(space, terms, outer, inner, place, &subst, order),
+        Unified::Unifier(subst) => judged(space, terms, outer, inner, there, &subst, order),
     }
 }
 
@@ -67,15 +60,15 @@ fn judged<O: Order>(
     terms: &RenamedApart,
     outer: &Read,
     inner: &Read,
-    place: u32,
+    there: Part,
     subst: &Subst,
     order: &O,
 ) -> Result<Option<Size>, AllocError>
     requires apart { AreApart (rule_read outer.now) (rule_read inner.now) terms.now }
-    requires inside { place < nodes terms.now.outer_from }
+    requires part { IsPart terms.now.outer_from there }
     requires outer_told { IsTold (O.meaning order.now).greater outer.now }
     requires inner_told { IsTold (O.meaning order.now).greater inner.now }
-    ensures { IfOk result (IsJudgedBy (O.meaning order.now).greater terms.now place (image subst.now)) }
+    ensures { IfOk result (IsJudgedBy (O.meaning order.now).greater terms.now there.place (image subst.now)) }
 {
     if goes_up(
         space,
@@ -97,7 +90,7 @@ fn judged<O: Order>(
     )? {
         return Ok(None);
     }
-    Ok(Some(size_by(space, terms, place, subst)?))
+    Ok(Some(size_by(space, terms, there, subst)?))
 }
 
 /// Whether the instance of a rule's renamed side is at most that of its other side, where both are small. No instance is built
@@ -130,20 +123,20 @@ fn goes_up<O: Order>(
 fn size_by(
     space: &mut Judging,
     terms: &RenamedApart,
-    place: u32,
+    there: Part,
     subst: &Subst,
 ) -> Result<Size, AllocError>
-    requires inside { place < nodes terms.now.outer_from }
-    ensures { IfOk result (IsSizeBy (apply (image subst.now) terms.now.outer_from) (apply (image subst.now) terms.now.outer_to) (apply (image subst.now) (put terms.now.outer_from place terms.now.inner_to))) }
+    requires part { IsPart terms.now.outer_from there }
+    ensures { IfOk result (IsSizeBy (apply (image subst.now) terms.now.outer_from) (apply (image subst.now) terms.now.outer_to) (apply (image subst.now) (put terms.now.outer_from there.place terms.now.inner_to))) }
 {
     let Some(left) = small_size(&terms.outer_to, subst) else {
         return Ok(Size::Large);
     };
-    let Some(right) = right_size(terms, place, subst) else {
+    let Some(right) = right_size(terms, there, subst) else {
         return Ok(Size::Large);
     };
     if left == right {
-        same_or(space, terms, place, subst, left + right)
+        same_or(space, terms, there, subst, left + right)
     } else {
         Ok(Size::Weight(left + right))
     }
@@ -162,15 +155,13 @@ fn small_size(term: &TermRef, subst: &Subst) -> Option<u32>
 }
 
 /// How many nodes the pair's right side has. None exactly where the outer side's instance or the right side has more than 4,096.
-fn right_size(terms: &RenamedApart, place: u32, subst: &Subst) -> Option<u32>
-    requires inside { place < nodes terms.now.outer_from }
-    ensures { IsRightSize (apply (image subst.now) terms.now.outer_from) (apply (image subst.now) (put terms.now.outer_from place terms.now.inner_to)) result }
+fn right_size(terms: &RenamedApart, there: Part, subst: &Subst) -> Option<u32>
+    requires part { IsPart terms.now.outer_from there }
+    ensures { IsRightSize (apply (image subst.now) terms.now.outer_from) (apply (image subst.now) (put terms.now.outer_from there.place terms.now.inner_to)) result }
 {
     let peak = small_size(&terms.outer_from, subst)?;
     let inner = small_size(&terms.inner_to, subst)?;
-    let nodes = terms.outer_from.as_nodes();
-    let from = place as usize;
-    let part = instance_size(&nodes[from..end_of(nodes, from)], subst);
+    let part = instance_size(terms.outer_from.part(there), subst);
     let size = peak - part as u32 + inner;
     if is_too_large(size as usize) {
         None
@@ -183,12 +174,12 @@ fn right_size(terms: &RenamedApart, place: u32, subst: &Subst) -> Option<u32>
 fn same_or(
     space: &mut Judging,
     terms: &RenamedApart,
-    place: u32,
+    there: Part,
     subst: &Subst,
     weight: u32,
 ) -> Result<Size, AllocError>
-    requires inside { place < nodes terms.now.outer_from }
-    ensures { IfOk result (IsSameOr (apply (image subst.now) terms.now.outer_to) (apply (image subst.now) (put terms.now.outer_from place terms.now.inner_to)) weight) }
+    requires part { IsPart terms.now.outer_from there }
+    ensures { IfOk result (IsSameOr (apply (image subst.now) terms.now.outer_to) (apply (image subst.now) (put terms.now.outer_from there.place terms.now.inner_to)) weight) }
 {
     if !fill_instance(&mut space.from, &terms.outer_to, subst)? {
         return Ok(Size::Weight(weight));
@@ -196,7 +187,7 @@ fn same_or(
     if !fill_put(
         &mut space.to,
         &terms.outer_from,
-        place,
+        there,
         &terms.inner_to,
         subst,
     )? {

@@ -1,9 +1,11 @@
 //! Terms that are borrowed as their nodes.
 
 ghost use Rattle.std.specs.Prelude.{◌≡◌, ◌≤◌, length, IfOk};
-ghost use Rattle.uc_term.specs.Tree.{nodes};
-ghost use Rattle.uc_term.specs.Flat.{flat, tree_of, IsWhole};
+ghost use Rattle.uc_term.specs.Tree.{nodes, subterm};
+ghost use Rattle.uc_term.specs.Flat.{tree_of, IsWhole};
+ghost use Rattle.uc_pair.specs.Fitting.{IsPart};
 
+use crate::fitting::Part;
 use std::alloc::{AllocError, Global};
 use std::marker::Model;
 use uc_term::{MAX_NODES, Node, Term};
@@ -48,6 +50,16 @@ impl<'a> TermRef<'a> {
         ensures tree { tree_of result.now ≡ self.now }
     {
         self.nodes
+    }
+
+    /// The nodes of a part.
+    pub(crate) fn part(&self, there: Part) -> &'a [Node]
+        requires { IsPart self.now there }
+        ensures whole { IsWhole result.now }
+        ensures short { length result.now ≤ MAX_NODES }
+        ensures tree { tree_of result.now ≡ subterm self.now there.place }
+    {
+        &self.nodes[there.place as usize..there.end as usize]
     }
 
     /// An equal term in memory of its own.

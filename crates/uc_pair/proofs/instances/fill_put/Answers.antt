@@ -1,14 +1,15 @@
-use Rattle.std.proofs.Common.{◌≡◌, ◌+◌, ◌-◌, ◌<◌, ◌++◌, ℕ, Bool, List, [], length, take, drop, true, false, Result, Ok, Err, IfOk}
+use Rattle.std.proofs.Common.{arith, ◌≡◌, ◌+◌, ◌-◌, ◌<◌, ◌++◌, ℕ, Bool, List, [], length, take, drop, true, false, Result, Ok, Err, IfOk}
+use Rattle.std.proofs.lemmas.Grind.{common_steps}
 use Rattle.std.specs.List.{flat_map}
 use Rattle.uc_term.specs.declared.node.Node.{Node}
 use Rattle.uc_term.specs.Tree.{Tree, nodes, apply, put}
 use Rattle.uc_term.specs.Flat.{flat, tree_of, IsWhole}
 use Rattle.uc_term.specs.Code.{tree_of-flat}
 use Rattle.uc_term.specs.Subst.{image}
-use Rattle.uc_term.proofs.Terms.{whole_one, whole-flat}
+use Rattle.uc_term.proofs.Terms.{whole-flat}
 use Rattle.uc_term.proofs.Instances.{node_image}
 use Rattle.uc_pair.specs.Judging.{IsFilled, AreAdded}
-use Rattle.uc_pair.proofs.Parts.{within_list}
+use Rattle.uc_pair.proofs.Parts.{part_within, part_in_list, part_end}
 use Rattle.uc_pair.proofs.Added.{added_behind, added_before, filled_by, images_put}
 use Rattle.uc_pair.proofs.instances.fill_put.Goals as goal
 
@@ -16,11 +17,14 @@ if_ok : {A E : Type 0} (P Q : A → Type 0) → ((a : A) → P a → Q a) → (r
 if_ok P Q f (Ok a) p = f a p
 if_ok P Q f (Err e) p = tt
 
-pub end_of-to-requires-clause-whole : goal.end_of-to-requires-clause-whole
-end_of-to-requires-clause-whole c = whole_one c.as_nodes-nodes.result.now c.as_nodes-nodes.ensures.whole
+pub slice_bounds-add_instance-end : goal.slice_bounds-add_instance-end
+slice_bounds-add_instance-end c = let h = part_within c.as_nodes-nodes.result.now c.args.term.now c.args.there c.as_nodes-nodes.ensures.whole c.as_nodes-nodes.ensures.tree c.requires in grind (arith, common_steps, h)
 
-pub end_of-to-requires-clause-within : goal.end_of-to-requires-clause-within
-end_of-to-requires-clause-within c = within_list c.as_nodes-nodes.result.now c.args.term.now c.args.place c.as_nodes-nodes.ensures.whole c.as_nodes-nodes.ensures.tree c.requires
+pub slice_bounds-add_instance-count : goal.slice_bounds-add_instance-count
+slice_bounds-add_instance-count c = part_in_list c.as_nodes-nodes.result.now c.args.term.now c.args.there c.as_nodes-nodes.ensures.whole c.as_nodes-nodes.ensures.tree c.requires
+
+pub slice_bounds-add_instance-start : goal.slice_bounds-add_instance-start
+slice_bounds-add_instance-start c = part_in_list c.as_nodes-nodes.result.now c.args.term.now c.args.there c.as_nodes-nodes.ensures.whole c.as_nodes-nodes.ensures.tree c.requires
 
 -- the three parts, one after the other
 module _ (σ : ℕ → Tree) (ns ms : List Node) (t u : Tree) (p to : ℕ) (w : IsWhole ns) (is : tree_of ns ≡ t) (v : IsWhole ms) (also : tree_of ms ≡ u) (h : p < nodes t) (end : to ≡ p + nodes (tree_of (drop p ns))) (old : List Node) (empty : old ≡ []) where
@@ -51,13 +55,13 @@ module _ (σ : ℕ → Tree) (ns ms : List Node) (t u : Tree) (p to : ℕ) (w : 
   third mid next new true true d e x y r z = all_three new r (added_behind before (middle ++ behind) old mid new r x (added_behind middle behind mid next new r y z))
 
 pub returns-then-not-branch : goal.returns-then-not-branch
-returns-then-not-branch c = first_large (image c.args.subst.now) c.as_nodes-nodes.result.now (flat c.args.part.now) c.args.term.now c.args.part.now c.args.place c.end_of-to.result c.as_nodes-nodes.ensures.whole c.as_nodes-nodes.ensures.tree (whole-flat c.args.part.now) (tree_of-flat c.args.part.now) c.requires c.end_of-to.ensures.end c.clear.new.self.items c.clear.ensures.items c.add_instance.new.list.items c.in_ok-add_instance.field-0 c.if-not-branch.true c.in_ok-add_instance.ensures
+returns-then-not-branch c = first_large (image c.args.subst.now) c.as_nodes-nodes.result.now (flat c.args.part.now) c.args.term.now c.args.part.now c.args.there.place c.args.there.end c.as_nodes-nodes.ensures.whole c.as_nodes-nodes.ensures.tree (whole-flat c.args.part.now) (tree_of-flat c.args.part.now) c.requires.inside (part_end c.as_nodes-nodes.result.now c.args.term.now c.args.there c.as_nodes-nodes.ensures.whole c.as_nodes-nodes.ensures.tree c.requires) c.clear.new.self.items c.clear.ensures.items c.add_instance.new.list.items c.in_ok-add_instance.field-0 c.if-not-branch.true c.in_ok-add_instance.ensures
 
 pub returns-then-not-branch-2 : goal.returns-then-not-branch-2
-returns-then-not-branch-2 c = second_large (image c.args.subst.now) c.as_nodes-nodes.result.now c.as_nodes.result.now c.args.term.now c.args.part.now c.args.place c.end_of-to.result c.as_nodes-nodes.ensures.whole c.as_nodes-nodes.ensures.tree c.as_nodes.ensures.whole c.as_nodes.ensures.tree c.requires c.end_of-to.ensures.end c.clear.new.self.items c.clear.ensures.items c.add_instance.new.list.items c.add_instance-2.new.list.items c.in_ok-add_instance.field-0 c.in_ok-add_instance-2.field-0 c.if-not-branch.false c.if-not-branch-2.true c.in_ok-add_instance.ensures c.in_ok-add_instance-2.ensures
+returns-then-not-branch-2 c = second_large (image c.args.subst.now) c.as_nodes-nodes.result.now c.as_nodes.result.now c.args.term.now c.args.part.now c.args.there.place c.args.there.end c.as_nodes-nodes.ensures.whole c.as_nodes-nodes.ensures.tree c.as_nodes.ensures.whole c.as_nodes.ensures.tree c.requires.inside (part_end c.as_nodes-nodes.result.now c.args.term.now c.args.there c.as_nodes-nodes.ensures.whole c.as_nodes-nodes.ensures.tree c.requires) c.clear.new.self.items c.clear.ensures.items c.add_instance.new.list.items c.add_instance-2.new.list.items c.in_ok-add_instance.field-0 c.in_ok-add_instance-2.field-0 c.if-not-branch.false c.if-not-branch-2.true c.in_ok-add_instance.ensures c.in_ok-add_instance-2.ensures
 
 pub returns : goal.returns
 returns c =
     if_ok _ _
-    (third (image c.args.subst.now) c.as_nodes-nodes.result.now c.as_nodes.result.now c.args.term.now c.args.part.now c.args.place c.end_of-to.result c.as_nodes-nodes.ensures.whole c.as_nodes-nodes.ensures.tree c.as_nodes.ensures.whole c.as_nodes.ensures.tree c.requires c.end_of-to.ensures.end c.clear.new.self.items c.clear.ensures.items c.add_instance.new.list.items c.add_instance-2.new.list.items c.add_instance-3.new.list.items c.in_ok-add_instance.field-0 c.in_ok-add_instance-2.field-0 c.if-not-branch.false c.if-not-branch-2.false c.in_ok-add_instance.ensures c.in_ok-add_instance-2.ensures)
+    (third (image c.args.subst.now) c.as_nodes-nodes.result.now c.as_nodes.result.now c.args.term.now c.args.part.now c.args.there.place c.args.there.end c.as_nodes-nodes.ensures.whole c.as_nodes-nodes.ensures.tree c.as_nodes.ensures.whole c.as_nodes.ensures.tree c.requires.inside (part_end c.as_nodes-nodes.result.now c.args.term.now c.args.there c.as_nodes-nodes.ensures.whole c.as_nodes-nodes.ensures.tree c.requires) c.clear.new.self.items c.clear.ensures.items c.add_instance.new.list.items c.add_instance-2.new.list.items c.add_instance-3.new.list.items c.in_ok-add_instance.field-0 c.in_ok-add_instance-2.field-0 c.if-not-branch.false c.if-not-branch-2.false c.in_ok-add_instance.ensures c.in_ok-add_instance-2.ensures)
     c.add_instance-3.result c.add_instance-3.ensures

@@ -13,5 +13,5 @@ pub returns-then-same_nodes : goal.returns-then-same_nodes
 returns-then-same_nodes c =
     let σ = image c.args.subst.now in
     let s = held (apply σ c.args.terms.now.outer_to) c.fill_instance.new.list.items c.as_slice.result.now c.in_ok-fill_instance.field-0 c.if-not-branch.false c.as_slice.ensures.value c.in_ok-fill_instance.ensures in
-    let t = held (apply σ (put c.args.terms.now.outer_from c.args.place c.args.terms.now.inner_to)) c.fill_put.new.list.items c.as_slice-2.result.now c.in_ok-fill_put.field-0 c.if-not-branch-2.false c.as_slice-2.ensures.value c.in_ok-fill_put.ensures in
+    let t = held (apply σ (put c.args.terms.now.outer_from c.args.there.place c.args.terms.now.inner_to)) c.fill_put.new.list.items c.as_slice-2.result.now c.in_ok-fill_put.field-0 c.if-not-branch-2.false c.as_slice-2.ensures.value c.in_ok-fill_put.ensures in
     λ left right. sym s.tree ∙ ap tree_of (holds c.same_nodes.result c.if-same_nodes.true c.same_nodes.ensures.0) ∙ t.tree
