@@ -8,7 +8,8 @@ use Rattle.uc_fact.specs.Live.{Rule}
 use Rattle.uc_pair.specs.declared.formed.Size.{Size}
 use Rattle.uc_pair.specs.declared.formed.Size.TheVariants.{Weight, Same, Large}
 use Rattle.uc_pair.specs.declared.instances.RenamedApart.{RenamedApart}
-use Rattle.uc_pair.specs.Fitting.{HasNoFit}
+use Rattle.uc_pair.specs.declared.fitting.Part.{Part}
+use Rattle.uc_pair.specs.Fitting.{HasNoFit, IsPart}
 use Rattle.uc_pair.specs.Overlapping.{shifted, IsBelow, Overlapping, IsApart, peak, left_of, inner_from, inner_to, right_of, IsLarge, IsSmall, IsTooLarge, Fits, HasSize, is_large, is_same, is_weight}
 use Rattle.uc_pair.specs.Listing.{AtMost, by_instances, by_sides, LeadsUp, outer_up, inner_up, NeverDown, IsRepeated, at_variable, no_unifier, repeats, leads_up, is_listed}
 use Rattle.uc_pair.specs.declared.formation.Formation.TheVariants.{TooLarge as NoPair}
@@ -232,6 +233,13 @@ module _ (outer inner : Rule) (place : ℕ) (terms : RenamedApart) (x : AreApart
 
   pub judged_apart : (m : Meaning) → HasNoUnifier part' terms.inner_from → IsJudged m.greater outer inner place None
   judged_apart m n list rest = no_unifier h (apart_back n) rest
+
+-- a part of the outer side is one of the renamed side too
+pub part_renamed : (outer inner : Rule) (part : Part) (terms : RenamedApart) → AreApart outer inner terms → IsPart outer.from part → IsPart terms.outer_from part
+part_renamed outer inner part terms x h =
+    let from_there : terms.outer_from ≡ renamed x.there outer.from = (let e = x.renamed_are in cc) in
+    let same : nodes (subterm terms.outer_from part.place) ≡ nodes (subterm outer.from part.place) = ap (λ t. nodes (subterm t part.place)) from_there ∙ ap nodes (subterm-renamed x.there outer.from part.place) ∙ renamed_nodes x.there (subterm outer.from part.place) in
+    record { inside = omega (arith, h.inside, ap nodes from_there, renamed_nodes x.there outer.from); end_is = h.end_is ∙ ap (λ n. part.place + n) (sym same); short = h.short }
 
 pub judged_repeated : (m : Meaning) (outer inner : Rule) (place : ℕ) → place < nodes outer.from → IsRepeated outer inner place → IsJudged m.greater outer inner place None
 judged_repeated m outer inner place h r list rest = repeats h r rest

@@ -7,7 +7,9 @@ pub mod Occurring
 pub mod Renaming
 pub mod Apart
 pub mod Judged
+pub mod Held
 pub mod Filled
+pub mod Added
 pub mod Listed
 pub mod Renumbering
 pub mod Forming

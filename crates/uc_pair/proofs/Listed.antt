@@ -1,6 +1,6 @@
 -- The lists of overlaps, place by place and side by side.
-use Rattle.std.proofs.Common.{◌≡◌, ℕ, zero, suc, ◌+◌, ◌<◌, ◌≤◌, List, [], ◌∷◌, ◌++◌, Option, Some, None, sym, ap, ◌∙◌, subst, arith, append_assoc, append-nil, ◌⊎◌, inl}
-use Rattle.std.specs.Prelude.{All}
+use Rattle.std.proofs.Common.{◌≡◌, ℕ, zero, suc, ◌+◌, ◌-◌, ◌<◌, ◌≤◌, List, [], ◌∷◌, ◌++◌, Option, Some, None, refl, sym, ap, ◌∙◌, subst, arith, append_assoc, append-nil, ◌⊎◌, inl}
+use Rattle.std.specs.Prelude.{All, MatchOption}
 use Rattle.uc_term.specs.declared.equation.Equation.{Equation}
 use Rattle.uc_term.specs.declared.equation.Side.{Side}
 use Rattle.uc_term.specs.declared.equation.Side.TheVariants.{Left, Right}
@@ -9,7 +9,8 @@ use Rattle.uc_order.specs.Laws.{Meaning, Laws}
 use Rattle.uc_fact.specs.Live.{Rule}
 use Rattle.uc_pair.specs.declared.formed.Size.{Size}
 use Rattle.uc_pair.specs.declared.formed.Formed.{Formed}
-use Rattle.uc_pair.specs.Fitting.{HasNoFit, FitsNowhere, IsFirstFit}
+use Rattle.uc_pair.specs.declared.fitting.Part.{Part}
+use Rattle.uc_pair.specs.Fitting.{HasNoFit, IsFit, IsNextFit, FitsNowhere}
 use Rattle.uc_pair.specs.Overlapping.{Overlapping, IsFormedOf, read_from}
 use Rattle.uc_pair.specs.Listing.{LeadsUp, NeverDown, Lists, no_more_places, at_variable, no_unifier, repeats, goes_nowhere, leads_up, is_listed, ListsEach, no_rules, next_rules, AreOverlaps}
 use Rattle.uc_pair.specs.Judging.{IsJudged, ListsOn, formed_at}
@@ -22,23 +23,62 @@ module _ (m : Meaning) (outer inner : Rule) where
   abbrev L : ℕ → List Formed → Type 0
   L = Lists m.greater outer inner
 
-  -- no place before this one fits
-  until : (place : ℕ) → ((p : ℕ) → p < place → HasNoFit outer.from inner.from p) → place ≤ nodes outer.from → (list : List Formed) → L place list → L 0 list
-  until zero h low list rest = rest
-  until (suc n) h low list rest =
+  -- places that don't fit are passed over
+  passed : (n from : ℕ) → from + n ≤ nodes outer.from → ((p : ℕ) → from ≤ p → p < from + n → HasNoFit outer.from inner.from p) → (list : List Formed) → L (from + n) list → L from list
+  passed zero from low h list rest = let e : from + 0 ≡ from = omega arith in subst (λ q. L q list) e rest
+  passed (suc n) from low h list rest =
       let k = some_bound outer in
-      until n (λ p q. h p (omega arith)) (omega arith) list
-      (judged_unfit m outer inner n k.0 k.1 (omega arith) (h n (omega arith)) list (let e : suc n ≡ n + 1 = omega arith in subst (λ q. L q list) e rest))
+      let e : from + suc n ≡ from + n + 1 = omega arith in
+      passed n from (omega arith) (λ p a b. h p a (omega arith)) list
+      (judged_unfit m outer inner (from + n) k.0 k.1 (omega arith) (h (from + n) (omega arith) (omega arith)) list (subst (λ q. L q list) e rest))
 
-  pub nowhere_listed : FitsNowhere outer.from inner.from → L 0 []
-  nowhere_listed h = until (nodes outer.from) h (omega arith) [] (no_more_places (omega arith))
+  passed_to : (from place : ℕ) → from ≤ place → place ≤ nodes outer.from → ((p : ℕ) → from ≤ p → p < place → HasNoFit outer.from inner.from p) → ListsOn m.greater outer inner from place []
+  passed_to from place h low n list rest =
+      let e : place ≡ from + (place - from) = omega arith in
+      passed (place - from) from (omega arith) (λ p a b. n p a (omega (arith, b))) list (subst (λ q. L q list) e rest)
 
-  pub first_listed : (place : ℕ) → IsFirstFit outer.from inner.from place → ListsOn m.greater outer inner 0 place []
-  first_listed place f list rest = until place f.none_before (omega (arith, f.inside)) list rest
+  -- the first part that may fit, from a place on
+  abbrev IsNext : ℕ → Option Part → Type 0
+  IsNext from next = MatchOption next (FitsNowhere outer.from inner.from from) (IsNextFit outer.from inner.from from)
 
-  -- the loop over the places
-  pub listing_starts : (place : ℕ) (old : List Formed) → IsFirstFit outer.from inner.from place → Adds (ListsOn m.greater outer inner 0 place) old old
-  listing_starts place old f = ([], first_listed place f, sym (append-nil old))
+  -- the place from which the list goes on, and how many places are left then
+  abbrev pub next_place : Option Part → ℕ
+  next_place None = nodes outer.from
+  next_place (Some part) = part.place
+
+  abbrev pub places_left : Option Part → ℕ
+  places_left None = 0
+  places_left (Some part) = nodes outer.from - part.place
+
+  -- what is listed when the next part is sought
+  pub record ListedBefore (old new : List Formed) (next : Option Part) : Type 0 where
+    pub listed : Adds (ListsOn m.greater outer inner 0 (next_place next)) old new
+    pub fits : (part : Part) → next ≡ Some part → IsFit outer.from part
+
+  goes_to : (from : ℕ) (next : Option Part) → from ≤ nodes outer.from → IsNext from next → ListsOn m.greater outer inner from (next_place next) []
+  goes_to from None low n = passed_to from (nodes outer.from) low (omega arith) (λ p a b. n p a b)
+  goes_to from (Some part) low n = passed_to from part.place n.later (omega (arith, n.fit.is_part.inside)) n.none_before
+
+  next_fits : (from : ℕ) (next : Option Part) → IsNext from next → (part : Part) → next ≡ Some part → IsFit outer.from part
+  next_fits from None n part e = absurd cc
+  next_fits from (Some there) n part e = let same : there ≡ part = cc in subst (IsFit outer.from) same n.fit
+
+  -- the loop over the parts
+  pub listing_passes : (from : ℕ) (old new : List Formed) (next : Option Part) → from ≤ nodes outer.from → IsNext from next → Adds (ListsOn m.greater outer inner 0 from) old new → ListedBefore old new next
+  listing_passes from old new next low n a = record { listed = (a.0, (λ list rest. a.1 list (goes_to from next low n list rest)), a.2); fits = next_fits from next n }
+
+  pub listing_starts : (old : List Formed) (part : Part) → IsNextFit outer.from inner.from 0 part → ListedBefore old old (Some part)
+  listing_starts old part f = listing_passes 0 old old (Some part) (omega arith) f ([], (λ list rest. rest), sym (append-nil old))
+
+  pub nowhere_listed : FitsNowhere outer.from inner.from 0 → L 0 []
+  nowhere_listed n = goes_to 0 None (omega arith) n [] (no_more_places (omega arith))
+
+  pub fewer_left : (there : Part) (now next : Option Part) → now ≡ Some there → IsFit outer.from there → IsNext (there.place + 1) next → places_left next < places_left now
+  fewer_left there now None e f n = omega (arith, ap places_left e, f.is_part.inside)
+  fewer_left there now (Some part) e f n = omega (arith, ap places_left e, f.is_part.inside, n.later)
+
+  pub listed_here : (there : Part) (now : Option Part) (old new : List Formed) → now ≡ Some there → ListedBefore old new now → Adds (ListsOn m.greater outer inner 0 there.place) old new
+  listed_here there now old new e l = subst (λ n. Adds (ListsOn m.greater outer inner 0 (next_place n)) old new) e l.listed
 
   pub listing_goes_on : (place : ℕ) (old mid new : List Formed) (size : Option Size) → Adds (ListsOn m.greater outer inner 0 place) old mid → IsJudged m.greater outer inner place size → AddsAt outer inner place size mid new → Adds (ListsOn m.greater outer inner 0 (place + 1)) old new
   listing_goes_on place old mid new None a j e = (a.0, (λ list rest. a.1 list (j list rest)), e ∙ a.2)
@@ -48,8 +88,9 @@ module _ (m : Meaning) (outer inner : Rule) where
     e ∙ ap (λ l. l ++ formed_at outer inner place size ∷ []) a.2 ∙ append_assoc old a.0 (formed_at outer inner place size ∷ []),
   )
 
-  pub listing_ends : (place : ℕ) (old new : List Formed) → nodes outer.from ≤ place → Adds (ListsOn m.greater outer inner 0 place) old new → Adds (L 0) old new
-  listing_ends place old new h a = (a.0, subst (L 0) (append-nil a.0) (a.1 [] (no_more_places h)), a.2)
+  pub listing_ends : (now : Option Part) (old new : List Formed) → ((part : Part) → now ≡ Some part → ⊥) → ListedBefore old new now → Adds (L 0) old new
+  listing_ends None old new h l = let a = l.listed in (a.0, subst (L 0) (append-nil a.0) (a.1 [] (no_more_places (omega arith))), a.2)
+  listing_ends (Some part) old new h l = absurd (h part refl)
 
   -- where a rule never leads down, nothing is listed
   abbrev EachUp : Type 0

@@ -1,5 +1,5 @@
 -- Parts of flat lists, and what stands there.
-use Rattle.std.proofs.Common.{◌≡◌, ℕ, ◌+◌, ◌-◌, ◌<◌, List, ◌∷◌, take, drop, get_or, length, refl, sym, ap, ◌∙◌, subst, arith, inr}
+use Rattle.std.proofs.Common.{◌≡◌, ℕ, ◌+◌, ◌-◌, ◌<◌, ◌≤◌, List, ◌∷◌, take, drop, get_or, length, refl, sym, ap, ◌∙◌, subst, arith, inr}
 use Rattle.uc_term.specs.declared.node.Sym.{Sym}
 use Rattle.uc_term.specs.declared.node.Node.{Node}
 use Rattle.uc_term.specs.declared.node.Node.TheVariants.{Var, App}
@@ -7,11 +7,13 @@ use Rattle.uc_term.specs.Tree.{Tree, var, nodes, subterm}
 use Rattle.uc_term.specs.Flat.{flat, tree_of, IsWhole}
 use Rattle.uc_term.specs.Code.{tree_of-flat}
 use Rattle.uc_term.specs.Variables.{IsApp}
-use Rattle.uc_term.proofs.Terms.{whole-flat, nodes_whole}
+use Rattle.uc_term.proofs.Terms.{whole-flat, nodes_whole, whole_one}
 use Rattle.uc_term.proofs.Ahead.{drop-at, at_place, subterm_of-drop}
 use Rattle.uc_unify.specs.Unifiers.{IsUnified}
 use Rattle.uc_unify.specs.declared.unification.Unified.{Unified}
-use Rattle.uc_pair.specs.Fitting.{NeverMeet, HasNoFit}
+use Rattle.uc_term.proofs.Parts.{split}
+use Rattle.uc_pair.specs.declared.fitting.Part.{Part}
+use Rattle.uc_pair.specs.Fitting.{NeverMeet, HasNoFit, IsPart, IsFitAt}
 
 pub part_list : (ns : List Node) (p to : ℕ) → IsWhole ns → p < length ns → to ≡ p + nodes (tree_of (drop p ns)) → take (to - p) (drop p ns) ≡ flat (subterm (tree_of ns) p)
 part_list ns p to w h e = (at_place ns ns (tree_of ns) p to refl w refl h e).1
@@ -43,3 +45,32 @@ part_of ns t p to w is h e = part_tree ns p to w h e ∙ ap (λ u. subterm u p) 
 
 pub within_list : (ns : List Node) (t : Tree) (p : ℕ) → IsWhole ns → tree_of ns ≡ t → p < nodes t → p < length ns
 within_list ns t p w is h = omega (arith, nodes_whole ns w, ap nodes is)
+
+-- where a part of a term ends in its list
+module _ (ns : List Node) (t : Tree) (part : Part) (w : IsWhole ns) (is : tree_of ns ≡ t) (h : IsPart t part) where
+  pub part_within : part.place < length ns
+  part_within = within_list ns t part.place w is h.inside
+
+  pub part_end : part.end ≡ part.place + nodes (tree_of (drop part.place ns))
+  part_end = h.end_is ∙ ap (λ u. part.place + nodes (subterm u part.place)) (sym is) ∙ ap (λ u. part.place + nodes u) (sym (subterm_of-drop ns part.place w part_within))
+
+  pub part_before_end : part.place ≤ part.end
+  part_before_end = omega (arith, h.end_is)
+
+  pub part_in_list : part.end ≤ length ns
+  part_in_list = (split ns part.place part.end (whole_one ns w) part_within part_end).within.1
+
+  pub part_is_whole : IsWhole (take (part.end - part.place) (drop part.place ns))
+  part_is_whole = part_whole ns part.place part.end w part_within part_end
+
+  pub part_is : tree_of (take (part.end - part.place) (drop part.place ns)) ≡ subterm t part.place
+  part_is = part_of ns t part.place part.end w is part_within part_end
+
+pub fit_here : (ns : List Node) (place to : ℕ) (part : Part) (d : Node) (f : Sym) (n : ℕ) → IsWhole ns → place < length ns → get_or ns place d ≡ App f n → to ≡ place + nodes (tree_of (drop place ns)) → to ≤ 4096 → part ≡ record { place = place; end = to } → IsFitAt (tree_of ns) place part
+fit_here ns place to part d f n w h e end low is = subst (IsFitAt (tree_of ns) place) (sym is) (
+  refl,
+  record {
+    is_part = record { inside = omega (arith, h, nodes_whole ns w); end_is = end ∙ ap (λ u. place + nodes u) (subterm_of-drop ns place w h); short = low };
+    symbol = symbol_at ns place f n d w h e;
+  },
+)

@@ -1,5 +1,5 @@
 -- What the place of an outer side comes to. Sizes are counted; instances are built only where they are small and are compared.
-use Rattle.std.specs.Prelude.{ℕ, ◌≡◌, ◌+◌, ◌⊎◌, ◌++◌, Bool, true, false, List, ◌∷◌, Option, Some, None}
+use Rattle.std.specs.Prelude.{ℕ, ◌≡◌, ◌+◌, ◌<◌, ◌≤◌, ◌⊎◌, ◌++◌, Bool, true, false, List, ◌∷◌, length, Option, Some, None}
 use Rattle.uc_term.specs.Tree.{Tree, apply, nodes, put}
 use Rattle.uc_term.specs.declared.node.Node.{Node}
 use Rattle.uc_term.specs.Flat.{flat}
@@ -22,6 +22,11 @@ IsInstance σ t (Some u) = (u ≡ apply σ t) × IsSmall (apply σ t)
 abbrev pub IsFilled : Tree → List Node → Bool → Type 0
 IsFilled t list true = (list ≡ flat t) × IsSmall t
 IsFilled t list false = IsLarge t
+
+-- the new list is the old one with these nodes behind it, where they are few enough for a term
+abbrev pub AreAdded : List Node → List Node → List Node → Bool → Type 0
+AreAdded added old new true = (new ≡ old ++ added) × (length new ≤ 4096)
+AreAdded added old new false = 4096 < length (old ++ added)
 
 -- the term with its subterm at a place replaced, where it is small
 abbrev pub IsPut : Tree → ℕ → Tree → Option Placed → Type 0

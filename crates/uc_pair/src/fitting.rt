@@ -1,43 +1,57 @@
-//! Whether two terms may unify: a test that takes no memory.
+//! Where two terms may unify: a test that takes no memory.
 
 ghost use Rattle.std.specs.Prelude.{◌≡◌, ◌↔◌, ◌<◌, ◌≤◌, ℕ, length, IsTrue, false, MatchOption};
-ghost use Rattle.uc_term.specs.Tree.{subterm};
 ghost use Rattle.uc_term.specs.Flat.{tree_of, IsWhole};
-ghost use Rattle.uc_term.specs.Variables.{IsApp};
-ghost use Rattle.uc_pair.specs.Fitting.{NeverMeet, MeetFrom, WalksOn, HasNoFit, IsFirstFit, FitsNowhere};
+ghost use Rattle.uc_pair.specs.Fitting.{NeverMeet, MeetFrom, WalksOn, HasNoFit, IsFitAt, IsNextFit, FitsNowhere};
 
 use uc_term::{MAX_NODES, Node, Sym, Term, end_of};
 
-/// The first place of the outer side where a symbol stands and the part may unify with the inner side. It takes no memory.
-pub(crate) fn first_fit(outer: &Term, inner: &Term) -> Option<u32>
-    ensures { MatchOption result (FitsNowhere outer.now inner.now) (IsFirstFit outer.now inner.now) }
+/// A part of a term: its place, and the place behind it.
+#[derive(Clone, Copy)]
+pub(crate) struct Part {
+    pub(crate) place: u32,
+    pub(crate) end: u32,
+}
+
+/// The first part of the outer side, from a place on, at which a symbol stands and which may unify with the inner side. It takes
+/// no memory.
+pub(crate) fn next_fit(outer: &Term, inner: &Term, from: u32) -> Option<Part>
+    ensures { MatchOption result (FitsNowhere outer.now inner.now from) (IsNextFit outer.now inner.now from) }
 {
-    for place in 0..outer.nodes() {
-        if fits_at(outer.as_nodes(), place as usize, inner.as_nodes()) {
-            return Some(place);
+    for place in from..outer.nodes() {
+        if let Some(part) = fit_at(outer.as_nodes(), place, inner.as_nodes()) {
+            return Some(part);
         }
     }
     None
 }
 
-/// Whether a symbol stands at the place, and the part there has the same symbols as the inner side where both have one. It
-/// takes no memory. Most places fail at their first symbol, so that one is looked at before the part's end is sought.
-pub(crate) fn fits_at(outer: &[Node], place: usize, inner: &[Node]) -> bool
+/// The part at the place, where a symbol stands there and the part has the same symbols as the inner side where both have one.
+/// It takes no memory. Most places fail at their first symbol, so that one is looked at before the part's end is sought.
+fn fit_at(outer: &[Node], place: u32, inner: &[Node]) -> Option<Part>
     requires whole_outer { IsWhole outer.now }
     requires whole_inner { IsWhole inner.now }
     requires small_outer { length outer.now ≤ MAX_NODES }
     requires small_inner { length inner.now ≤ MAX_NODES }
     requires within { place < length outer.now }
-    ensures symbol { IsTrue result → IsApp (subterm (tree_of outer.now) place) }
-    ensures none { result ≡ false → HasNoFit (tree_of outer.now) (tree_of inner.now) place }
+    ensures { MatchOption result (HasNoFit (tree_of outer.now) (tree_of inner.now) place) (IsFitAt (tree_of outer.now) place) }
 {
-    match outer[place] {
-        Node::Var(_) => false,
+    let from = place as usize;
+    match outer[from] {
+        Node::Var(_) => None,
         Node::App(f, n) => {
             if is_other_head(inner[0], f, n) {
-                return false;
+                return None;
             }
-            fits(&outer[place..end_of(outer, place)], inner)
+            let end = end_of(outer, from);
+            if fits(&outer[from..end], inner) {
+                Some(Part {
+                    place,
+                    end: end as u32,
+                })
+            } else {
+                None
+            }
         }
     }
 }

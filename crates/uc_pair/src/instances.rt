@@ -1,43 +1,54 @@
 //! Two rules whose variables are renamed apart, and their instances by a unifier.
 
-ghost use Rattle.std.specs.Prelude.{◌≡◌, ◌<◌, ◌≤◌, [], ℕ, IfOk, OnOk, IsTrue, false};
-ghost use Rattle.uc_term.specs.Tree.{Tree, nodes, apply};
-ghost use Rattle.uc_term.specs.Flat.{flat, tree_of, IsWhole};
+ghost use Rattle.std.specs.Prelude.{◌≡◌, ◌<◌, ◌≤◌, ◌∷◌, [], ℕ, length, IfOk, IsTrue, false};
+ghost use Rattle.std.specs.List.{flat_map};
+ghost use Rattle.uc_term.specs.Tree.{Tree, nodes, apply, put};
 ghost use Rattle.uc_term.specs.Subst.{image};
+ghost use Rattle.uc_term.proofs.Instances.{node_image};
+ghost use Rattle.uc_pair.specs.Fitting.{IsPart};
 ghost use Rattle.uc_pair.specs.Reading.{rule_read, AreApart};
-ghost use Rattle.uc_pair.specs.Judging.{IsInstance, IsFilled, IsPut, IsReplaced};
+ghost use Rattle.uc_pair.specs.Judging.{IsInstance, IsFilled, AreAdded, IsPut, IsReplaced};
 
-use crate::numbering::number;
+use crate::fitting::Part;
+use crate::numbering::number_in;
 use crate::reading::Read;
+use crate::space::Renaming;
+use crate::term_ref::TermRef;
 use std::alloc::{AllocError, Global};
 use uc_term::{MAX_NODES, Node, Pos, Subst, Term, TermFault, instance, instance_size};
 
 /// The sides of an outer and an inner rule, with their variables numbered by first occurrence, those of the inner one behind
 /// those of the outer one.
 #[derive(Drop)]
-pub(crate) struct RenamedApart {
-    pub(crate) outer_from: Term,
-    pub(crate) outer_to: Term,
-    pub(crate) inner_from: Term,
-    pub(crate) inner_to: Term,
+pub(crate) struct RenamedApart<'a> {
+    pub(crate) outer_from: TermRef<'a>,
+    pub(crate) outer_to: TermRef<'a>,
+    pub(crate) inner_from: TermRef<'a>,
+    pub(crate) inner_to: TermRef<'a>,
 }
 
-/// The rules' variables renamed apart. Their names are noted in a list that is lent.
-pub(crate) fn rename_apart(
-    alloc: Global,
-    names: &mut Vec<u32>,
+/// The rules' variables renamed apart, in memory that is lent.
+pub(crate) fn rename_apart<'a>(
+    renaming: &'a mut Renaming,
     outer: &Read,
     inner: &Read,
-) -> Result<RenamedApart, AllocError>
+) -> Result<RenamedApart<'a>, AllocError>
     ensures { IfOk result (AreApart (rule_read outer.now) (rule_read inner.now)) }
 {
+    let Renaming {
+        names,
+        outer_from,
+        outer_to,
+        inner_from,
+        inner_to,
+    } = renaming;
     names.clear();
-    let outer_from = number(alloc, outer.from, names, 0)?;
-    let outer_to = number(alloc, outer.to, names, 0)?;
+    let outer_from = number_in(outer_from, outer.from, names, 0)?;
+    let outer_to = number_in(outer_to, outer.to, names, 0)?;
     let count = names.len() as u32;
     names.clear();
-    let inner_from = number(alloc, inner.from, names, count)?;
-    let inner_to = number(alloc, inner.to, names, count)?;
+    let inner_from = number_in(inner_from, inner.from, names, count)?;
+    let inner_to = number_in(inner_to, inner.to, names, count)?;
     Ok(RenamedApart {
         outer_from,
         outer_to,
@@ -49,7 +60,7 @@ pub(crate) fn rename_apart(
 /// The term's instance. None exactly where it has more than 4,096 nodes; nothing is built then.
 pub(crate) fn instance_of(
     alloc: Global,
-    term: &Term,
+    term: &TermRef,
     subst: &Subst,
 ) -> Result<Option<Term>, AllocError>
     ensures { IfOk result (IsInstance (image subst.now) term.now) }
@@ -64,38 +75,90 @@ pub(crate) fn instance_of(
 /// Fills a list with the nodes of the term's instance; whether this has at most 4,096 nodes.
 pub(crate) fn fill_instance(
     list: &mut Vec<Node>,
-    term: &Term,
+    term: &TermRef,
     subst: &Subst,
 ) -> Result<bool, AllocError>
     ensures { IfOk result (IsFilled (apply (image subst.now) term.now) list.new.items) }
 {
-    let pattern = term.as_nodes();
-    let size = instance_size(pattern, subst);
-    if is_too_large(size) {
+    list.clear();
+    add_instance(list, term.as_nodes(), subst)
+}
+
+/// Fills a list with the nodes of the instance of a term with another one in place of a part; whether this has at most 4,096 nodes.
+pub(crate) fn fill_put(
+    list: &mut Vec<Node>,
+    term: &TermRef,
+    there: Part,
+    part: &TermRef,
+    subst: &Subst,
+) -> Result<bool, AllocError>
+    requires { IsPart term.now there }
+    ensures { IfOk result (IsFilled (apply (image subst.now) (put term.now there.place part.now)) list.new.items) }
+{
+    let nodes = term.as_nodes();
+    list.clear();
+    if !add_instance(list, &nodes[..there.place as usize], subst)? {
         return Ok(false);
     }
-    list.clear();
-    list.reserve(size)?;
-    add_instance(list, pattern, subst)?;
+    if !add_instance(list, part.as_nodes(), subst)? {
+        return Ok(false);
+    }
+    add_instance(list, &nodes[there.end as usize..], subst)
+}
+
+/// Adds the nodes of the pattern's instance to a list, where this has at most 4,096 then; whether it has.
+fn add_instance(list: &mut Vec<Node>, pattern: &[Node], subst: &Subst) -> Result<bool, AllocError>
+    requires { length list.old.items ≤ MAX_NODES }
+    ensures { IfOk result (AreAdded (flat_map (node_image (image subst.now)) pattern.now) list.old.items list.new.items) }
+{
+    for node in pattern {
+        if !add_image(list, *node, subst)? {
+            return Ok(false);
+        }
+    }
     Ok(true)
 }
 
-/// Puts the nodes of the pattern's instance at the end of a list.
-fn add_instance(list: &mut Vec<Node>, pattern: &[Node], subst: &Subst) -> Result<(), AllocError>
-    requires whole { IsWhole pattern.now }
-    requires none { list.old.items ≡ [] }
-    ensures { OnOk result (list.new.items ≡ flat (apply (image subst.now) (tree_of pattern.now))) }
+/// Adds the nodes that a node becomes.
+#[inline]
+fn add_image(list: &mut Vec<Node>, node: Node, subst: &Subst) -> Result<bool, AllocError>
+    requires { length list.old.items ≤ MAX_NODES }
+    ensures { IfOk result (AreAdded (node_image (image subst.now) node) list.old.items list.new.items) }
 {
-    for n in pattern {
-        match *n {
-            Node::Var(x) => match subst.get(x) {
-                Some(t) => list.extend_from_slice(t.as_nodes())?,
-                None => list.push(*n)?,
-            },
-            Node::App(_, _) => list.push(*n)?,
-        }
+    match node {
+        Node::Var(x) => match subst.get(x) {
+            Some(term) => add_nodes(list, term.as_nodes()),
+            None => add_node(list, node),
+        },
+        Node::App(_, _) => add_node(list, node),
     }
-    Ok(())
+}
+
+/// Adds these nodes.
+#[inline]
+fn add_nodes(list: &mut Vec<Node>, nodes: &[Node]) -> Result<bool, AllocError>
+    requires small { length list.old.items ≤ MAX_NODES }
+    requires few { length nodes.now ≤ MAX_NODES }
+    ensures { IfOk result (AreAdded nodes.now list.old.items list.new.items) }
+{
+    if is_too_large(list.len() + nodes.len()) {
+        return Ok(false);
+    }
+    list.extend_from_slice(nodes)?;
+    Ok(true)
+}
+
+/// Adds this node.
+#[inline]
+fn add_node(list: &mut Vec<Node>, node: Node) -> Result<bool, AllocError>
+    requires { length list.old.items ≤ MAX_NODES }
+    ensures { IfOk result (AreAdded (node ∷ []) list.old.items list.new.items) }
+{
+    if is_too_large(list.len() + 1) {
+        return Ok(false);
+    }
+    list.push(node)?;
+    Ok(true)
 }
 
 /// Whether no term has so many nodes.

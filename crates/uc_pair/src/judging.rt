@@ -1,80 +1,74 @@
 //! Whether there is an overlap at a place, whether it is left out, and how large its pair is.
 
 ghost use Rattle.std.specs.Prelude.{◌≡◌, ◌↔◌, ◌<◌, IsTrue, IfOk};
-ghost use Rattle.uc_term.specs.Tree.{apply, nodes, subterm, put};
+ghost use Rattle.uc_term.specs.Tree.{apply, put};
 ghost use Rattle.uc_term.specs.Subst.{image};
-ghost use Rattle.uc_term.specs.Variables.{IsApp};
-ghost use Rattle.uc_unify.specs.Unifiers.{IsMostGeneral};
+ghost use Rattle.uc_pair.specs.Fitting.{IsPart, IsFit};
 ghost use Rattle.uc_pair.specs.Listing.{NeverDown, IsRepeated};
 ghost use Rattle.uc_pair.specs.Reading.{rule_read, AreApart, AreInstances, IsTold};
 ghost use Rattle.uc_pair.specs.Judging.{StaysAt, IsSmallSize, IsRightSize, IsSameOr, IsSizeBy, IsJudged, IsJudgedBy};
 
-use crate::fitting::fits_at;
-use crate::instances::{RenamedApart, fill_instance, is_too_large, put_part};
+use crate::Size;
+use crate::fitting::Part;
+use crate::instances::{RenamedApart, fill_instance, fill_put, is_too_large};
 use crate::reading::{Read, is_at_most, is_repeated};
-use crate::{Size, Space};
+use crate::space::Judging;
+use crate::term_ref::TermRef;
 use std::alloc::{AllocError, Global};
 use uc_order::Order;
-use uc_term::{Pos, Subst, Term, end_of, instance_size, same_nodes};
+use uc_term::{Subst, instance_size, same_nodes};
 use uc_unify::{Unified, unify_in};
 
-/// The size of the overlap of two rules, each of which leads down somewhere, at a place of the outer one's side. None where
-/// there is no overlap, or it is left out. Where the parts don't fit, it takes no memory.
+/// The size of the overlap of two rules, each of which leads down somewhere, at a part of the outer one's side at which a symbol
+/// stands. None where there is no overlap, or it is left out.
 pub(crate) fn size_at<O: Order>(
     alloc: Global,
-    space: &mut Space,
+    space: &mut Judging,
     terms: &RenamedApart,
     outer: &Read,
     inner: &Read,
-    place: u32,
+    there: Part,
     order: &O,
 ) -> Result<Option<Size>, AllocError>
     requires apart { AreApart (rule_read outer.now) (rule_read inner.now) terms.now }
-    requires inside { place < nodes outer.now.from.now }
+    requires fit { IsFit outer.now.from.now there }
     requires outer_down { NeverDown (O.meaning order.now).greater (rule_read outer.now) → ⊥ }
     requires inner_down { NeverDown (O.meaning order.now).greater (rule_read inner.now) → ⊥ }
     requires outer_told { IsTold (O.meaning order.now).greater outer.now }
     requires inner_told { IsTold (O.meaning order.now).greater inner.now }
-    ensures { IfOk result (IsJudged (O.meaning order.now).greater (rule_read outer.now) (rule_read inner.now) place) }
+    ensures { IfOk result (IsJudged (O.meaning order.now).greater (rule_read outer.now) (rule_read inner.now) there.place) }
 {
-    if is_repeated(outer, inner, place) {
+    if is_repeated(outer, inner, there.place) {
         return Ok(None);
     }
-    if !fits_at(outer.from.as_nodes(), place as usize, inner.from.as_nodes()) {
-        return Ok(None);
-    }
-    let nodes = terms.outer_from.as_nodes();
-    let from = place as usize;
-    let to = end_of(nodes, from);
     match unify_in(
         alloc,
         &mut space.unifying,
-        &nodes[from..to],
+        terms.outer_from.part(there),
         terms.inner_from.as_nodes(),
     )? {
         Unified::Apart => Ok(None),
         // the peak is at least as large, and the rules themselves lead down
         Unified::TooLarge => Ok(Some(Size::Large)),
-        Unified::Unifier(subst) => judged(alloc, space, terms, outer, inner, place, &subst, order),
+        Unified::Unifier(subst) => judged(space, terms, outer, inner, there, &subst, order),
     }
 }
 
 /// The size of the pair of an overlap by this unifier. None where one of the rules goes up or stays from the peak.
 fn judged<O: Order>(
-    alloc: Global,
-    space: &mut Space,
+    space: &mut Judging,
     terms: &RenamedApart,
     outer: &Read,
     inner: &Read,
-    place: u32,
+    there: Part,
     subst: &Subst,
     order: &O,
 ) -> Result<Option<Size>, AllocError>
     requires apart { AreApart (rule_read outer.now) (rule_read inner.now) terms.now }
-    requires inside { place < nodes terms.now.outer_from }
+    requires part { IsPart terms.now.outer_from there }
     requires outer_told { IsTold (O.meaning order.now).greater outer.now }
     requires inner_told { IsTold (O.meaning order.now).greater inner.now }
-    ensures { IfOk result (IsJudgedBy (O.meaning order.now).greater terms.now place (image subst.now)) }
+    ensures { IfOk result (IsJudgedBy (O.meaning order.now).greater terms.now there.place (image subst.now)) }
 {
     if goes_up(
         space,
@@ -96,16 +90,16 @@ fn judged<O: Order>(
     )? {
         return Ok(None);
     }
-    Ok(Some(size_by(alloc, space, terms, place, subst)?))
+    Ok(Some(size_by(space, terms, there, subst)?))
 }
 
 /// Whether the instance of a rule's renamed side is at most that of its other side, where both are small. No instance is built
 /// where the rule leads down everywhere.
 fn goes_up<O: Order>(
-    space: &mut Space,
+    space: &mut Judging,
     rule: &Read,
-    from: &Term,
-    to: &Term,
+    from: &TermRef,
+    to: &TermRef,
     subst: &Subst,
     order: &O,
 ) -> Result<bool, AllocError>
@@ -127,30 +121,29 @@ fn goes_up<O: Order>(
 
 /// The size of the pair that a unifier makes. It is counted, and the two sides are built only where they have as many nodes.
 fn size_by(
-    alloc: Global,
-    space: &mut Space,
+    space: &mut Judging,
     terms: &RenamedApart,
-    place: u32,
+    there: Part,
     subst: &Subst,
 ) -> Result<Size, AllocError>
-    requires inside { place < nodes terms.now.outer_from }
-    ensures { IfOk result (IsSizeBy (apply (image subst.now) terms.now.outer_from) (apply (image subst.now) terms.now.outer_to) (apply (image subst.now) (put terms.now.outer_from place terms.now.inner_to))) }
+    requires part { IsPart terms.now.outer_from there }
+    ensures { IfOk result (IsSizeBy (apply (image subst.now) terms.now.outer_from) (apply (image subst.now) terms.now.outer_to) (apply (image subst.now) (put terms.now.outer_from there.place terms.now.inner_to))) }
 {
     let Some(left) = small_size(&terms.outer_to, subst) else {
         return Ok(Size::Large);
     };
-    let Some(right) = right_size(terms, place, subst) else {
+    let Some(right) = right_size(terms, there, subst) else {
         return Ok(Size::Large);
     };
     if left == right {
-        same_or(alloc, space, terms, place, subst, left + right)
+        same_or(space, terms, there, subst, left + right)
     } else {
         Ok(Size::Weight(left + right))
     }
 }
 
 /// How many nodes the term's instance has. None exactly where these are more than 4,096.
-fn small_size(term: &Term, subst: &Subst) -> Option<u32>
+fn small_size(term: &TermRef, subst: &Subst) -> Option<u32>
     ensures { IsSmallSize (apply (image subst.now) term.now) result }
 {
     let size = instance_size(term.as_nodes(), subst);
@@ -162,15 +155,13 @@ fn small_size(term: &Term, subst: &Subst) -> Option<u32>
 }
 
 /// How many nodes the pair's right side has. None exactly where the outer side's instance or the right side has more than 4,096.
-fn right_size(terms: &RenamedApart, place: u32, subst: &Subst) -> Option<u32>
-    requires inside { place < nodes terms.now.outer_from }
-    ensures { IsRightSize (apply (image subst.now) terms.now.outer_from) (apply (image subst.now) (put terms.now.outer_from place terms.now.inner_to)) result }
+fn right_size(terms: &RenamedApart, there: Part, subst: &Subst) -> Option<u32>
+    requires part { IsPart terms.now.outer_from there }
+    ensures { IsRightSize (apply (image subst.now) terms.now.outer_from) (apply (image subst.now) (put terms.now.outer_from there.place terms.now.inner_to)) result }
 {
     let peak = small_size(&terms.outer_from, subst)?;
     let inner = small_size(&terms.inner_to, subst)?;
-    let nodes = terms.outer_from.as_nodes();
-    let from = place as usize;
-    let part = instance_size(&nodes[from..end_of(nodes, from)], subst);
+    let part = instance_size(terms.outer_from.part(there), subst);
     let size = peak - part as u32 + inner;
     if is_too_large(size as usize) {
         None
@@ -181,23 +172,25 @@ fn right_size(terms: &RenamedApart, place: u32, subst: &Subst) -> Option<u32>
 
 /// Whether the pair's two small sides are equal; else their weight.
 fn same_or(
-    alloc: Global,
-    space: &mut Space,
+    space: &mut Judging,
     terms: &RenamedApart,
-    place: u32,
+    there: Part,
     subst: &Subst,
     weight: u32,
 ) -> Result<Size, AllocError>
-    requires inside { place < nodes terms.now.outer_from }
-    ensures { IfOk result (IsSameOr (apply (image subst.now) terms.now.outer_to) (apply (image subst.now) (put terms.now.outer_from place terms.now.inner_to)) weight) }
+    requires part { IsPart terms.now.outer_from there }
+    ensures { IfOk result (IsSameOr (apply (image subst.now) terms.now.outer_to) (apply (image subst.now) (put terms.now.outer_from there.place terms.now.inner_to)) weight) }
 {
-    let Some(right) = put_part(alloc, &terms.outer_from, Pos(place), &terms.inner_to)? else {
-        return Ok(Size::Weight(weight));
-    };
     if !fill_instance(&mut space.from, &terms.outer_to, subst)? {
         return Ok(Size::Weight(weight));
     }
-    if !fill_instance(&mut space.to, &right.term, subst)? {
+    if !fill_put(
+        &mut space.to,
+        &terms.outer_from,
+        there,
+        &terms.inner_to,
+        subst,
+    )? {
         return Ok(Size::Weight(weight));
     }
     if same_nodes(space.from.as_slice(), space.to.as_slice()) {

@@ -13,6 +13,7 @@ mod numbering;
 mod pairing;
 mod reading;
 mod space;
+mod term_ref;
 
 pub use formation::Formation;
 pub use formed::{Formed, Size};

@@ -8,7 +8,7 @@ ghost use Rattle.uc_pair.specs.Listing.{NeverDown, IsWayOf, Lists, ListsEach, Ar
 ghost use Rattle.uc_pair.specs.Reading.{rule_read, IsTold};
 ghost use Rattle.uc_pair.specs.Adding.{Adds, AddsAt};
 
-use crate::fitting::first_fit;
+use crate::fitting::next_fit;
 use crate::instances::rename_apart;
 use crate::judging::size_at;
 use crate::reading::{Read, way_of};
@@ -115,13 +115,23 @@ fn add_inner<O: Order>(
     if inner.never_down {
         return Ok(());
     }
-    let Some(first) = first_fit(outer.from, inner.from) else {
+    let Some(first) = next_fit(outer.from, inner.from, 0) else {
         return Ok(());
     };
-    let terms = rename_apart(alloc, &mut space.names, outer, inner)?;
-    for place in first..outer.from.nodes() {
-        let size = size_at(alloc, space, &terms, outer, inner, place, order)?;
-        add(list, outer, inner, place, size)?;
+    let terms = rename_apart(&mut space.renaming, outer, inner)?;
+    let mut next = Some(first);
+    while let Some(there) = next {
+        let size = size_at(
+            alloc,
+            &mut space.judging,
+            &terms,
+            outer,
+            inner,
+            there,
+            order,
+        )?;
+        add(list, outer, inner, there.place, size)?;
+        next = next_fit(outer.from, inner.from, there.place + 1);
     }
     Ok(())
 }

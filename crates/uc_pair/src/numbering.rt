@@ -2,11 +2,13 @@
 
 ghost use Rattle.std.specs.Prelude.{◌≡◌, ◌+◌, ◌<◌, ◌≤◌, ◌⊎◌, ◌++◌, ◌∷◌, [], ℕ, List, length, slice_get, Some, IfOk, OnOk};
 ghost use Rattle.uc_term.specs.Tree.{nodes};
+ghost use Rattle.uc_term.specs.Flat.{tree_of, IsWhole};
 ghost use Rattle.uc_term.specs.Variables.{variables, firsts_after};
 ghost use Rattle.uc_pair.specs.Numbering.{placed_by, IsNumberedNode, IsNameAt};
 
+use crate::term_ref::TermRef;
 use std::alloc::{AllocError, Global};
-use uc_term::{Node, Term};
+use uc_term::{MAX_NODES, Node, Term};
 
 /// The term with each variable replaced by its place among the names, behind an offset. Its new variables go behind the
 /// names, by first occurrence.
@@ -23,13 +25,50 @@ pub(crate) fn number(
     // more names behind change nothing
     ensures numbered { IfOk result (λ t. (rest : List ℕ) → t ≡ placed_by (names.new.items ++ rest) offset term.now) }
 {
-    let nodes = term.as_nodes();
     let mut list = Vec::new(alloc);
+    fill_numbered(&mut list, term, names, offset)?;
+    Ok(Term::from_nodes(list))
+}
+
+/// The same in a list that is lent.
+pub(crate) fn number_in<'a>(
+    list: &'a mut Vec<Node>,
+    term: &Term,
+    names: &mut Vec<u32>,
+    offset: u32,
+) -> Result<TermRef<'a>, AllocError>
+    requires few { length names.old.items ≤ 8192 }
+    requires low { offset ≤ 8192 }
+    ensures names { IfOk result (λ _. names.new.items ≡ names.old.items ++ firsts_after names.old.items (variables term.now)) }
+    ensures length { IfOk result (λ _. length names.new.items ≤ length names.old.items + 4096) }
+    ensures numbered { IfOk result (λ t. (rest : List ℕ) → t ≡ placed_by (names.new.items ++ rest) offset term.now) }
+{
+    fill_numbered(list, term, names, offset)?;
+    Ok(TermRef::from_nodes(list.as_slice()))
+}
+
+/// Fills a list with the nodes of this term.
+fn fill_numbered(
+    list: &mut Vec<Node>,
+    term: &Term,
+    names: &mut Vec<u32>,
+    offset: u32,
+) -> Result<(), AllocError>
+    requires few { length names.old.items ≤ 8192 }
+    requires low { offset ≤ 8192 }
+    ensures names { OnOk result (names.new.items ≡ names.old.items ++ firsts_after names.old.items (variables term.now)) }
+    ensures length { OnOk result (length names.new.items ≤ length names.old.items + 4096) }
+    ensures whole { OnOk result (IsWhole list.new.items) }
+    ensures small { OnOk result (length list.new.items ≤ MAX_NODES) }
+    ensures numbered { OnOk result ((rest : List ℕ) → tree_of list.new.items ≡ placed_by (names.new.items ++ rest) offset term.now) }
+{
+    let nodes = term.as_nodes();
+    list.clear();
     list.reserve(nodes.len())?;
     for node in nodes {
         list.push(number_node(*node, names, offset)?)?;
     }
-    Ok(Term::from_nodes(list))
+    Ok(())
 }
 
 /// The node with its variable renumbered so.

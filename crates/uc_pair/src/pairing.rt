@@ -11,6 +11,7 @@ use crate::Formation;
 use crate::instances::{RenamedApart, instance_of, rename_apart, replaced};
 use crate::numbering::number;
 use crate::reading::Read;
+use crate::space::Renaming;
 use std::alloc::{AllocError, Global};
 use uc_fact::{By, Chain, Overlap, Side, Step};
 use uc_term::{Equation, Pos, Seq, Subst, Term, end_of};
@@ -35,8 +36,8 @@ pub fn pair_of(
 {
     let outer = Read::new(overlap.outer, overlap.outer_side, a);
     let inner = Read::new(overlap.inner, overlap.inner_side, b);
-    let mut names = Vec::new(alloc);
-    let terms = rename_apart(alloc, &mut names, &outer, &inner)?;
+    let mut renaming = Renaming::new(alloc);
+    let terms = rename_apart(&mut renaming, &outer, &inner)?;
     let nodes = terms.outer_from.as_nodes();
     let from = overlap.position.0 as usize;
     let to = end_of(nodes, from);
@@ -60,7 +61,8 @@ fn pair_by(
     let peak = instance_of(alloc, &terms.outer_from, subst)?;
     let left = instance_of(alloc, &terms.outer_to, subst)?;
     let part = instance_of(alloc, &terms.inner_to, subst)?;
-    let right = replaced(alloc, &terms.outer_from, overlap.position.0, &peak, &part)?;
+    let outer_from = terms.outer_from.to_term(alloc)?;
+    let right = replaced(alloc, &outer_from, overlap.position.0, &peak, &part)?;
     let Some(peak) = peak else {
         return Ok(Formation::TooLarge);
     };

@@ -8,13 +8,30 @@ use uc_unify::Workspace;
 /// The memory in which overlaps are judged, lent from one call to the next. What stands in it between calls is arbitrary.
 #[derive(Drop)]
 pub struct Space {
+    pub(crate) renaming: Renaming,
+    pub(crate) judging: Judging,
+}
+
+/// Where two rules are renamed apart.
+#[derive(Drop)]
+pub(crate) struct Renaming {
+    /// The variables of a rule.
+    pub(crate) names: Vec<u32>,
+    /// The renamed sides.
+    pub(crate) outer_from: Vec<Node>,
+    pub(crate) outer_to: Vec<Node>,
+    pub(crate) inner_from: Vec<Node>,
+    pub(crate) inner_to: Vec<Node>,
+}
+
+/// Where their overlaps are judged.
+#[derive(Drop)]
+pub(crate) struct Judging {
     /// What a unification works in.
     pub(crate) unifying: Workspace,
     /// The instances of the two sides of a rule, or the two sides of a pair.
     pub(crate) from: Vec<Node>,
     pub(crate) to: Vec<Node>,
-    /// The variables of a rule.
-    pub(crate) names: Vec<u32>,
 }
 
 impl Model for Space {
@@ -27,10 +44,25 @@ impl Space {
     /// A space for any facts. It takes no memory until it is lent.
     pub fn new(alloc: Global) -> Space {
         Space {
-            unifying: Workspace::new(alloc),
-            from: Vec::new(alloc),
-            to: Vec::new(alloc),
+            renaming: Renaming::new(alloc),
+            judging: Judging {
+                unifying: Workspace::new(alloc),
+                from: Vec::new(alloc),
+                to: Vec::new(alloc),
+            },
+        }
+    }
+}
+
+impl Renaming {
+    /// It takes no memory until it is lent.
+    pub(crate) fn new(alloc: Global) -> Renaming {
+        Renaming {
             names: Vec::new(alloc),
+            outer_from: Vec::new(alloc),
+            outer_to: Vec::new(alloc),
+            inner_from: Vec::new(alloc),
+            inner_to: Vec::new(alloc),
         }
     }
 }
