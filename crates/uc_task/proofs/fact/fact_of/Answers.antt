@@ -4,12 +4,15 @@ use Rattle.uc_term.specs.declared.node.Node.{Node}
 use Rattle.uc_term.specs.Tree.{Tree}
 use Rattle.uc_term.specs.Flat.{tree_of}
 use Rattle.uc_fact.specs.declared.chain.Chain.{Chain}
-use Rattle.uc_rewrite.proofs.Telling.{two}
 use Rattle.uc_machine.specs.Results.{Trial, GivesFact, made}
 use Rattle.uc_task.specs.Ends.{HasEnds}
 use Rattle.uc_task.proofs.Reversing.{as_many_back}
 use Rattle.uc_task.proofs.Made.{left_greater, right_greater, none_greater}
 use Rattle.uc_task.proofs.fact.fact_of.Goals as goal
+
+-- what is said of the terms of two lists
+two : (R : Tree → Tree → Type 0) (a b : List Node) (c d : Tree) → tree_of a ≡ c → tree_of b ≡ d → R (tree_of a) (tree_of b) → R c d
+two R a b c d e f h = subst (λ z. R c z) f (subst (λ z. R z (tree_of b)) e h)
 
 untwo : (R : Tree → Tree → Type 0) (a b : List Node) (c d : Tree) → tree_of a ≡ c → tree_of b ≡ d → R c d → R (tree_of a) (tree_of b)
 untwo R a b c d e f h = subst (λ x. R x (tree_of b)) (sym e) (subst (R c) (sym f) h)
