@@ -1,19 +1,21 @@
 //! Finds the first rule that gives something that passes a test.
 
-ghost use Rattle.std.specs.Prelude.{◌≡◌, ◌+◌, ◌*◌, ◌-◌, ◌<◌, ◌≤◌, ◌^◌, ℕ, [], IfOk, OnErr, length};
+ghost use Rattle.std.specs.Prelude.{◌≡◌, ◌+◌, ◌*◌, ◌-◌, ◌<◌, ◌≤◌, ◌^◌, ℕ, [], false, IsTrue, IfOk, OnErr, length, slice_index_or};
 ghost use Rattle.uc_term.specs.Tree.{Tree as AnyTree};
 ghost use Rattle.uc_term.specs.Flat.{tree_of, IsWhole};
 ghost use Rattle.uc_fact.specs.declared.index.Found.{Found as AnyFound};
+ghost use Rattle.uc_fact.specs.Embedding.{Embedded};
 ghost use Rattle.uc_fact.specs.Live.{rules_of};
 ghost use Rattle.uc_fact.specs.Retrieval.{IsFound, FindsNothing};
 ghost use Rattle.uc_disc.specs.Numbered.{lives};
 ghost use Rattle.uc_disc.specs.Trail.{IsTree, AreSupported};
 ghost use Rattle.uc_disc.specs.Heads.{IsRoot, AreHeads, AreParts};
 ghost use Rattle.uc_disc.specs.Retrieving.{IsTried, IsFirstFrom, IsBest, IsBetter, IsBestBefore, IsPassed};
-ghost use Rattle.uc_disc.specs.Idle.{AreIdle};
+ghost use Rattle.uc_disc.specs.Idle.{AreIdleRules, AreIdle};
 
 use crate::facts::{other_side_term, side_of_rule, side_term};
 use crate::heads::{Head, Part, Parts, parts_of};
+use crate::idle::is_marked;
 use crate::place::{Mark, Place, leaf_rule};
 use crate::walk::next_leaf;
 use std::alloc::{AllocError, Global};
@@ -58,9 +60,23 @@ impl Test for Any {
     }
 }
 
+/// Whether a rule is marked as idle, and the test refuses what idle rules give.
+#[inline]
+fn is_refused<T: Test>(idle: &[bool], rule: u32, test: &T) -> bool
+    ensures marked { IsTrue result → IsTrue (slice_index_or idle.now rule false) }
+    ensures refuses { IsTrue result → (found : AnyFound) (from to : AnyTree) → T.can_test test.now found from to → Embedded from to → T.accepts test.now found → ⊥ }
+{
+    if is_marked(idle, rule) {
+        test.refuses_embedded()
+    } else {
+        false
+    }
+}
+
 /// Makes what a rule of which the term is an instance gives, where it passes the test.
 fn try_rule<T: Test>(
     facts: &[(u32, Equation)],
+    idle: &[bool],
     alloc: Global,
     rule: u32,
     term: &[Node],
@@ -70,9 +86,13 @@ fn try_rule<T: Test>(
     requires whole { IsWhole term.now }
     requires small { length term.now ≤ MAX_NODES }
     requires few { length facts.now < 2 ^ 31 }
+    requires idle { AreIdleRules (rules_of (lives facts.now)) idle.now }
     requires can { (found : AnyFound) (from to : AnyTree) → IsFound (tree_of term.now) (rules_of (lives facts.now)) found from to → T.can_test test.now found from to }
     ensures { IfOk result (IsTried (T.accepts test.now) (tree_of term.now) (rules_of (lives facts.now)) rule) }
 {
+    if is_refused(idle, rule, test) {
+        return Ok(None);
+    }
     let fact = &facts[rule as usize / 2];
     let side = side_of_rule(facts, rule);
     let from = side_term(&fact.1, side);
@@ -103,6 +123,7 @@ fn try_rule<T: Test>(
 #[inline(always)]
 fn better<T: Test>(
     facts: &[(u32, Equation)],
+    idle: &[bool],
     alloc: Global,
     best: Best,
     from: u32,
@@ -114,6 +135,7 @@ fn better<T: Test>(
     requires whole { IsWhole term.now }
     requires small { length term.now ≤ MAX_NODES }
     requires few { length facts.now < 2 ^ 31 }
+    requires idle { AreIdleRules (rules_of (lives facts.now)) idle.now }
     requires can { (found : AnyFound) (from to : AnyTree) → IsFound (tree_of term.now) (rules_of (lives facts.now)) found from to → T.can_test test.now found from to }
     requires best { IsBest (T.accepts test.now) (tree_of term.now) (rules_of (lives facts.now)) from best.bound best.answer }
     ensures { IfOk result (IsBetter (T.accepts test.now) (tree_of term.now) (rules_of (lives facts.now)) from rule best.bound) }
@@ -121,7 +143,7 @@ fn better<T: Test>(
     if rule < from || best.bound <= rule {
         return Ok(best);
     }
-    match try_rule(facts, alloc, rule, term, test)? {
+    match try_rule(facts, idle, alloc, rule, term, test)? {
         Some(found) => Ok(Best {
             answer: Some(Answer { rule, found }),
             bound: rule,
@@ -135,6 +157,7 @@ fn better<T: Test>(
 #[inline(always)]
 fn best_in<T: Test>(
     facts: &[(u32, Equation)],
+    idle: &[bool],
     places: &[Place],
     marks: &[Mark],
     alloc: Global,
@@ -150,6 +173,7 @@ fn best_in<T: Test>(
     requires tree { IsTree (rules_of (lives facts.now)) places.now marks.now (length at.old - 1) }
     requires room { 1 < length at.old }
     requires few { length facts.now < 2 ^ 31 }
+    requires idle { AreIdleRules (rules_of (lives facts.now)) idle.now }
     requires can { (found : AnyFound) (from to : AnyTree) → IsFound (tree_of term.now) (rules_of (lives facts.now)) found from to → T.can_test test.now found from to }
     requires within { (part.start ≤ length places.now) × (part.stop ≤ length places.now) }
     requires root { IsRoot places.now part.start }
@@ -163,7 +187,7 @@ fn best_in<T: Test>(
     let mut i = next_leaf(places, marks, term, at, part.start, part.stop, best.bound);
     while i < part.stop {
         let rule = leaf_rule(places[i].label);
-        best = better(facts, alloc, best, from, rule, term, test)?;
+        best = better(facts, idle, alloc, best, from, rule, term, test)?;
         i = next_leaf(places, marks, term, at, i + 1, part.stop, best.bound);
     }
     Ok(best)
@@ -174,6 +198,7 @@ fn best_in<T: Test>(
 #[inline(always)]
 fn first_in<T: Test>(
     facts: &[(u32, Equation)],
+    idle: &[bool],
     places: &[Place],
     marks: &[Mark],
     alloc: Global,
@@ -191,6 +216,7 @@ fn first_in<T: Test>(
     requires parts { AreParts term.now places.now parts }
     requires room { 1 < length at.old }
     requires few { length facts.now < 2 ^ 31 }
+    requires idle { AreIdleRules (rules_of (lives facts.now)) idle.now }
     requires can { (found : AnyFound) (from to : AnyTree) → IsFound (tree_of term.now) (rules_of (lives facts.now)) found from to → T.can_test test.now found from to }
     ensures value { IfOk result (IsFirstFrom (T.accepts test.now) (tree_of term.now) (rules_of (lives facts.now)) from) }
     ensures memory { OnErr result (FindsNothing (tree_of term.now) (rules_of (lives facts.now)) → ⊥) }
@@ -204,13 +230,14 @@ fn first_in<T: Test>(
         stop: parts.first,
     };
     let best = best_in(
-        facts, places, marks, alloc, none, from, term, test, at, first,
+        facts, idle, places, marks, alloc, none, from, term, test, at, first,
     )?;
     if parts.second.start >= parts.second.stop {
         return Ok(best.answer);
     }
     let last = best_in(
         facts,
+        idle,
         places,
         marks,
         alloc,
@@ -227,6 +254,7 @@ fn first_in<T: Test>(
 /// Does the same with little room, for a shallow tree.
 fn first_shallow<T: Test>(
     facts: &[(u32, Equation)],
+    idle: &[bool],
     places: &[Place],
     marks: &[Mark],
     alloc: Global,
@@ -242,13 +270,14 @@ fn first_shallow<T: Test>(
     requires passed { IsPassed (T.accepts test.now) (tree_of term.now) (rules_of (lives facts.now)) places.now from passed }
     requires parts { AreParts term.now places.now parts }
     requires few { length facts.now < 2 ^ 31 }
+    requires idle { AreIdleRules (rules_of (lives facts.now)) idle.now }
     requires can { (found : AnyFound) (from to : AnyTree) → IsFound (tree_of term.now) (rules_of (lives facts.now)) found from to → T.can_test test.now found from to }
     ensures value { IfOk result (IsFirstFrom (T.accepts test.now) (tree_of term.now) (rules_of (lives facts.now)) from) }
     ensures memory { OnErr result (FindsNothing (tree_of term.now) (rules_of (lives facts.now)) → ⊥) }
 {
     let mut at = [0u16; 64];
     first_in(
-        facts, places, marks, alloc, from, term, test, passed, parts, &mut at,
+        facts, idle, places, marks, alloc, from, term, test, passed, parts, &mut at,
     )
 }
 
@@ -256,6 +285,7 @@ fn first_shallow<T: Test>(
 #[inline(never)]
 fn first_deep<T: Test>(
     facts: &[(u32, Equation)],
+    idle: &[bool],
     places: &[Place],
     marks: &[Mark],
     alloc: Global,
@@ -271,13 +301,14 @@ fn first_deep<T: Test>(
     requires whole { IsWhole term.now }
     requires small { length term.now ≤ MAX_NODES }
     requires few { length facts.now < 2 ^ 31 }
+    requires idle { AreIdleRules (rules_of (lives facts.now)) idle.now }
     requires can { (found : AnyFound) (from to : AnyTree) → IsFound (tree_of term.now) (rules_of (lives facts.now)) found from to → T.can_test test.now found from to }
     ensures value { IfOk result (IsFirstFrom (T.accepts test.now) (tree_of term.now) (rules_of (lives facts.now)) from) }
     ensures memory { OnErr result (FindsNothing (tree_of term.now) (rules_of (lives facts.now)) → ⊥) }
 {
     let mut at = [0u16; 4098];
     first_in(
-        facts, places, marks, alloc, from, term, test, passed, parts, &mut at,
+        facts, idle, places, marks, alloc, from, term, test, passed, parts, &mut at,
     )
 }
 
@@ -286,17 +317,17 @@ fn first_deep<T: Test>(
 fn passed_by<T: Test>(
     facts: &[(u32, Equation)],
     places: &[Place],
-    idle: usize,
+    idle_end: usize,
     from: u32,
     term: &[Node],
     test: &T,
 ) -> usize
     requires supported { AreSupported [] places.now }
-    requires idle { AreIdle (rules_of (lives facts.now)) places.now idle }
+    requires idle_end { AreIdle (rules_of (lives facts.now)) places.now idle_end }
     requires can { (found : AnyFound) (from to : AnyTree) → IsFound (tree_of term.now) (rules_of (lives facts.now)) found from to → T.can_test test.now found from to }
     ensures { IsPassed (T.accepts test.now) (tree_of term.now) (rules_of (lives facts.now)) places.now from result }
 {
-    if test.refuses_variables() { idle } else { 0 }
+    if test.refuses_embedded() { idle_end } else { 0 }
 }
 
 /// Finds the first rule from a number on that gives something that passes the test. Where no rule gives anything, this
@@ -307,7 +338,8 @@ pub fn first_from<T: Test>(
     marks: &[Mark],
     heads: &[Head],
     deep: usize,
-    idle: usize,
+    idle: &[bool],
+    idle_end: usize,
     alloc: Global,
     from: u32,
     term: &[Node],
@@ -315,7 +347,8 @@ pub fn first_from<T: Test>(
 ) -> Result<Option<Answer>, AllocError>
     requires tree { IsTree (rules_of (lives facts.now)) places.now marks.now deep }
     requires heads { AreHeads places.now heads.now (length places.now) }
-    requires idle { AreIdle (rules_of (lives facts.now)) places.now idle }
+    requires idle { AreIdleRules (rules_of (lives facts.now)) idle.now }
+    requires idle_end { AreIdle (rules_of (lives facts.now)) places.now idle_end }
     requires shallow { deep ≤ 4097 }
     requires whole { IsWhole term.now }
     requires small { length term.now ≤ MAX_NODES }
@@ -324,14 +357,18 @@ pub fn first_from<T: Test>(
     ensures value { IfOk result (IsFirstFrom (T.accepts test.now) (tree_of term.now) (rules_of (lives facts.now)) from) }
     ensures memory { OnErr result (FindsNothing (tree_of term.now) (rules_of (lives facts.now)) → ⊥) }
 {
-    let passed = passed_by(facts, places, idle, from, term, test);
+    let passed = passed_by(facts, places, idle_end, from, term, test);
     let parts = parts_of(heads, places, term);
     if parts.first <= passed && parts.second.start >= parts.second.stop {
         return Ok(None);
     }
     if deep < 64 {
-        first_shallow(facts, places, marks, alloc, from, term, test, passed, parts)
+        first_shallow(
+            facts, idle, places, marks, alloc, from, term, test, passed, parts,
+        )
     } else {
-        first_deep(facts, places, marks, alloc, from, term, test, passed, parts)
+        first_deep(
+            facts, idle, places, marks, alloc, from, term, test, passed, parts,
+        )
     }
 }

@@ -7,7 +7,7 @@ ghost use Rattle.uc_disc.specs.Numbered.{lives};
 use crate::build::{depth_of, marks_of, places_of, spell_all};
 use crate::facts::copy_facts;
 use crate::heads::{Head, heads_of};
-use crate::idle::idle_end;
+use crate::idle::{idle_end, idle_rules};
 use crate::place::{Mark, Place};
 use crate::search::{Any, first_from};
 use crate::seats::{place_of, seats_of};
@@ -27,8 +27,10 @@ pub struct Tree {
     marks: Vec<Mark>,
     heads: Vec<Head>,
     deep: usize,
-    /// Before this place all leaves are those of rules that are read from a variable of their other side.
-    idle: usize,
+    /// Which rules are read from a side that is embedded in their other side.
+    idle: Vec<bool>,
+    /// Before this place all leaves are those of such rules.
+    idle_end: usize,
 }
 
 impl Model for Tree {
@@ -39,7 +41,7 @@ impl Model for Tree {
     ghost use Rattle.uc_fact.specs.Live.{AreRising, rules_of};
     ghost use Rattle.uc_disc.specs.Numbered.{lives};
     ghost use Rattle.uc_disc.specs.Heads.{AreHeads};
-    ghost use Rattle.uc_disc.specs.Idle.{AreIdle};
+    ghost use Rattle.uc_disc.specs.Idle.{AreIdleRules, AreIdle};
     ghost use Rattle.uc_disc.specs.Trail.{IsTree};
 
     ghost Value = { List (ℕ × AnyEquation) };
@@ -48,7 +50,7 @@ impl Model for Tree {
 
     ghost view = { λ t. t.facts.items };
 
-    ghost invariant = { λ t. AreRising (lives t.facts.items) × (length t.facts.items < 2 ^ 31) × IsTree (rules_of (lives t.facts.items)) t.places.items t.marks.items t.deep × (t.deep ≤ 4097) × AreHeads t.places.items t.heads.items (length t.places.items) × AreIdle (rules_of (lives t.facts.items)) t.places.items t.idle };
+    ghost invariant = { λ t. AreRising (lives t.facts.items) × (length t.facts.items < 2 ^ 31) × IsTree (rules_of (lives t.facts.items)) t.places.items t.marks.items t.deep × (t.deep ≤ 4097) × AreHeads t.places.items t.heads.items (length t.places.items) × AreIdleRules (rules_of (lives t.facts.items)) t.idle.items × AreIdle (rules_of (lives t.facts.items)) t.places.items t.idle_end };
 }
 
 impl Tree {
@@ -73,7 +75,8 @@ impl Tree {
         let marks = marks_of(alloc, places.as_slice())?;
         let heads = heads_of(alloc, places.as_slice(), marks.as_slice())?;
         let deep = depth_of(places.as_slice());
-        let idle = idle_end(facts.as_slice(), places.as_slice());
+        let idle = idle_rules(alloc, facts.as_slice())?;
+        let idle_end = idle_end(idle.as_slice(), places.as_slice());
         let seats = seats_of(alloc, facts.as_slice())?;
         Ok(Tree {
             facts,
@@ -83,6 +86,7 @@ impl Tree {
             heads,
             deep,
             idle,
+            idle_end,
         })
     }
 
@@ -110,7 +114,8 @@ impl Index for Tree {
             self.marks.as_slice(),
             self.heads.as_slice(),
             self.deep,
-            self.idle,
+            self.idle.as_slice(),
+            self.idle_end,
             alloc,
             from,
             term,
@@ -134,7 +139,8 @@ impl Index for Tree {
             self.marks.as_slice(),
             self.heads.as_slice(),
             self.deep,
-            self.idle,
+            self.idle.as_slice(),
+            self.idle_end,
             alloc,
             0,
             term,

@@ -1,5 +1,6 @@
 pub mod Occurring
 pub mod Seen
+pub mod Embedded
 pub mod Matched
 pub mod Lists
 pub mod NewVariables

@@ -1,7 +1,7 @@
 pub mod Live
 pub mod Against
 pub mod Retrieval
-pub mod Variable
+pub mod Embedding
 pub mod Ordered
 pub mod Chains
 pub mod Ground

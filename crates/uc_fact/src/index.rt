@@ -28,7 +28,7 @@ pub trait Test {
     ghost use Rattle.std.specs.Prelude.{◌≡◌, ◌↔◌, IsTrue, IfOk};
     ghost use Rattle.uc_term.specs.Tree.{Tree};
     ghost use Rattle.uc_fact.specs.declared.index.Found.{Found};
-    ghost use Rattle.uc_fact.specs.Variable.{IsVariableOf};
+    ghost use Rattle.uc_fact.specs.Embedding.{Embedded};
 
     /// What the test may be asked of, with the two sides.
     ghost can_test: { Self → Found → Tree → Tree → Type 0 };
@@ -42,10 +42,10 @@ pub trait Test {
         ensures passes { result ≡ Outlook.Passes → (found : Found) → can_test self.now found from.now to.now → found.fact ≡ fact → found.side ≡ side → accepts self.now found }
         ensures fails { result ≡ Outlook.Fails → (found : Found) → can_test self.now found from.now to.now → found.fact ≡ fact → found.side ≡ side → accepts self.now found → ⊥ };
 
-    /// Whether nothing is accepted that is found at a side that is a variable of the other side. A term is an instance of each
-    /// such side, so that an index passes over them where this is so. It takes no memory.
-    fn refuses_variables(&self) -> bool
-        ensures { IsTrue result → (found : Found) → (from to : Tree) → can_test self.now found from to → IsVariableOf from to → accepts self.now found → ⊥ }
+    /// Whether nothing is accepted that is found at a side that is embedded in the other side. An index may know these sides,
+    /// and passes over them where this is so. It takes no memory.
+    fn refuses_embedded(&self) -> bool
+        ensures { IsTrue result → (found : Found) → (from to : Tree) → can_test self.now found from to → Embedded from to → accepts self.now found → ⊥ }
     {
         false
     }

@@ -3,7 +3,7 @@
 ghost use Rattle.std.specs.Prelude.{◌≡◌, ◌↔◌};
 ghost use Rattle.uc_rewrite.specs.Comparing.{TellsAll};
 
-use uc_fact::{Side, is_variable_of};
+use uc_fact::Side;
 use uc_order::{Cmp, Order};
 use uc_term::{MAX_INSTANCE, Node, Sym, Term, VarOrder};
 
@@ -22,7 +22,7 @@ pub trait Comparison {
     ghost use Rattle.uc_term.specs.Tree.{Tree};
     ghost use Rattle.uc_term.specs.Flat.{tree_of, IsWhole};
     ghost use Rattle.uc_term.specs.declared.node.Sym.{Sym as AnySym};
-    ghost use Rattle.uc_fact.specs.Variable.{IsVariableOf};
+    ghost use Rattle.uc_fact.specs.Embedding.{Embedded};
     ghost use Rattle.uc_rewrite.specs.declared.comparison.Falling.TheVariants.{Never};
     ghost use Rattle.uc_rewrite.specs.Comparing.{VariablesAre, Tells};
 
@@ -54,8 +54,8 @@ pub trait Comparison {
     fn least(&self) -> Sym
         ensures { result ≡ constant self.now };
 
-    /// No instance of a variable is greater than that of a term in which it occurs.
-    ghost no_variable: { (s : Self) → (from to : Tree) → IsVariableOf from to → Tells (greater s) from to Never };
+    /// No instance of a term is greater than that of one in which it is embedded.
+    ghost no_embedded: { (s : Self) → (from to : Tree) → Embedded from to → Tells (greater s) from to Never };
 }
 
 /// The comparison by an order.
@@ -73,7 +73,7 @@ impl<'a, O: Order> Comparison for ByOrder<'a, O> {
 
     ghost knows = { λ s x. Unit {0} };
 
-    ghost no_variable = { λ s. never_by (O.meaning s.order.now) (O.laws s.order.now) };
+    ghost no_embedded = { λ s. never_by (O.meaning s.order.now) (O.laws s.order.now) };
 
     fn is_greater(&self, s: &[Node], t: &[Node]) -> bool {
         self.order.compare(s, t) == Cmp::Greater
@@ -105,7 +105,7 @@ impl<'a, O: Order> Comparison for UnderCases<'a, O> {
 
     ghost knows = { λ s. Among s.cases.now };
 
-    ghost no_variable = { λ s. never_under (O.meaning s.order.now) (O.laws s.order.now) s.cases.now };
+    ghost no_embedded = { λ s. never_under (O.meaning s.order.now) (O.laws s.order.now) s.cases.now };
 
     fn is_greater(&self, s: &[Node], t: &[Node]) -> bool {
         self.order.compare_under(self.cases, s, t) == Cmp::Greater
@@ -122,14 +122,10 @@ impl<'a, O: Order> Comparison for UnderCases<'a, O> {
 }
 
 /// What the two sides of a fact tell of their instances, by an order and by it under each order of variables: an order keeps
-/// to instances, and what is greater is so under every order of variables. A variable that occurs in the other side needn't
-/// be compared: its instances are subterms.
+/// to instances, and what is greater is so under every order of variables.
 fn told_by_sides<O: Order>(order: &O, fact: u32, side: Side, from: &Term, to: &Term) -> Falling
     ensures { TellsAll (O.meaning order.now) from.now to.now result }
 {
-    if is_variable_of(from, to) {
-        return Falling::Never;
-    }
     match compared(order, fact, side, from, to) {
         Cmp::Greater => Falling::Always,
         Cmp::Less => Falling::Never,

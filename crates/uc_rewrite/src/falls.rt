@@ -40,8 +40,8 @@ impl<'a, C: Comparison, I: Index> Test for Falls<'a, C, I> {
         }
     }
 
-    // A variable of the other side stands for a subterm of its instance.
-    fn refuses_variables(&self) -> bool {
+    // No instance of what is embedded is greater than that of the other side.
+    fn refuses_embedded(&self) -> bool {
         true
     }
 

@@ -90,8 +90,8 @@ impl<'a, T: Test> Test for Living<'a, T> {
         }
     }
 
-    fn refuses_variables(&self) -> bool {
-        self.test.refuses_variables()
+    fn refuses_embedded(&self) -> bool {
+        self.test.refuses_embedded()
     }
 
     fn passes(

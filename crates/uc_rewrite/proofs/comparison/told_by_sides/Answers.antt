@@ -1,8 +1,5 @@
-use Rattle.uc_rewrite.specs.Instances.{always, never_up, never_same, never_variable}
+use Rattle.uc_rewrite.specs.Instances.{always, never_up, never_same}
 use Rattle.uc_rewrite.proofs.comparison.told_by_sides.Goals as goal
-
-pub returns-then-is_variable_of : goal.returns-then-is_variable_of
-returns-then-is_variable_of g c = never_variable (g.O.Order.meaning c.args.order.now) (g.met.O.Order.laws c.args.order.now) c.args.from.now c.args.to.now (c.is_variable_of.ensures c.if-is_variable_of.true)
 
 pub returns-in-Greater : goal.returns-in-Greater
 returns-in-Greater g c = always (g.O.Order.meaning c.args.order.now) (g.met.O.Order.laws c.args.order.now) c.args.from.now c.args.to.now (c.compared.ensures.greater.0 c.in-Greater.is)
