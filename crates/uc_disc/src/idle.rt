@@ -50,7 +50,7 @@ pub fn idle_end(marks: &[bool], places: &[Place]) -> usize
     if is_root(places, end) { end } else { 0 }
 }
 
-/// Tells that a place isn't a leaf of a rule that isn't idle, nor a symbol.
+/// Tells that a label is a variable, or the leaf of an idle rule.
 fn is_idle(marks: &[bool], label: Label) -> bool
     ensures { IsTrue result → (rule : ℕ) → label ≡ Leaf rule → IsTrue (slice_index_or marks.now rule false) }
 {

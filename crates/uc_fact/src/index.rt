@@ -36,14 +36,14 @@ pub trait Test {
     /// What it accepts.
     ghost accepts: { Self → Found → Type 0 };
 
-    /// Whether all or nothing that is found at this side of this fact is accepted, as far as that is seen without the
-    /// substitution. It takes no memory.
+    /// Tells that all, or that nothing, is accepted that is found at this side of this fact, as far as that is seen without the
+    /// substitution; `Unclear` says nothing. It takes no memory.
     fn outlook(&self, fact: u32, side: Side, from: &Term, to: &Term) -> Outlook
         ensures passes { result ≡ Outlook.Passes → (found : Found) → can_test self.now found from.now to.now → found.fact ≡ fact → found.side ≡ side → accepts self.now found }
         ensures fails { result ≡ Outlook.Fails → (found : Found) → can_test self.now found from.now to.now → found.fact ≡ fact → found.side ≡ side → accepts self.now found → ⊥ };
 
-    /// Whether nothing is accepted that is found at a side that is embedded in the other side. An index may know these sides,
-    /// and passes over them where this is so. It takes no memory.
+    /// Tells that nothing is accepted that is found at a side that is embedded in the other side, so that an index that knows
+    /// these sides may pass over them; false says nothing. It takes no memory.
     fn refuses_embedded(&self) -> bool
         ensures { IsTrue result → (found : Found) → (from to : Tree) → can_test self.now found from to → Embedded from to → accepts self.now found → ⊥ }
     {

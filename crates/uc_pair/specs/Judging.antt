@@ -1,4 +1,4 @@
--- What the place of an outer side comes to. Sizes are counted; instances are built only where they are small and are compared.
+-- What the place of an outer side comes to. Sizes are counted; instances are built only where they are compared, and no further than 4,096 nodes.
 use Rattle.std.specs.Prelude.{ℕ, ◌≡◌, ◌+◌, ◌<◌, ◌≤◌, ◌⊎◌, ◌++◌, Bool, true, false, List, ◌∷◌, length, Option, Some, None}
 use Rattle.uc_term.specs.Tree.{Tree, apply, nodes, put}
 use Rattle.uc_term.specs.declared.node.Node.{Node}
