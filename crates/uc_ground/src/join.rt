@@ -55,8 +55,8 @@ pub fn ground_join<O: Order, I: Index>(
     join_under_orders(alloc, s, t, vars.as_slice(), index, order)
 }
 
-/// Tries each order of the variables of two terms. Most terms that aren't joined differ under the first one, so that is tried
-/// before the others are listed.
+/// Tries each order of the variables of two terms, the first one before the others are listed: terms that differ under it need
+/// no list.
 fn join_under_orders<O: Order, I: Index>(
     alloc: Global,
     s: &Term,

@@ -77,7 +77,7 @@ impl<'a, T: Test> Test for Living<'a, T> {
 
     ghost accepts = { λ s found. (is_dead s.front.now.entries found.fact ≡ false) × T.accepts s.test.now found };
 
-    // Most that fails does so by its sides, so that these are looked at first.
+    // The sides are looked at first: where they tell that the step fails, whether the fact is dead needn't be sought.
     fn outlook(&self, fact: u32, side: Side, from: &Term, to: &Term) -> Outlook {
         let outlook = self.test.outlook(fact, side, from, to);
         if let Outlook::Fails = outlook {
