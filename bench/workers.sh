@@ -37,7 +37,7 @@ for commands in 1 2 4; do
     alone=${alone:-$seconds}
     awk -v n="$commands" -v t="$seconds" -v used="$used" -v one="$alone" 'BEGIN { printf "%d commands at once: %.1f s, %.2f times the work of one, %.1f processor seconds each\n", n, t, n * one / t, used / n }'
 done
-search examples/group-not-commutative.p --budget 65000
+search examples/group-not-commutative.p --budget 100000
 search examples/harder/ring-derivation.p --budget 15000 --pairs 8000000
 search bench/beside/ac.p --budget 12000 --pairs 8000000
 python3 bench/dihedral.py 40 >"$folder/dihedral-40.p"
