@@ -92,15 +92,15 @@ module _ (ns : List Node) (classes : List ℕ) (f : AreFirst ns classes) where
       go (inr b) = let l = b.0 in omega arith
 
   -- the values of a variable's places are the same
-  pub closing_starts : (second : ℕ) → second < length ns → Closing ns second classes ((0, second) ∷ [])
+  pub closing_starts : (second : ℕ) → second < length ns → Closing ns second classes ((second, 0) ∷ [])
   closing_starts second h = record {
     are_classes = first_classes;
-    below = (omega arith, h, tt);
-    sound = λ V r s m. (λ p i. made V r s m p i (f.first p i), s.0);
-    complete = λ τ u. (λ p i. same τ p (f.first p (let l = f.long in omega arith)), (u, tt));
+    below = (h, omega arith, tt);
+    sound = λ V r s m. (λ p i. made V r s m p i (f.first p i), sym s.0);
+    complete = λ τ u. (λ p i. same τ p (f.first p (let l = f.long in omega arith)), (sym u, tt));
   }
     where
-      made : (V : ℕ → Tree) → Respects classes V → AllSame ((0, second) ∷ []) V → AreMade ns classes V → (p : ℕ) → p < length ns → IsFirstPlace ns p (class classes p) → IsMadeAt ns V p
+      made : (V : ℕ → Tree) → Respects classes V → AllSame ((second, 0) ∷ []) V → AreMade ns classes V → (p : ℕ) → p < length ns → IsFirstPlace ns p (class classes p) → IsMadeAt ns V p
       made V r s m p i (inl a) = m p (let l = f.long in omega arith) a.0
       made V r s m p i (inr b) = λ g n e. absurd (let both : Some (Var b.1.0) ≡ Some (App g n) = sym b.1.1 ∙ e in cc)
 
@@ -108,7 +108,7 @@ module _ (ns : List Node) (classes : List ℕ) (f : AreFirst ns classes) where
       same τ p (inl a) = ap (instances ns τ) (sym a.0)
       same τ p (inr b) = ap (apply τ) (variable_at ns p b.1.0 b.1.1 ∙ sym (variable_at ns (class classes p) b.1.0 b.1.2))
 
-  pub joining_starts : (second : ℕ) (heads : List ℕ) (pairs : List (ℕ × ℕ)) → second < length ns → heads ≡ classes → pairs ≡ (0, second) ∷ [] → Joining ns second classes heads pairs
+  pub joining_starts : (second : ℕ) (heads : List ℕ) (pairs : List (ℕ × ℕ)) → second < length ns → heads ≡ classes → pairs ≡ (second, 0) ∷ [] → Joining ns second classes heads pairs
   joining_starts second heads pairs h e q = rw (e, q) (record {
     classes = classes;
     forest = forest_starts ns classes first_classes parents_before;

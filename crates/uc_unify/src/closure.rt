@@ -35,7 +35,9 @@ pub fn closure(
     heads.clear();
     heads.extend_from_slice(parents.as_slice())?;
     pairs.clear();
-    pairs.push((0, second))?;
+    // The head of a class is the place of its pair's second term. Of the two terms that is the first one here, since places are
+    // sized from the last to the first: where a term is sized, those that it holds are.
+    pairs.push((second, 0))?;
     while let Some((p, q)) = pairs.pop() {
         if !unite(nodes, ends, parents, heads, pairs, p, q)? {
             return Ok(false);

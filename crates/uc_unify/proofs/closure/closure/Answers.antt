@@ -5,7 +5,7 @@ use Rattle.uc_unify.proofs.Closing.{joining_starts, joining_goes_on, joining_end
 use Rattle.uc_unify.proofs.closure.closure.Goals as goal
 
 pub loop-p-init : goal.loop-p-init
-loop-p-init c = joining_starts c.args.nodes.now c.first_places.new.firsts.items c.in_ok-first_places.ensures c.args.second c.extend_from_slice.new.self.items c.push.new.self.items c.requires.within (c.in_ok-extend_from_slice.ensures.items ∙ rw (c.clear.ensures.items, c.as_slice.ensures.value) refl) (c.in_ok-push.ensures.items ∙ ap (λ l. l ++ (0, c.args.second) ∷ []) c.clear-2.ensures.items)
+loop-p-init c = joining_starts c.args.nodes.now c.first_places.new.firsts.items c.in_ok-first_places.ensures c.args.second c.extend_from_slice.new.self.items c.push.new.self.items c.requires.within (c.in_ok-extend_from_slice.ensures.items ∙ rw (c.clear.ensures.items, c.as_slice.ensures.value) refl) (c.in_ok-push.ensures.items ∙ ap (λ l. l ++ (c.args.second, 0) ∷ []) c.clear-2.ensures.items)
 
 pub unite-requires-clause-pairs : goal.unite-requires-clause-pairs
 unite-requires-clause-pairs c = (pair_in c.args.nodes.now c.args.second c.loop-p.invariant.classes c.pop.new.self.items c.loop-p.pairs.items c.in-Some.p c.in-Some.q c.in-Some.ensures.items c.loop-p.invariant.closing).0
