@@ -1,6 +1,6 @@
 //! An order that remembers how pairs of terms compare.
 
-ghost use Rattle.std.specs.Prelude.{◌≡◌, ◌↔◌, IfOk, IfSome};
+ghost use Rattle.std.specs.Prelude.{◌≡◌, IfOk, IfSome};
 ghost use Rattle.uc_term.specs.Flat.{tree_of, IsWhole};
 ghost use Rattle.uc_order.specs.Remembered.{Compares};
 
@@ -64,7 +64,7 @@ impl<'a, O: Order> Remembering<'a, O> {
         Ok(())
     }
 
-    /// What is remembered of a pair, where these are its terms, in this order or the other way round.
+    /// What is remembered of a pair, where these are its terms in this order.
     #[inline]
     fn remembered(&self, number: u32, s: &[Node], t: &[Node]) -> Option<Cmp>
         requires s_whole { IsWhole s.now }
@@ -74,9 +74,6 @@ impl<'a, O: Order> Remembering<'a, O> {
         let pair = self.pairs.get(number as usize)?;
         if same_nodes(s, pair.left.as_nodes()) && same_nodes(t, pair.right.as_nodes()) {
             return Some(pair.cmp);
-        }
-        if same_nodes(s, pair.right.as_nodes()) && same_nodes(t, pair.left.as_nodes()) {
-            return Some(turned(pair.cmp));
         }
         None
     }
@@ -97,20 +94,6 @@ fn comparison_of<O: Order>(
         right: right.copy(alloc)?,
         cmp,
     })
-}
-
-/// How two terms compare the other way round.
-fn turned(cmp: Cmp) -> Cmp
-    ensures greater { (result ≡ Cmp.Greater) ↔ (cmp ≡ Cmp.Less) }
-    ensures less { (result ≡ Cmp.Less) ↔ (cmp ≡ Cmp.Greater) }
-    ensures equal { (result ≡ Cmp.Equal) ↔ (cmp ≡ Cmp.Equal) }
-{
-    match cmp {
-        Cmp::Greater => Cmp::Less,
-        Cmp::Less => Cmp::Greater,
-        Cmp::Equal => Cmp::Equal,
-        Cmp::Unknown => Cmp::Unknown,
-    }
 }
 
 impl<'a, O: Order> Order for Remembering<'a, O> {
