@@ -8,3 +8,4 @@ pub mod Tables
 pub mod Known
 pub mod Balancing
 pub mod Asking
+pub mod Noting

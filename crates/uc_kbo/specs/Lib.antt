@@ -13,3 +13,4 @@ pub mod Balances
 pub mod Faults
 pub mod Valid
 pub mod Refining
+pub mod Noted

@@ -9,18 +9,19 @@ ghost use Rattle.uc_kbo.specs.Kbo.{Kbo};
 ghost use Rattle.uc_kbo.specs.Runs.{IsRun, Beats, IsVerdict, IsOver, IsStack, part, read_by, slot_by, test_by, above_by, table_weighing};
 
 use crate::Weights;
+use crate::classes::Classes;
 use crate::covers::has_all;
 use crate::run::{Run, read};
 use crate::wide::compare_wide;
-use uc_order::{Cmp, class_number};
-use uc_term::{Node, Seq, end_of};
+use uc_order::Cmp;
+use uc_term::{Node, end_of};
 
 // Weights first, and `equal` where they are equal; and the greater run has all variables of the other.
 #[inline]
 fn decide(
     w: &Weights,
     under: bool,
-    classes: &[Seq<u32>],
+    classes: &Classes,
     s: &[Node],
     t: &[Node],
     a: &Run,
@@ -77,7 +78,7 @@ fn is_same(a: Node, b: Node) -> bool
 
 // Where the two lists first differ, as they are read.
 #[inline]
-fn first_difference(under: bool, classes: &[Seq<u32>], s: &[Node], t: &[Node]) -> usize
+fn first_difference(under: bool, classes: &Classes, s: &[Node], t: &[Node]) -> usize
     ensures in_s { result ≤ length s.now }
     ensures in_t { result ≤ length t.now }
     ensures common { take result (read_by under classes.now s.now) ≡ take result (read_by under classes.now t.now) }
@@ -117,11 +118,11 @@ pub fn end_of_terms(list: &[Node], from: usize, count: usize) -> usize
 
 // Whether x is above y in the order of variables.
 #[inline]
-fn is_above(under: bool, classes: &[Seq<u32>], x: u32, y: u32) -> bool
+fn is_above(under: bool, classes: &Classes, x: u32, y: u32) -> bool
     ensures { IsTrue result ↔ above_by under classes.now x y }
 {
     if under {
-        class_number(classes, y) < class_number(classes, x)
+        classes.number_of(y) < classes.number_of(x)
     } else {
         false
     }
@@ -129,14 +130,7 @@ fn is_above(under: bool, classes: &[Seq<u32>], x: u32, y: u32) -> bool
 
 // From a place on there are unary symbols of weight 0, and then a variable that is x or above it.
 #[cold]
-fn is_stack(
-    w: &Weights,
-    under: bool,
-    classes: &[Seq<u32>],
-    list: &[Node],
-    from: usize,
-    x: u32,
-) -> bool
+fn is_stack(w: &Weights, under: bool, classes: &Classes, list: &[Node], from: usize, x: u32) -> bool
     requires { from ≤ length list.now }
     ensures { IsTrue result ↔ IsStack (table_weighing w.now.w0 w.now.table.items) (test_by under classes.now) (above_by under classes.now) (drop from (read_by under classes.now list.now)) x }
 {
@@ -157,14 +151,7 @@ fn is_stack(
 
 // What the heads at a place say, where they differ.
 #[inline]
-pub fn heads(
-    w: &Weights,
-    under: bool,
-    classes: &[Seq<u32>],
-    s: &[Node],
-    t: &[Node],
-    at: usize,
-) -> Cmp
+pub fn heads(w: &Weights, under: bool, classes: &Classes, s: &[Node], t: &[Node], at: usize) -> Cmp
     requires in_s { at < length s.now }
     requires in_t { at < length t.now }
     ensures greater { (result ≡ Cmp.Greater) ↔ IsOver (table_weighing w.now.w0 w.now.table.items) (test_by under classes.now) (above_by under classes.now) (drop at (read_by under classes.now s.now)) (drop at (read_by under classes.now t.now)) }
@@ -195,7 +182,7 @@ pub fn heads(
 }
 
 #[inline]
-fn variables(under: bool, classes: &[Seq<u32>], x: u32, y: u32) -> Cmp
+fn variables(under: bool, classes: &Classes, x: u32, y: u32) -> Cmp
     ensures greater { (result ≡ Cmp.Greater) ↔ above_by under classes.now x y }
     ensures less { (result ≡ Cmp.Less) ↔ above_by under classes.now y x }
 {
@@ -224,7 +211,7 @@ fn ranks(a: usize, b: usize) -> Cmp
 
 // From the first place where the lists differ, level by level, up to the roots.
 #[inline]
-fn climb(w: &Weights, under: bool, classes: &[Seq<u32>], s: &[Node], t: &[Node], at: usize) -> Cmp
+fn climb(w: &Weights, under: bool, classes: &Classes, s: &[Node], t: &[Node], at: usize) -> Cmp
     requires s_whole { IsWhole s.now }
     requires t_whole { IsWhole t.now }
     requires s_small { length s.now ≤ 16777216 }
@@ -272,7 +259,7 @@ fn climb(w: &Weights, under: bool, classes: &[Seq<u32>], s: &[Node], t: &[Node],
 
 // The order of two terms, as they are read.
 #[inline]
-pub fn compare_by(w: &Weights, under: bool, classes: &[Seq<u32>], s: &[Node], t: &[Node]) -> Cmp
+pub fn compare_by(w: &Weights, under: bool, classes: &Classes, s: &[Node], t: &[Node]) -> Cmp
     requires s_whole { IsWhole s.now }
     requires t_whole { IsWhole t.now }
     requires s_small { length s.now ≤ 16777216 }

@@ -6,9 +6,9 @@ ghost use Rattle.uc_kbo.specs.Kbo.{is_it, is_from};
 ghost use Rattle.uc_kbo.specs.Runs.{IsRun, image_by, HasAll, part, read_by, slot_by, test_by, table_weighing, is_counted};
 
 use crate::Weights;
+use crate::classes::Classes;
 use crate::run::{Run, slot};
-use uc_order::first_of_class;
-use uc_term::{Node, Seq};
+use uc_term::Node;
 
 // No variable is more often in the second run than in the first; under an order of variables, no more are of a class and
 // the greater ones.
@@ -16,7 +16,7 @@ use uc_term::{Node, Seq};
 pub fn has_all(
     w: &Weights,
     under: bool,
-    classes: &[Seq<u32>],
+    classes: &Classes,
     s: &[Node],
     t: &[Node],
     a: &Run,
@@ -78,7 +78,7 @@ fn has_from(a: &Run, b: &Run) -> bool
 // The same by counting anew for each variable or class. Only under an order of variables do terms come here, those with a
 // variable whose class has no counter; without one `compare_wide` has them.
 #[cold]
-fn has_all_nodes(under: bool, classes: &[Seq<u32>], s: &[Node], t: &[Node]) -> bool
+fn has_all_nodes(under: bool, classes: &Classes, s: &[Node], t: &[Node]) -> bool
     ensures { IsTrue result ↔ HasAll (test_by under classes.now) (read_by under classes.now s.now) (read_by under classes.now t.now) }
 {
     if under {
@@ -112,11 +112,11 @@ fn occurrences(x: u32, list: &[Node]) -> usize
         .count()
 }
 
-fn has_all_classes(classes: &[Seq<u32>], s: &[Node], t: &[Node]) -> bool
+fn has_all_classes(classes: &Classes, s: &[Node], t: &[Node]) -> bool
     ensures { IsTrue result ↔ HasAll (is_from classes.now) (read_by true classes.now s.now) (read_by true classes.now t.now) }
 {
     let mut k = 0;
-    while k <= classes.len() {
+    while k <= classes.as_slice().len() {
         if count_from(classes, t, k) > count_from(classes, s, k) {
             return false;
         }
@@ -126,7 +126,7 @@ fn has_all_classes(classes: &[Seq<u32>], s: &[Node], t: &[Node]) -> bool
 }
 
 // How many variables are of the class of this number or a greater one.
-fn count_from(classes: &[Seq<u32>], list: &[Node], k: usize) -> usize
+fn count_from(classes: &Classes, list: &[Node], k: usize) -> usize
     ensures value { result ≡ count_by (is_counted (is_from classes.now k)) (read_by true classes.now list.now) }
     ensures small { result ≤ length list.now }
 {
@@ -139,11 +139,11 @@ fn count_from(classes: &[Seq<u32>], list: &[Node], k: usize) -> usize
     count
 }
 
-fn is_node_from(classes: &[Seq<u32>], node: Node, k: usize) -> bool
+fn is_node_from(classes: &Classes, node: Node, k: usize) -> bool
     ensures { result ≡ is_counted (is_from classes.now k) (renamed_node (image_by true classes.now) node) }
 {
     match node {
-        Node::Var(x) => slot(true, classes, first_of_class(classes, x)) >= k,
+        Node::Var(x) => slot(true, classes, classes.first_of(x)) >= k,
         Node::App(_, _) => false,
     }
 }

@@ -2,6 +2,7 @@
 #![tactic(auto)]
 
 mod balance;
+mod classes;
 mod climb;
 mod covers;
 mod kbo;

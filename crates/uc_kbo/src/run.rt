@@ -5,8 +5,8 @@ ghost use Rattle.uc_order.specs.Renamed.{renamed_node};
 ghost use Rattle.uc_kbo.specs.Runs.{IsRun, image_by, slot_by, read_by, table_weighing, node_weight, is_counted, in_slot};
 
 use crate::Weights;
-use uc_order::{class_number, first_of_class};
-use uc_term::{Node, Seq};
+use crate::classes::Classes;
+use uc_term::Node;
 
 /// The nodes from one place of a list to another. The variables that are counted under a number below 32 have a counter
 /// each.
@@ -21,22 +21,22 @@ pub struct Run {
 
 // The node as it is, or with the first variable of its class.
 #[inline]
-pub fn read(under: bool, classes: &[Seq<u32>], node: Node) -> Node
+pub fn read(under: bool, classes: &Classes, node: Node) -> Node
     ensures { result ≡ renamed_node (image_by under classes.now) node }
 {
     match node {
-        Node::Var(x) => Node::Var(if under { first_of_class(classes, x) } else { x }),
+        Node::Var(x) => Node::Var(if under { classes.first_of(x) } else { x }),
         Node::App(_, _) => node,
     }
 }
 
 // The number under which a variable is counted: its own, or that of its class.
 #[inline]
-pub fn slot(under: bool, classes: &[Seq<u32>], x: u32) -> usize
+pub fn slot(under: bool, classes: &Classes, x: u32) -> usize
     ensures { result ≡ slot_by under classes.now x }
 {
     if under {
-        class_number(classes, x)
+        classes.number_of(x)
     } else {
         x as usize
     }
@@ -63,7 +63,7 @@ impl Run {
 
     // Counts one node more.
     #[inline]
-    fn count(&mut self, w: &Weights, under: bool, classes: &[Seq<u32>], node: Node)
+    fn count(&mut self, w: &Weights, under: bool, classes: &Classes, node: Node)
         requires weight { self.old.weight + 4294967295 < 2 ^ 64 }
         requires size { length self.old.counts ≡ 32 }
         requires counts { (i : ℕ) → i < 32 → slice_index self.old.counts i + 1 < 2 ^ 32 }
@@ -91,14 +91,7 @@ impl Run {
 
     // Takes in the nodes up to `to`.
     #[inline]
-    pub fn extend(
-        &mut self,
-        w: &Weights,
-        under: bool,
-        classes: &[Seq<u32>],
-        list: &[Node],
-        to: usize,
-    )
+    pub fn extend(&mut self, w: &Weights, under: bool, classes: &Classes, list: &[Node], to: usize)
         requires run { IsRun (table_weighing w.now.w0 w.now.table.items) (slot_by under classes.now) (read_by under classes.now list.now) self.old }
         requires ahead { self.old.to ≤ to }
         requires within { to ≤ length list.now }

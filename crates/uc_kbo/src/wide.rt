@@ -12,6 +12,7 @@ ghost use Rattle.uc_kbo.specs.Balances.{IsBoth, is_asked, AsksFor, has_counter, 
 
 use crate::Weights;
 use crate::balance::Balance;
+use crate::classes::Classes;
 use crate::climb::{end_of_terms, heads, heavier};
 use crate::run::Run;
 use uc_order::Cmp;
@@ -62,8 +63,9 @@ impl Both {
     {
         self.balance.gain_all(&s[self.first.to..s_end]);
         self.balance.lose_all(&t[self.second.to..t_end]);
-        self.first.extend(w, false, &[], s, s_end);
-        self.second.extend(w, false, &[], t, t_end);
+        let none = Classes::none();
+        self.first.extend(w, false, &none, s, s_end);
+        self.second.extend(w, false, &none, t, t_end);
     }
 
     // Weights first, and `equal` where they are equal; and the greater run has all variables of the other that are asked
@@ -112,7 +114,7 @@ fn climb_from(w: &Weights, s: &[Node], t: &[Node], at: usize, base: u32) -> Cmp
     let s_end = end_of(s, at);
     let t_end = end_of(t, at);
     both.extend(w, s, t, s_end, t_end);
-    let inner = heads(w, false, &[], s, t, at);
+    let inner = heads(w, false, &Classes::none(), s, t, at);
     let mut verdict = both.decide(w, s, t, inner);
     let mut part = at;
     let mut from = at;

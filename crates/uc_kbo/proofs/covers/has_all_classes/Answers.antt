@@ -1,4 +1,4 @@
-use Rattle.std.proofs.Common.{refl, ◌≡◌, ◌<◌, ◌≤◌, ◌+◌, subst, arith, true, ℕ, count_by, ◌⊎◌, inl, inr}
+use Rattle.std.proofs.Common.{refl, ap, length, ◌≡◌, ◌<◌, ◌≤◌, ◌+◌, subst, arith, true, ℕ, count_by, ◌⊎◌, inl, inr}
 use Rattle.uc_kbo.specs.Kbo.{is_from}
 use Rattle.uc_kbo.specs.Runs.{is_counted, read_by}
 use Rattle.uc_kbo.proofs.Covering.{all_classes}
@@ -13,4 +13,4 @@ loop-k-preserved c j h =
     elim (below_or_at j c.loop-k.k h) [ inl l ↦ c.loop-k.invariant j l | inr e ↦ subst P e (omega (arith, c.count_from.ensures.value, c.count_from-in-loop-k.ensures.value, c.if-count_from.false)) ]
 
 pub returns : goal.returns
-returns c = (λ _. all_classes c.args.classes.now (read_by true c.args.classes.now c.args.s.now) (read_by true c.args.classes.now c.args.t.now) c.loop-k.k (omega (arith, c.loop-k-test.false)) c.loop-k.invariant, λ _. refl)
+returns c = (λ _. all_classes c.args.classes.now (read_by true c.args.classes.now c.args.s.now) (read_by true c.args.classes.now c.args.t.now) c.loop-k.k (omega (arith, c.loop-k-test.false, ap length c.as_slice.ensures)) c.loop-k.invariant, λ _. refl)
