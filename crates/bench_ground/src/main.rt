@@ -9,12 +9,12 @@ mod pairs;
 
 use order::default_order;
 use pairs::{IN_ORDER, arrangement, sorting_facts, spelled};
-use std::alloc::Global;
+use std::alloc::{AllocError, Global};
 use std::rt::Env;
 use std::{env, io};
 use uc_fact::{Equation, Joinable};
 use uc_ground::ground_join;
-use uc_order::Order;
+use uc_order::{Order, Remembering};
 use uc_rewrite::Scan;
 use uc_term::{Term, TermFault};
 
@@ -40,6 +40,19 @@ fn is_joined<O: Order>(
     Ok(matches!(answer, Joinable::Joined(_)))
 }
 
+// The order as the program has it, which remembers how the sides of each fact compare.
+fn remembering<'a, O: Order>(
+    alloc: Global,
+    order: &'a O,
+    facts: &[Equation],
+) -> Result<Remembering<'a, O>, AllocError> {
+    let mut order = Remembering::new(alloc, order);
+    for fact in facts {
+        order.remember(alloc, &fact.left, &fact.right)?;
+    }
+    Ok(order)
+}
+
 // How many of the first pairs are joined.
 fn count_joined<O: Order>(
     alloc: Global,
@@ -52,9 +65,10 @@ fn count_joined<O: Order>(
     }
     let left = spelled(alloc, IN_ORDER)?;
     let scan = Scan::new(facts);
+    let order = remembering(alloc, order, facts)?;
     let mut count: u64 = 0;
     for place in 0..number {
-        if is_joined(alloc, order, &scan, &left, place)? {
+        if is_joined(alloc, &order, &scan, &left, place)? {
             count = count.saturating_add(1);
         }
     }
