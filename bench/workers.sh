@@ -1,11 +1,11 @@
 #!/usr/bin/env bash
-# How much faster `prove` ends with more workers: four problems, with 1, 2 and 4 workers in turn, in seconds of the clock, and how
-# many times faster than with one worker. The ratios mean something only where nothing else uses the processors: beside each time
-# stands how many processors the run had (its processor seconds for each second of the clock), and processor seconds themselves,
-# which tell what more workers cost in all. Then, looked at each fiftieth of a second, how many of the workers could run and how many
-# waited, which other work on the machine doesn't change. Where Debian's perf (linux-perf) is there, the share of the processor's
-# time under the lock and in waiting for it follows. Run it at the top of the repository, after the gate, which leaves the program
-# in crates/uc_main/out, or with another program as its first argument.
+# How much faster `prove` ends with more workers: four problems, each three times with 1, 2 and 4 workers in turn, in seconds of the
+# clock, the middle of the three, and how many times faster that is than with one worker. The ratios mean something only where nothing
+# else uses the processors: beside each time stands how many processors the run had (its processor seconds for each second of the
+# clock), and processor seconds themselves, which tell what more workers cost in all. Then, looked at each fiftieth of a second, how
+# many of the workers could run and how many waited, which other work on the machine doesn't change. Where Debian's perf (linux-perf)
+# is there, the share of the processor's time under the lock and in waiting for it follows. Run it at the top of the repository, after
+# the gate, which leaves the program in crates/uc_main/out, or with another program as its first argument.
 set -euo pipefail
 cd "$(dirname "$0")/.."
 program=${1:-$PWD/crates/uc_main/out/uc_main}
@@ -15,14 +15,24 @@ trap 'rm -rf "$folder"' EXIT
 timed() {
     (TIMEFORMAT='%R %U %S'; time "$@" >"$folder/answer" 2>"$folder/told") 2>&1 | awk '{ print $1, $2 + $3 }'
 }
+# the line in the middle of three
+middle() {
+    sort -g "$1" | sed -n 2p
+}
 search() {
     local problem=$1 one='' seconds used
     shift
+    rm -f "$folder"/times-*
+    for _ in 1 2 3; do
+        for workers in 1 2 4; do
+            timed "$program" prove --workers "$workers" "$@" "$problem" >>"$folder/times-$workers" || true
+        done
+    done
     for workers in 1 2 4; do
-        read -r seconds used < <(timed "$program" prove --workers "$workers" "$@" "$problem" || true)
+        read -r seconds used < <(middle "$folder/times-$workers")
         one=${one:-$seconds}
-        awk -v problem="$problem" -v options="$*" -v workers="$workers" -v t="$seconds" -v used="$used" -v one="$one" -v status="$(awk 'NR == 1 { print $4 }' "$folder/answer")" '
-            BEGIN { sub(".*/tmp[^/]*/", "", problem); printf "%s %s, %d workers: %s in %.1f s, %.2f times as fast, with %.2f processors, %.1f processor seconds\n", problem, options, workers, status, t, one / t, used / t, used }'
+        awk -v problem="$problem" -v options="$*" -v workers="$workers" -v t="$seconds" -v used="$used" -v one="$one" -v all="$(awk '{ printf "%s%.1f", (NR > 1 ? ", " : ""), $1 }' "$folder/times-$workers")" -v status="$(awk 'NR == 1 { print $4 }' "$folder/answer")" '
+            BEGIN { sub(".*/tmp[^/]*/", "", problem); printf "%s %s, %d workers: %s in %.1f s (%s), %.2f times as fast, with %.2f processors, %.1f processor seconds\n", problem, options, workers, status, t, all, one / t, used / t, used }'
     done
 }
 python3 bench/dihedral.py 24 >"$folder/dihedral-24.p"
@@ -37,9 +47,9 @@ for commands in 1 2 4; do
     alone=${alone:-$seconds}
     awk -v n="$commands" -v t="$seconds" -v used="$used" -v one="$alone" 'BEGIN { printf "%d commands at once: %.1f s, %.2f times the work of one, %.1f processor seconds each\n", n, t, n * one / t, used / n }'
 done
-search examples/group-not-commutative.p --budget 100000
-search examples/harder/ring-derivation.p --budget 15000 --pairs 8000000
-search bench/beside/ac.p --budget 12000 --pairs 8000000
+search examples/group-not-commutative.p --budget 180000
+search examples/harder/ring-jacobi.p --budget 20000 --pairs 8000000
+search bench/beside/ac.p --budget 25000 --pairs 8000000
 python3 bench/dihedral.py 40 >"$folder/dihedral-40.p"
 search "$folder/dihedral-40.p" --budget 1000000 --pairs 8000000
 runnable() {
