@@ -281,6 +281,37 @@ fn first_shallow<T: Test>(
     )
 }
 
+/// Does the same with room for all but the deepest trees: room is cleared at each call.
+#[inline(never)]
+fn first_middle<T: Test>(
+    facts: &[(u32, Equation)],
+    idle: &[bool],
+    places: &[Place],
+    marks: &[Mark],
+    alloc: Global,
+    from: u32,
+    term: &[Node],
+    test: &T,
+    passed: usize,
+    parts: Parts,
+) -> Result<Option<Answer>, AllocError>
+    requires whole { IsWhole term.now }
+    requires small { length term.now ≤ MAX_NODES }
+    requires tree { IsTree (rules_of (lives facts.now)) places.now marks.now 511 }
+    requires passed { IsPassed (T.accepts test.now) (tree_of term.now) (rules_of (lives facts.now)) places.now from passed }
+    requires parts { AreParts term.now places.now parts }
+    requires few { length facts.now < 2 ^ 31 }
+    requires idle { AreIdleRules (rules_of (lives facts.now)) idle.now }
+    requires can { (found : AnyFound) (from to : AnyTree) → IsFound (tree_of term.now) (rules_of (lives facts.now)) found from to → T.can_test test.now found from to }
+    ensures value { IfOk result (IsFirstFrom (T.accepts test.now) (tree_of term.now) (rules_of (lives facts.now)) from) }
+    ensures memory { OnErr result (FindsNothing (tree_of term.now) (rules_of (lives facts.now)) → ⊥) }
+{
+    let mut at = [0u16; 512];
+    first_in(
+        facts, idle, places, marks, alloc, from, term, test, passed, parts, &mut at,
+    )
+}
+
 /// Does the same with room for every tree.
 #[inline(never)]
 fn first_deep<T: Test>(
@@ -364,6 +395,10 @@ pub fn first_from<T: Test>(
     }
     if deep < 64 {
         first_shallow(
+            facts, idle, places, marks, alloc, from, term, test, passed, parts,
+        )
+    } else if deep < 512 {
+        first_middle(
             facts, idle, places, marks, alloc, from, term, test, passed, parts,
         )
     } else {

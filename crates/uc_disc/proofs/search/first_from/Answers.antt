@@ -8,6 +8,9 @@ use Rattle.uc_disc.proofs.search.first_from.Goals as goal
 pub first_shallow-requires-clause-tree : goal.first_shallow-requires-clause-tree
 first_shallow-requires-clause-tree g c = tree_deeper (rules_of (lives c.args.facts.now)) c.args.places.now c.args.marks.now c.args.deep 63 (search rules) c.requires.tree
 
+pub first_middle-requires-clause-tree : goal.first_middle-requires-clause-tree
+first_middle-requires-clause-tree g c = tree_deeper (rules_of (lives c.args.facts.now)) c.args.places.now c.args.marks.now c.args.deep 511 (search rules) c.requires.tree
+
 pub first_deep-requires-clause-tree : goal.first_deep-requires-clause-tree
 first_deep-requires-clause-tree g c = tree_deeper (rules_of (lives c.args.facts.now)) c.args.places.now c.args.marks.now c.args.deep 4097 c.requires.shallow c.requires.tree
 
