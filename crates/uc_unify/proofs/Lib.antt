@@ -1,6 +1,8 @@
 pub mod Walk
 pub mod Both
 pub mod Fitting
+pub mod Decided
+pub mod Splicing
 pub mod Linking
 pub mod Ending
 pub mod Noting

@@ -1,4 +1,5 @@
 pub mod Matching
+pub mod Replacing
 pub mod Extension
 pub mod Unifiers
 pub mod Closure

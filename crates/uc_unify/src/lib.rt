@@ -1,5 +1,5 @@
-//! Matching and unification of first-order terms (Baader and Nipkow, Term Rewriting and All That, section 4.7 and
-//! chapter 4).
+//! Matching and unification of first-order terms, and replacement of equals at one place (Baader and Nipkow, Term Rewriting
+//! and All That, section 4.7 and chapters 3 and 4).
 #![tactic(auto)]
 
 mod closure;
@@ -7,11 +7,13 @@ mod ends;
 mod firsts;
 mod forest;
 mod matching;
+mod replacement;
 mod sizes;
 mod solution;
 mod unification;
 mod workspace;
 
 pub use matching::{matches, matches_both};
+pub use replacement::replaces_at;
 pub use unification::{Unified, unify, unify_in};
 pub use workspace::Workspace;
