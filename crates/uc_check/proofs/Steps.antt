@@ -4,11 +4,12 @@ use Rattle.std.proofs.lemmas.List.{drop_more}
 use Rattle.std.proofs.lemmas.Option.{slice_get_within}
 use Rattle.uc_term.specs.Tree.{Tree, apply, subterm, put}
 use Rattle.uc_term.specs.Positions.{IsPlaceOf}
+use Rattle.uc_unify.specs.Replacing.{ReplacesAt}
 use Rattle.uc_check.specs.declared.proof.Line.{Line}
 use Rattle.uc_check.specs.declared.proof.LineStep.{LineStep}
 use Rattle.uc_check.specs.declared.checker.Cause.{Cause}
 use Rattle.uc_check.specs.declared.checker.Cause.TheVariants.{NotEarlier, NotAReplacement}
-use Rattle.uc_check.specs.Replacements.{IsRefutation, from_side, to_side, IsReplacement, ReplacesAt, Leads, chain_end}
+use Rattle.uc_check.specs.Replacements.{IsRefutation, from_side, to_side, IsReplacement, Leads, chain_end}
 use Rattle.uc_check.specs.Tests.{passes, fails}
 
 -- a replacement by the named line is one at the place that the position names
@@ -31,6 +32,7 @@ module _ (lines : List Line) (before : Tree) (step : LineStep) (line : Line) (li
       let same : line ≡ r.line = let p = line_is in let q = r.line_is in cc in
       let part : r.part ≡ subterm before place = let p = r.part_is in let q = at.there in cc in
       record {
+        inside = at.inside;
         σ = r.σ;
         from_is = ap (λ l. apply r.σ (from_side way l)) same ∙ ap (λ b. apply r.σ (from_side b r.line)) (sym way_is) ∙ r.from_is ∙ part;
         to_is = ap (λ l. put before place (apply r.σ (to_side way l))) same ∙ ap (λ b. put before place (apply r.σ (to_side b r.line))) (sym way_is) ∙ at.puts (apply r.σ (to_side step.left_to_right r.line)) ∙ r.to_is;

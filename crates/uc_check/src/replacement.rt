@@ -1,13 +1,12 @@
 //! Steps of a chain: replacements of equals by equals.
 
 ghost use Rattle.std.specs.Prelude.{◌≡◌, ◌<◌, ◌↔◌, IsTrue, IfOk, length, true};
-ghost use Rattle.uc_term.specs.Tree.{nodes};
-ghost use Rattle.uc_check.specs.Replacements.{IsRefutation, IsReplacement, ReplacesAt};
+ghost use Rattle.uc_check.specs.Replacements.{IsRefutation, IsReplacement};
 
 use crate::{Line, LineSource, LineStep};
 use std::alloc::{AllocError, Global};
-use uc_term::{Pos, Term, end_of, same_nodes};
-use uc_unify::matches_both;
+use uc_term::Term;
+use uc_unify::replaces_at;
 
 /// Whether the step replaces a subterm of the term before by the equation of the line that it names: the named way, at the
 /// named position, and nothing else.
@@ -53,43 +52,5 @@ pub(crate) fn is_refutation(source: &LineSource) -> bool
         LineSource::Reflexive { .. } => false,
         LineSource::EncodeGoal { .. } => false,
         LineSource::Refute { .. } => true,
-    }
-}
-
-/// Whether one substitution makes the two sides the subterms at this place, and all else is the same.
-fn replaces_at(
-    alloc: Global,
-    from: &Term,
-    to: &Term,
-    before: &Term,
-    pos: Pos,
-    after: &Term,
-) -> Result<bool, AllocError>
-    requires { pos.0 < nodes before.now }
-    ensures { IfOk result (λ fits. IsTrue fits ↔ ReplacesAt from.now to.now before.now pos.0 after.now) }
-{
-    let place = pos.0 as usize;
-    let old = before.as_nodes();
-    let new = after.as_nodes();
-    if place >= new.len() {
-        return Ok(false);
-    }
-    let old_end = end_of(old, place);
-    let new_end = end_of(new, place);
-    if !same_nodes(&old[..place], &new[..place]) {
-        return Ok(false);
-    }
-    if !same_nodes(&old[old_end..], &new[new_end..]) {
-        return Ok(false);
-    }
-    match matches_both(
-        alloc,
-        from.as_nodes(),
-        &old[place..old_end],
-        to.as_nodes(),
-        &new[place..new_end],
-    )? {
-        None => Ok(false),
-        Some(_) => Ok(true),
     }
 }

@@ -1,6 +1,6 @@
 use Rattle.std.proofs.Common.{length}
 use Rattle.std.proofs.lemmas.Bool.{eqb-true, eq-eqb}
-use Rattle.uc_check.proofs.Decided.{never}
+use Rattle.uc_unify.proofs.Decided.{never}
 use Rattle.uc_check.proofs.Steps.{step_at}
 use Rattle.uc_check.proofs.Named.{named_none, named_more, named_otherwise, all_named}
 use Rattle.uc_check.proofs.chain.are_named_by.Goals as goal

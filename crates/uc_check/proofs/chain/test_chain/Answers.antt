@@ -1,7 +1,7 @@
 use Rattle.std.proofs.Common.{Ok, Err, refl, sym, ◌∙◌}
 use Rattle.uc_check.specs.Replacements.{chain_end}
 use Rattle.uc_check.specs.Tests.{passes, fails}
-use Rattle.uc_check.proofs.Decided.{not_of, of}
+use Rattle.uc_unify.proofs.Decided.{not_of, of}
 use Rattle.uc_check.proofs.chain.test_chain.Goals as goal
 
 pub returns-then-not-same : goal.returns-then-not-same

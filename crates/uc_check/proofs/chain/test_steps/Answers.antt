@@ -1,5 +1,5 @@
 use Rattle.std.proofs.lemmas.List.{drop_all}
-use Rattle.uc_check.proofs.Decided.{not_of, of}
+use Rattle.uc_unify.proofs.Decided.{not_of, of}
 use Rattle.std.proofs.Common.{ap, ◌∙◌}
 use Rattle.uc_check.specs.Replacements.{chain_end}
 use Rattle.uc_check.proofs.Steps.{step_at, stops_early, stops_wrong, steps_on, all_stepped}

@@ -4,7 +4,7 @@ use Rattle.std.proofs.lemmas.Option.{slice_get_read}
 use Rattle.uc_check.specs.declared.proof.Line.{Line}
 use Rattle.uc_check.specs.Replacements.{IsRefutation}
 use Rattle.uc_check.specs.Checks.{accepted, no_line, no_refutation}
-use Rattle.uc_check.proofs.Decided.{not_of, of}
+use Rattle.uc_unify.proofs.Decided.{not_of, of}
 use Rattle.uc_check.proofs.Last.{no_lines, ends, not_ends}
 use Rattle.uc_check.proofs.checker.check_last.Goals as goal
 

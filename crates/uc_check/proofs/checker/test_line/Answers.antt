@@ -5,7 +5,7 @@ use Rattle.uc_check.specs.declared.proof.LineSource.{LineSource}
 use Rattle.uc_check.specs.declared.checker.Cause.TheVariants.{NotAProblemClause}
 use Rattle.uc_check.specs.Tests.{passes, fails}
 use Rattle.uc_check.specs.Lines.{Tested}
-use Rattle.uc_check.proofs.Decided.{not_of, of}
+use Rattle.uc_unify.proofs.Decided.{not_of, of}
 use Rattle.uc_check.proofs.checker.test_line.Goals as goal
 
 pub returns-then-branch : goal.returns-then-branch

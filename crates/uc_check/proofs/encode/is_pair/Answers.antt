@@ -4,7 +4,7 @@ use Rattle.uc_term.specs.Code.{tree_of-flat}
 use Rattle.uc_term.proofs.Terms.{whole_flat_list, whole-flat}
 use Rattle.uc_check.proofs.Renaming.{moved}
 use Rattle.uc_check.proofs.Pairs.{paired, pair_head, same_parts}
-use Rattle.uc_check.proofs.Decided.{never, not_of, of, to_end, same_test}
+use Rattle.uc_unify.proofs.Decided.{never, not_of, of, to_end, same_test}
 use Rattle.uc_check.proofs.encode.is_pair.Goals as goal
 
 pub returns-then-not-same_nodes : goal.returns-then-not-same_nodes

@@ -1,6 +1,6 @@
 use Rattle.std.proofs.Common.{refl}
 use Rattle.uc_check.specs.Tests.{passes, fails}
-use Rattle.uc_check.proofs.Decided.{not_of, of}
+use Rattle.uc_unify.proofs.Decided.{not_of, of}
 use Rattle.uc_check.proofs.encode.test_goal.Goals as goal
 
 pub returns-then-not-are_earlier : goal.returns-then-not-are_earlier

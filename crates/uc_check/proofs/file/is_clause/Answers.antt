@@ -2,7 +2,7 @@ use Rattle.std.proofs.Common.{◌≡◌, ◌<◌, ◌⊎◌, inl, inr, ℕ, leng
 use Rattle.std.proofs.lemmas.Option.{slice_get_read, slice_get_within}
 use Rattle.uc_clause.specs.declared.clause.Sourced.{Sourced}
 use Rattle.uc_check.specs.Lines.{SaysSame}
-use Rattle.uc_check.proofs.Decided.{never, always, not_of, of}
+use Rattle.uc_unify.proofs.Decided.{never, always, not_of, of}
 use Rattle.uc_check.proofs.file.is_clause.Goals as goal
 
 here : (c : goal.Else-branch) → slice_get c.args.clauses.now c.loop-sourced.sourced-index ≡ Some c.sourced-item.result

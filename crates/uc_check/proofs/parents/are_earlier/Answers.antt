@@ -1,4 +1,4 @@
-use Rattle.uc_check.proofs.Decided.{never, always}
+use Rattle.uc_unify.proofs.Decided.{never, always}
 use Rattle.uc_check.proofs.Earlier.{rest_earlier, none_earlier, all_earlier}
 use Rattle.uc_check.proofs.parents.are_earlier.Goals as goal
 

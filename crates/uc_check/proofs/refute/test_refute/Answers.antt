@@ -1,7 +1,7 @@
 use Rattle.std.proofs.Common.{inl, inr, refl}
 use Rattle.uc_check.specs.Tests.{passes, fails}
 use Rattle.uc_check.proofs.Once.{neither}
-use Rattle.uc_check.proofs.Decided.{not_of, of}
+use Rattle.uc_unify.proofs.Decided.{not_of, of}
 use Rattle.uc_check.proofs.refute.test_refute.Goals as goal
 
 pub returns-then-not-are_earlier : goal.returns-then-not-are_earlier

@@ -1,7 +1,7 @@
 use Rattle.std.proofs.Common.{◌≡◌, true, false, List, ℕ, length, refl, subst, Some, slice_get}
 use Rattle.std.proofs.lemmas.Option.{slice_get_read}
 use Rattle.uc_term.specs.Positions.{IsPlaceOf}
-use Rattle.uc_check.proofs.Decided.{of, same_test}
+use Rattle.uc_unify.proofs.Decided.{of, same_test}
 use Rattle.uc_check.proofs.Steps.{replacement_of, replaces_of}
 use Rattle.uc_check.proofs.replacement.is_replacement.Goals as goal
 
