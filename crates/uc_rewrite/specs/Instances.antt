@@ -1,6 +1,6 @@
 -- No instance of a term is greater than that of one in which it is embedded, by an order and by it under each order of variables.
 -- (Baader and Nipkow, Term Rewriting and All That, section 5.4.)
-use Rattle.std.proofs.Common.{ℕ, ◌≡◌, ◌⊎◌, inl, inr, refl, sym, ap, ap₂, subst}
+use Rattle.std.proofs.Common.{◌≡◌, ◌⊎◌, inl, inr, refl, sym, ap, ap₂, subst}
 use Rattle.uc_term.specs.declared.node.Sym.{Sym}
 use Rattle.uc_term.specs.Tree.{Tree, var, app, Trees, none, more, apply}
 use Rattle.uc_term.specs.Within.{WithinOne, at_root, under, at_first, at_later}
