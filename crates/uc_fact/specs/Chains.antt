@@ -1,8 +1,9 @@
 -- Chains of terms, and chains put together: one step, one chain after another, a chain gone back, and one with other variables.
-use Rattle.std.specs.Prelude.{ℕ, ◌≡◌, ◌<◌, ◌++◌, not, true, List, [], ◌∷◌, map}
-use Rattle.uc_term.specs.Tree.{Tree, apply, nodes, subterm, put}
+use Rattle.std.specs.Prelude.{ℕ, ◌≡◌, ◌++◌, not, true, List, [], ◌∷◌, map}
+use Rattle.uc_term.specs.Tree.{Tree}
 use Rattle.uc_term.specs.Variables.{variables, renumbered_by}
 use Rattle.uc_term.specs.declared.equation.Equation.{Equation}
+use Rattle.uc_unify.specs.Replacing.{ReplacesAt as Replaces}
 use Rattle.uc_fact.specs.declared.chain.By.{By}
 use Rattle.uc_fact.specs.declared.chain.Step.{Step}
 use Rattle.uc_fact.specs.declared.chain.Chain.{Chain}
@@ -57,10 +58,6 @@ renumbered_step names step = record { by = step.by; left_to_right = step.left_to
 abbrev pub renumbered_chain : List ℕ → Chain → Chain
 renumbered_chain names chain = record { start = renumbered_by names chain.start; steps = map (renumbered_step names) chain.steps }
 
--- The place is one of the term before; one substitution makes the side that is replaced the subterm there, and the term behind
--- is the one before with the other side's instance in its place.
-pub record ReplacesAt (from to before : Tree) (place : ℕ) (after : Tree) : Type 0 where
-  pub inside : place < nodes before
-  pub σ : ℕ → Tree
-  pub from_is : apply σ from ≡ subterm before place
-  pub to_is : put before place (apply σ to) ≡ after
+-- what a step of a chain does at its place
+abbrev pub ReplacesAt : Tree → Tree → Tree → ℕ → Tree → Type 0
+ReplacesAt = Replaces

@@ -9,6 +9,7 @@ use Rattle.uc_term.specs.Positions.{IsPlaceOf}
 use Rattle.uc_term.specs.Variables.{Occurs, in_args, OccursIn, in_first, in_later, IsApp, renumbered_by, place_of}
 use Rattle.uc_term.proofs.Terms.{apply-apply, apply-var, nodes_pos}
 use Rattle.uc_term.proofs.Agree.{same_if, all_same_if}
+use Rattle.uc_unify.specs.Replacing.{ReplacesAt}
 use Rattle.uc_unify.specs.Unifiers.{IsMostGeneral}
 use Rattle.uc_fact.specs.declared.fact.Overlap.{Overlap}
 use Rattle.uc_fact.specs.declared.chain.Chain.{Chain}
@@ -18,7 +19,6 @@ use Rattle.uc_pair.specs.declared.formation.Formation.TheVariants.{Pair, TooLarg
 use Rattle.uc_pair.specs.declared.instances.RenamedApart.{RenamedApart}
 use Rattle.uc_pair.specs.Overlapping.{shifted, Overlapping, IsApart, peak, left_of, inner_from, inner_to, right_of, overlap_at, read_from}
 use Rattle.uc_pair.specs.Pairs.{IsFormation, forms_none, forms_pair, IsPairBy, IsPairOf, ReplaysPair, Replays, names_of}
-use Rattle.uc_fact.specs.Chains.{ReplacesAt}
 use Rattle.uc_pair.specs.Forming.{IsPairByTerms}
 use Rattle.uc_pair.specs.Reading.{renamed, renamed_all, AreApart}
 use Rattle.uc_pair.proofs.Renaming.{apply-renamed, subterm-renamed, put-renamed, unifier_there, Alike, alike}

@@ -6,11 +6,11 @@ use Rattle.uc_term.specs.declared.equation.Side.TheVariants.{Left, Right}
 use Rattle.uc_term.specs.Tree.{Tree}
 use Rattle.uc_term.specs.Positions.{IsPlaceOf}
 use Rattle.uc_term.specs.Variables.{variables, firsts, renumbered_by}
+use Rattle.uc_unify.specs.Replacing.{ReplacesAt}
 use Rattle.uc_fact.specs.declared.fact.Overlap.{Overlap}
 use Rattle.uc_fact.specs.declared.chain.Chain.{Chain}
 use Rattle.uc_fact.specs.declared.chain.By.TheVariants.{Fact}
 use Rattle.uc_fact.specs.Live.{Rule}
-use Rattle.uc_fact.specs.Chains.{ReplacesAt}
 use Rattle.uc_pair.specs.declared.formation.Formation.{Formation}
 use Rattle.uc_pair.specs.declared.formation.Formation.TheVariants.{Pair, TooLarge}
 use Rattle.uc_pair.specs.Overlapping.{Overlapping, Fits, IsTooLarge, peak, left_of, right_of, overlap_at, read_from}

@@ -11,6 +11,5 @@ pub mod Stepping
 pub mod Chaining
 pub mod Scanned
 pub mod Decided
-pub mod Replacing
 pub mod Converting
 pub mod Replays

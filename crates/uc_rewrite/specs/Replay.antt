@@ -6,13 +6,14 @@ use Rattle.uc_term.specs.declared.equation.Side.{Side}
 use Rattle.uc_term.specs.declared.equation.Side.TheVariants.{Left, Right}
 use Rattle.uc_term.specs.Tree.{Tree}
 use Rattle.uc_term.specs.Equations.{side_of, other_side_of}
+use Rattle.uc_unify.specs.Replacing.{ReplacesAt}
 use Rattle.uc_fact.specs.declared.chain.By.{By}
 use Rattle.uc_fact.specs.declared.chain.By.TheVariants.{Axiom, Fact as FactOf}
 use Rattle.uc_fact.specs.declared.chain.Step.{Step}
 use Rattle.uc_fact.specs.declared.chain.Chain.{Chain}
 use Rattle.uc_fact.specs.declared.fact.Fact.{Fact}
 use Rattle.uc_fact.specs.Live.{equation_of}
-use Rattle.uc_fact.specs.Chains.{last_term, end_of, ReplacesAt}
+use Rattle.uc_fact.specs.Chains.{last_term, end_of}
 
 -- the equations that steps may name: the axioms, and the facts' equations behind them
 abbrev pub equations : List Equation → List Fact → List Equation

@@ -2,13 +2,13 @@
 
 ghost use Rattle.std.specs.Prelude.{◌≡◌, ◌↔◌, IsTrue, IfOk, IfSome, MatchOption, Some, None};
 ghost use Rattle.uc_term.specs.Conversion.{Conv};
-ghost use Rattle.uc_fact.specs.Chains.{last_term, ReplacesAt};
+ghost use Rattle.uc_fact.specs.Chains.{last_term};
 ghost use Rattle.uc_rewrite.specs.Replay.{equations, named, IsReplacement, AreReplacements, Replays, ends};
 
 use std::alloc::{AllocError, Global};
 use uc_fact::{By, Chain, Equation, Fact, Step};
-use uc_term::{Pos, Term, end_of, same_nodes};
-use uc_unify::matches_both;
+use uc_term::Term;
+use uc_unify::replaces_at;
 
 /// The two ends of a chain. None exactly where one of its steps names an equation that isn't there, or isn't a replacement of
 /// equals by it: the named way, at the named place, and of nothing else (Birkhoff's replacement of equals). The numbers are
@@ -85,46 +85,5 @@ fn sides<'a>(axioms: &'a [Equation], facts: &'a [Fact], by: By) -> Option<(&'a T
             Some(fact) => Some((&fact.left, &fact.right)),
             None => None,
         },
-    }
-}
-
-/// Whether the place is one of the term before, one substitution makes the two sides the subterms at this place, and all else
-/// is the same.
-fn replaces_at(
-    alloc: Global,
-    from: &Term,
-    to: &Term,
-    before: &Term,
-    pos: Pos,
-    after: &Term,
-) -> Result<bool, AllocError>
-    ensures { IfOk result (λ fits. IsTrue fits ↔ ReplacesAt from.now to.now before.now pos.0 after.now) }
-{
-    let place = pos.0 as usize;
-    let old = before.as_nodes();
-    let new = after.as_nodes();
-    if place >= old.len() {
-        return Ok(false);
-    }
-    if place >= new.len() {
-        return Ok(false);
-    }
-    let old_end = end_of(old, place);
-    let new_end = end_of(new, place);
-    if !same_nodes(&old[..place], &new[..place]) {
-        return Ok(false);
-    }
-    if !same_nodes(&old[old_end..], &new[new_end..]) {
-        return Ok(false);
-    }
-    match matches_both(
-        alloc,
-        from.as_nodes(),
-        &old[place..old_end],
-        to.as_nodes(),
-        &new[place..new_end],
-    )? {
-        None => Ok(false),
-        Some(_) => Ok(true),
     }
 }

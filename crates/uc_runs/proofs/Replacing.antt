@@ -5,7 +5,7 @@ use Rattle.uc_term.specs.declared.node.Sym.{Sym}
 use Rattle.uc_term.specs.Tree.{Tree, var, app, Trees, none, more, apply, nodes, nodes_all, subterms, subterms_all, subterm, put, put_all}
 use Rattle.uc_term.proofs.Terms.{apply-apply, length-subterms, nodes_pos}
 use Rattle.uc_term.proofs.Positions.{high}
-use Rattle.uc_fact.specs.Chains.{ReplacesAt}
+use Rattle.uc_unify.specs.Replacing.{ReplacesAt}
 use Rattle.uc_fact.specs.Live.{Live, Rule, rules_of}
 use Rattle.uc_rewrite.specs.Normalising.{FirstStep, in_arguments, at_the_term, FirstStepAmong, in_this, in_another}
 use Rattle.uc_rewrite.proofs.Reading.{rule_makes}

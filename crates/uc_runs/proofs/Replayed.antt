@@ -13,6 +13,7 @@ use Rattle.uc_term.proofs.Gets.{map-get}
 use Rattle.uc_term.proofs.Terms.{apply-var}
 use Rattle.uc_order.specs.Laws.{Meaning}
 use Rattle.uc_order.specs.Members.{In, in_front, in_rest}
+use Rattle.uc_unify.specs.Replacing.{ReplacesAt}
 use Rattle.uc_fact.specs.declared.chain.By.{By}
 use Rattle.uc_fact.specs.declared.chain.By.TheVariants.{Axiom as ByAxiom, Fact as ByFact}
 use Rattle.uc_fact.specs.declared.chain.Chain.{Chain}
@@ -21,7 +22,7 @@ use Rattle.uc_fact.specs.declared.fact.Fact.{Fact}
 use Rattle.uc_fact.specs.declared.fact.Origin.{Origin}
 use Rattle.uc_fact.specs.declared.fact.Overlap.{Overlap}
 use Rattle.uc_fact.specs.declared.fact.Stop.{Stop}
-use Rattle.uc_fact.specs.Chains.{last_term, ReplacesAt, one_step, followed_by, step_back, steps_back, reversed, renumbered_step, renumbered_chain}
+use Rattle.uc_fact.specs.Chains.{last_term, one_step, followed_by, step_back, steps_back, reversed, renumbered_step, renumbered_chain}
 use Rattle.uc_fact.specs.Live.{Live, Rule, rules_of, numbered_from, equation_of}
 use Rattle.uc_rewrite.specs.declared.normal.Normal.{Normal}
 use Rattle.uc_rewrite.specs.Normalising.{is_left, step_by, FirstRule, this_rule, later_rule, FirstStep, in_arguments, at_the_term, FirstStepAmong, in_this, in_another, Normalises, is_full, is_spent, is_large, goes_on, IsNormalOf}

@@ -1,4 +1,4 @@
-use Rattle.uc_rewrite.proofs.Decided.{not_of, of}
+use Rattle.uc_unify.proofs.Decided.{not_of, of}
 use Rattle.uc_rewrite.proofs.Replays.{step_at, nothing_left, reached_none, reached_more, reached_all, stops_here}
 use Rattle.uc_rewrite.proofs.replaying.replayed.Goals as goal
 
