@@ -11,9 +11,9 @@ use Rattle.uc_term.proofs.Terms.{length-flat, whole_flat_list, whole_list}
 use Rattle.uc_term.proofs.Parts.{split}
 use Rattle.uc_term.proofs.Ahead.{at_place}
 use Rattle.uc_term.proofs.Put.{flat-put}
+use Rattle.uc_unify.specs.Replacing.{ReplacesAt}
+use Rattle.uc_unify.proofs.Splicing.{not_within}
 use Rattle.uc_order.specs.Members.{In, in_front, in_rest}
-use Rattle.uc_check.specs.Replacements.{ReplacesAt}
-use Rattle.uc_check.proofs.Replacing.{not_within}
 use Rattle.uc_certify.specs.Knowing.{HasKnown}
 use Rattle.uc_certify.specs.Replacing.{FallsAt}
 
@@ -94,7 +94,7 @@ module _ (t u : Tree) (ns ms : List Node) (p : ℕ) (ns_is : ns ≡ flat t) (ms_
     where
       go : (p < length ms) ⊎ (length ms ≤ p) → p < length ms
       go (inl l) = l
-      go (inr l) = absurd (not_within t u ns ms p ns_is ms_is inside from to l r)
+      go (inr l) = absurd (not_within t u ns ms p ns_is ms_is in_old from to l r)
 
   -- what stands at the place behind is what was put there
   put_there : (w : Tree) → put t p w ≡ u → tree_of (drop p ms) ≡ w
@@ -131,5 +131,5 @@ module _ (t u : Tree) (ns ms : List Node) (p : ℕ) (ns_is : ns ≡ flat t) (ms_
     pub greater_of : FallsAt Greater from to t p u → Greater (tree_of (take (e - p) (drop p ns))) (tree_of (take (f - p) (drop p ms)))
     greater_of h = subst (λ (x : Tree). Greater x (tree_of (take (f - p) (drop p ms)))) (sym (part_is t ns p e ns_is in_old e_is)) (subst (Greater (subterm t p)) (sym (new_is (apply h.σ to) h.to_is)) h.greater)
 
-pub no_fall : (Greater : Tree → Tree → Type 0) (from to t u : Tree) (p : ℕ) → (ReplacesAt from to t p u → ⊥) → FallsAt Greater from to t p u → ⊥
-no_fall Greater from to t u p n h = n (record { σ = h.σ; from_is = h.from_is; to_is = h.to_is })
+pub no_fall : (Greater : Tree → Tree → Type 0) (from to t u : Tree) (p : ℕ) → p < nodes t → (ReplacesAt from to t p u → ⊥) → FallsAt Greater from to t p u → ⊥
+no_fall Greater from to t u p inside n h = n (record { inside = inside; σ = h.σ; from_is = h.from_is; to_is = h.to_is })

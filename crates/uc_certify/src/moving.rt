@@ -4,7 +4,6 @@ ghost use Rattle.std.specs.Prelude.{◌≡◌, ◌<◌, ◌↔◌, IsTrue, IfOk,
 ghost use Rattle.uc_term.specs.Over.{IsOver};
 ghost use Rattle.uc_term.specs.Tree.{nodes};
 ghost use Rattle.uc_order.specs.Laws.{HasSym};
-ghost use Rattle.uc_check.specs.Replacements.{ReplacesAt};
 ghost use Rattle.uc_certificate.specs.Arities.{KeepsArities, MovesKeepArities};
 ghost use Rattle.uc_certify.specs.Knowing.{IsSetOf, HasKnown, IsKnownNode};
 ghost use Rattle.uc_certify.specs.Moving.{moved, IsMove, AreMoves};
@@ -15,8 +14,8 @@ use crate::symbol_set::SymbolSet;
 use std::alloc::{AllocError, Global};
 use uc_certificate::Move;
 use uc_fact::Equation;
-use uc_term::{Node, Pos, Term, end_of, same_nodes};
-use uc_unify::matches_both;
+use uc_term::{Node, Pos, Term, end_of};
+use uc_unify::replaces_at;
 
 /// The facts by which moves are made, and the symbols that may stand in terms.
 #[derive(Drop)]
@@ -144,42 +143,4 @@ fn falls_at<C: Comparison>(
     let old_end = end_of(old, place);
     let new_end = end_of(new, place);
     Ok(comparison.is_greater(&old[place..old_end], &new[place..new_end]))
-}
-
-/// Whether one substitution makes the two sides the subterms at this place, and all else is the same.
-fn replaces_at(
-    alloc: Global,
-    from: &Term,
-    to: &Term,
-    before: &Term,
-    pos: Pos,
-    after: &Term,
-) -> Result<bool, AllocError>
-    requires { pos.0 < nodes before.now }
-    ensures { IfOk result (λ fits. IsTrue fits ↔ ReplacesAt from.now to.now before.now pos.0 after.now) }
-{
-    let place = pos.0 as usize;
-    let old = before.as_nodes();
-    let new = after.as_nodes();
-    if place >= new.len() {
-        return Ok(false);
-    }
-    let old_end = end_of(old, place);
-    let new_end = end_of(new, place);
-    if !same_nodes(&old[..place], &new[..place]) {
-        return Ok(false);
-    }
-    if !same_nodes(&old[old_end..], &new[new_end..]) {
-        return Ok(false);
-    }
-    match matches_both(
-        alloc,
-        from.as_nodes(),
-        &old[place..old_end],
-        to.as_nodes(),
-        &new[place..new_end],
-    )? {
-        None => Ok(false),
-        Some(_) => Ok(true),
-    }
 }

@@ -2,8 +2,6 @@ pub mod Once
 pub mod Sound
 pub mod Renaming
 pub mod Named
-pub mod Replacing
-pub mod Decided
 pub mod Steps
 pub mod Pairs
 pub mod Earlier

@@ -1,6 +1,6 @@
 -- Steps of a chain: replacements of equals by equals.
 use Rattle.std.specs.Prelude.{ℕ, ◌≡◌, ◌<◌, Bool, true, List, [], ◌∷◌, slice_get, Some, Result, Ok, Err, if◌then◌else◌}
-use Rattle.uc_term.specs.Tree.{Tree, apply, subterm, put}
+use Rattle.uc_term.specs.Tree.{Tree, apply}
 use Rattle.uc_term.specs.Path.{at_position, put_position}
 use Rattle.uc_check.specs.declared.proof.Line.{Line}
 use Rattle.uc_check.specs.declared.proof.LineStep.{LineStep}
@@ -44,10 +44,3 @@ Leads lines k t (step ∷ steps) end = Test (step.by < k) (Err NotEarlier) (Test
 abbrev pub chain_end : Tree → List LineStep → Tree
 chain_end t [] = t
 chain_end t (step ∷ steps) = chain_end step.to steps
-
--- At this place one substitution makes a side the subterm of the term before, and the term behind is the one before with the
--- other side's instance in its place.
-pub record ReplacesAt (from to before : Tree) (place : ℕ) (after : Tree) : Type 0 where
-  pub σ : ℕ → Tree
-  pub from_is : apply σ from ≡ subterm before place
-  pub to_is : put before place (apply σ to) ≡ after

@@ -3,7 +3,6 @@ use Rattle.std.specs.Prelude.{ℕ, ◌≡◌, ◌++◌, not, true, List, [], ◌
 use Rattle.uc_term.specs.Tree.{Tree}
 use Rattle.uc_term.specs.Variables.{variables, renumbered_by}
 use Rattle.uc_term.specs.declared.equation.Equation.{Equation}
-use Rattle.uc_unify.specs.Replacing.{ReplacesAt as Replaces}
 use Rattle.uc_fact.specs.declared.chain.By.{By}
 use Rattle.uc_fact.specs.declared.chain.Step.{Step}
 use Rattle.uc_fact.specs.declared.chain.Chain.{Chain}
@@ -57,7 +56,3 @@ renumbered_step names step = record { by = step.by; left_to_right = step.left_to
 -- the chain with its variables numbered by a list of names
 abbrev pub renumbered_chain : List ℕ → Chain → Chain
 renumbered_chain names chain = record { start = renumbered_by names chain.start; steps = map (renumbered_step names) chain.steps }
-
--- what a step of a chain does at its place
-abbrev pub ReplacesAt : Tree → Tree → Tree → ℕ → Tree → Type 0
-ReplacesAt = Replaces

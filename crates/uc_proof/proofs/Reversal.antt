@@ -5,10 +5,11 @@ use Rattle.uc_term.specs.declared.equation.Equation.{Equation}
 use Rattle.uc_term.specs.Equations.{side_of, other_side_of}
 use Rattle.uc_term.specs.Tree.{Tree, var, app, Trees, none, more, apply, nodes, nodes_all, subterms, subterms_all, put, put_all}
 use Rattle.uc_term.proofs.Terms.{length-subterms, nodes_pos}
+use Rattle.uc_unify.specs.Replacing.{ReplacesAt}
 use Rattle.uc_fact.specs.declared.chain.Step.{Step}
 use Rattle.uc_fact.specs.declared.chain.Chain.{Chain}
 use Rattle.uc_fact.specs.declared.fact.Fact.{Fact}
-use Rattle.uc_fact.specs.Chains.{last_term, ReplacesAt, step_back, steps_back}
+use Rattle.uc_fact.specs.Chains.{last_term, step_back, steps_back}
 use Rattle.uc_rewrite.specs.Replay.{replaced_side, IsReplacement, AreReplacements, LeadsFrom}
 use Rattle.uc_pair.proofs.Replacing.{put_here, put_later, where_is}
 use Rattle.uc_problem.specs.declared.problem.Encoded.{Encoded}

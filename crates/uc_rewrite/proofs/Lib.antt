@@ -10,6 +10,5 @@ pub mod Testing
 pub mod Stepping
 pub mod Chaining
 pub mod Scanned
-pub mod Decided
 pub mod Converting
 pub mod Replays

@@ -13,7 +13,7 @@ use Rattle.uc_fact.specs.Live.{numbered, equations_of}
 use Rattle.uc_fact.specs.Ordered.{OStep, IsIrreducible}
 use Rattle.uc_rewrite.specs.Ends.{CanStep}
 use Rattle.uc_rewrite.proofs.Unique.{step_falls}
-use Rattle.uc_rewrite.proofs.Decided.{never, always}
+use Rattle.uc_unify.proofs.Decided.{never, always}
 use Rattle.uc_machine.specs.Results.{Reduces, in_left, in_right, has_instance, StepsIn, IsInstanceFrom}
 use Rattle.uc_task.specs.Reducing.{Gives, HasInstance}
 

@@ -4,7 +4,7 @@ use Rattle.uc_certify.proofs.Falling.{part_whole, part_known, in_old, in_new, fa
 use Rattle.uc_certify.proofs.moving.falls_at.Goals as goal
 
 pub returns-then-not-branch : goal.returns-then-not-branch
-returns-then-not-branch g c = never (no_fall (g.C.Comparison.greater c.args.comparison.now) c.args.from.now c.args.to.now c.args.before.now c.args.after.now c.args.pos.0 (not_of c.in_ok-replaces_at.field-0 c.if-not-branch.true c.in_ok-replaces_at.ensures))
+returns-then-not-branch g c = never (no_fall (g.C.Comparison.greater c.args.comparison.now) c.args.from.now c.args.to.now c.args.before.now c.args.after.now c.args.pos.0 c.requires.inside (not_of c.in_ok-replaces_at.field-0 c.if-not-branch.true c.in_ok-replaces_at.ensures))
 
 pub end_of-old_end-requires-clause-whole : goal.end_of-old_end-requires-clause-whole
 end_of-old_end-requires-clause-whole g c = whole_flat_list c.as_nodes-old.result.now c.args.before.now c.as_nodes-old.ensures.value

@@ -1,5 +1,5 @@
 use Rattle.std.proofs.Common.{[], sym, append-nil}
-use Rattle.uc_rewrite.proofs.Decided.{not_of}
+use Rattle.uc_unify.proofs.Decided.{not_of}
 use Rattle.uc_task.specs.Meeting.{is_killed, is_spared, not_earlier}
 use Rattle.uc_task.proofs.meet.add_kill.Goals as goal
 

@@ -1,6 +1,6 @@
 use Rattle.std.proofs.Common.{◌↔◌, IsTrue}
 use Rattle.std.proofs.lemmas.Result.{IfOk-weaker}
-use Rattle.uc_rewrite.proofs.Decided.{never}
+use Rattle.uc_unify.proofs.Decided.{never}
 use Rattle.uc_machine.specs.Results.{Reduces}
 use Rattle.uc_shelf.specs.Lending.{lent_of}
 use Rattle.uc_task.specs.Meeting.{IsReducedByIt}

@@ -1,4 +1,4 @@
-use Rattle.uc_rewrite.proofs.Decided.{not_of}
+use Rattle.uc_unify.proofs.Decided.{not_of}
 use Rattle.uc_task.proofs.Meetings.{none_start, none_next, none_end, first_here}
 use Rattle.uc_task.proofs.meet.stale_by.Goals as goal
 

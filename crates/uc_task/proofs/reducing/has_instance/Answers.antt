@@ -1,6 +1,6 @@
 use Rattle.std.proofs.Common.{◌↔◌, IsTrue}
 use Rattle.std.proofs.lemmas.Result.{IfOk-weaker}
-use Rattle.uc_rewrite.proofs.Decided.{always, not_of}
+use Rattle.uc_unify.proofs.Decided.{always, not_of}
 use Rattle.uc_task.specs.Reducing.{Gives, HasInstance}
 use Rattle.uc_task.proofs.Reduced.{given_forth, given_back, instance_back}
 use Rattle.uc_task.proofs.reducing.has_instance.Goals as goal

@@ -1,6 +1,6 @@
 use Rattle.std.proofs.Common.{◌↔◌, IsTrue}
 use Rattle.std.proofs.lemmas.Result.{IfOk-weaker}
-use Rattle.uc_rewrite.proofs.Decided.{always, not_of}
+use Rattle.uc_unify.proofs.Decided.{always, not_of}
 use Rattle.uc_machine.specs.Results.{Reduces, in_left, in_right}
 use Rattle.uc_task.specs.Reducing.{HasInstance}
 use Rattle.uc_task.proofs.Reduced.{reduces_by_instance}

@@ -1,5 +1,5 @@
 use Rattle.std.proofs.Common.{◌∙◌}
-use Rattle.uc_rewrite.proofs.Decided.{never, always}
+use Rattle.uc_unify.proofs.Decided.{never, always}
 use Rattle.uc_task.proofs.Reduced.{no_step_in, step_in}
 use Rattle.uc_task.proofs.reducing.steps_in.Goals as goal
 
