@@ -8,12 +8,13 @@ use Rattle.uc_words.specs.declared.command.Verb.{Verb}
 use Rattle.uc_words.specs.declared.command.Verb.TheVariants as verb
 use Rattle.uc_words.specs.Reads.{Reads}
 use Rattle.uc_words.specs.declared.command.OrderWords.{OrderWords}
-use Rattle.uc_top.specs.OrderAnswers.{IsOrdered}
+use Rattle.uc_top.specs.declared.listing.Listing.{Listing}
+use Rattle.uc_top.specs.declared.listing.Listing.TheVariants.{Directions, CriticalPairs}
+use Rattle.uc_top.specs.ListAnswers.{IsListed}
 use Rattle.uc_top.specs.RewriteAnswers.{IsRewritten}
-use Rattle.uc_top.specs.PairsAnswers.{IsPaired}
 use Rattle.uc_top.specs.ProveAnswers.{ProveAnswers}
 use Rattle.uc_top.specs.DecideAnswers.{IsDecided}
-use Rattle.uc_top.specs.Answers.{IsShown, ProblemAnswers, CheckAnswers, ShowAnswers, OrderAnswers, RewriteAnswers, PairsAnswers, DecideAnswers, TableAnswers, ModelAnswers, CertifyAnswers, SystemAnswers, IsSearching, SearchesAlone, Answers}
+use Rattle.uc_top.specs.Answers.{IsShown, ProblemAnswers, CheckAnswers, ShowAnswers, ListAnswers, RewriteAnswers, DecideAnswers, TableAnswers, ModelAnswers, CertifyAnswers, SystemAnswers, IsSearching, SearchesAlone, Answers}
 use Rattle.uc_top.proofs.Positionals.{first_name, second_name, head_name, tail_names, only_name}
 use Rattle.uc_top.specs.FileAnswers.{FileAnswers}
 use Rattle.uc_top.specs.TableAnswers.{TableTextAnswers}
@@ -27,9 +28,8 @@ use Rattle.uc_top.proofs.TabledOnce.{table_text_once}
 use Rattle.uc_top.proofs.ModelledOnce.{modelled_once}
 use Rattle.uc_top.proofs.CertifiedOnce.{certified_answer_once, certificate_once}
 use Rattle.uc_top.proofs.SystemOnce.{asked_is_once}
-use Rattle.uc_top.proofs.OrderOnce.{ordered_once}
+use Rattle.uc_top.proofs.ListedOnce.{listed_once}
 use Rattle.uc_top.proofs.RewriteOnce.{rewritten_once}
-use Rattle.uc_top.proofs.PairsOnce.{paired_once}
 use Rattle.uc_top.proofs.CheckEnding.{check_answers_once}
 use Rattle.uc_top.proofs.SearchLaws.{OneSearch}
 use Rattle.uc_top.proofs.ProveOnce.{prove_answers_once}
@@ -45,14 +45,11 @@ module _ (files : Files) (before now again later : ℕ) where
   show_once : (root : Option (List ℕ)) (name : List ℕ) {s t : ℕ} {a b : List ℕ} → (s ≡ 5 → Rose before now → ⊥) → (t ≡ 5 → Rose again later → ⊥) → ShowAnswers (Some files) before now root name s a → ShowAnswers (Some files) again later root name t b → (s ≡ t) × (a ≡ b)
   show_once root name v w x y = load_once files root name before now again later IsShown IsShown (λ table problem s t a b d l v w p q. (p.0 ∙ sym q.0, p.1 ∙ sym q.1)) v w x y
 
-  order_once : (words : OrderWords) (root : Option (List ℕ)) (name : List ℕ) {s t : ℕ} {a b : List ℕ} → (s ≡ 5 → Rose before now → ⊥) → (t ≡ 5 → Rose again later → ⊥) → OrderAnswers (Some files) before now words root name s a → OrderAnswers (Some files) again later words root name t b → (s ≡ t) × (a ≡ b)
-  order_once words root name v w x y = load_once files root name before now again later (λ table. IsOrdered table words) (λ table. IsOrdered table words) (λ table problem s t a b d l v w p q. ordered_once table words problem p q) v w x y
+  list_once : (listing : Listing) (words : OrderWords) (root : Option (List ℕ)) (name : List ℕ) {s t : ℕ} {a b : List ℕ} → (s ≡ 5 → Rose before now → ⊥) → (t ≡ 5 → Rose again later → ⊥) → ListAnswers (Some files) before now listing words root name s a → ListAnswers (Some files) again later listing words root name t b → (s ≡ t) × (a ≡ b)
+  list_once listing words root name v w x y = load_once files root name before now again later (λ table. IsListed listing table words) (λ table. IsListed listing table words) (λ table problem s t a b d l v w p q. listed_once listing table words problem p q) v w x y
 
   rewrite_once : (words : OrderWords) (limit : ℕ) (word : List ℕ) (root : Option (List ℕ)) (name : List ℕ) {s t : ℕ} {a b : List ℕ} → (s ≡ 5 → Rose before now → ⊥) → (t ≡ 5 → Rose again later → ⊥) → RewriteAnswers (Some files) before now words limit word root name s a → RewriteAnswers (Some files) again later words limit word root name t b → (s ≡ t) × (a ≡ b)
   rewrite_once words limit word root name v w x y = load_once files root name before now again later (λ table. IsRewritten table words limit word) (λ table. IsRewritten table words limit word) (λ table problem s t a b d l v w p q. rewritten_once table d words limit word problem (signature_has table problem l.holds.agrees) p q) v w x y
-
-  pairs_once : (words : OrderWords) (root : Option (List ℕ)) (name : List ℕ) {s t : ℕ} {a b : List ℕ} → (s ≡ 5 → Rose before now → ⊥) → (t ≡ 5 → Rose again later → ⊥) → PairsAnswers (Some files) before now words root name s a → PairsAnswers (Some files) again later words root name t b → (s ≡ t) × (a ≡ b)
-  pairs_once words root name v w x y = load_once files root name before now again later (λ table. IsPaired table words) (λ table. IsPaired table words) (λ table problem s t a b d l v w p q. paired_once table words problem p q) v w x y
 
   check_once : (root : Option (List ℕ)) (name proof : List ℕ) {s t : ℕ} {a b : List ℕ} → (s ≡ 5 → Rose before now → ⊥) → (t ≡ 5 → Rose again later → ⊥) → CheckAnswers (Some files) before now root name proof s a → CheckAnswers (Some files) again later root name proof t b → (s ≡ t) × (a ≡ b)
   check_once root name proof v w x y = load_once files root name before now again later (ProblemAnswers (Some files) before now proof) (ProblemAnswers (Some files) again later proof) (λ table problem s t a b d l v w p q. check_answers_once files root name table problem l before now again later proof v w p q) v w x y
@@ -102,13 +99,13 @@ module _ (files : Files) (before now again later : ℕ) where
         let names : named ∷ proved ∷ [] ≡ name ∷ proof ∷ [] = sym q ∙ p in
         check_once k.root name proof v w x (subst (λ n. CheckAnswers (Some files) again later k.root n proof t b) (first_name names) (subst (λ n. CheckAnswers (Some files) again later k.root named n t b) (second_name names) y))
     verb_once verb.Show k within {t = t} {b = b} alone v w (name, p, x) (named, q, y) = show_once k.root name v w x (subst (λ n. ShowAnswers (Some files) again later k.root n t b) (only_name (sym q ∙ p)) y)
-    verb_once verb.Order k within {t = t} {b = b} alone v w (name, p, x) (named, q, y) = order_once k.order k.root name v w x (subst (λ n. OrderAnswers (Some files) again later k.order k.root n t b) (only_name (sym q ∙ p)) y)
+    verb_once verb.Order k within {t = t} {b = b} alone v w (name, p, x) (named, q, y) = list_once Directions k.order k.root name v w x (subst (λ n. ListAnswers (Some files) again later Directions k.order k.root n t b) (only_name (sym q ∙ p)) y)
     verb_once verb.Prove k within alone v w x y = prove_command_once k within (λ few. alone few tt) v w x y
     verb_once verb.Decide k within alone v w x y = decide_command_once k within alone v w x y
     verb_once verb.Rewrite k within {t = t} {b = b} alone v w (name, word, p, x) (named, other, q, y) =
         let names : named ∷ other ∷ [] ≡ name ∷ word ∷ [] = sym q ∙ p in
         rewrite_once k.order k.limit word k.root name v w x (subst (λ n. RewriteAnswers (Some files) again later k.order k.limit word k.root n t b) (first_name names) (subst (λ u. RewriteAnswers (Some files) again later k.order k.limit u k.root named t b) (second_name names) y))
-    verb_once verb.Pairs k within {t = t} {b = b} alone v w (name, p, x) (named, q, y) = pairs_once k.order k.root name v w x (subst (λ n. PairsAnswers (Some files) again later k.order k.root n t b) (only_name (sym q ∙ p)) y)
+    verb_once verb.Pairs k within {t = t} {b = b} alone v w (name, p, x) (named, q, y) = list_once CriticalPairs k.order k.root name v w x (subst (λ n. ListAnswers (Some files) again later CriticalPairs k.order k.root n t b) (only_name (sym q ∙ p)) y)
     verb_once verb.Gen k within alone v w x y = gen_once one_search k (λ few. alone few tt) x y
     verb_once verb.Table k within {t = t} {b = b} alone v w (name, file, p, x) (named, other, q, y) =
         let names : named ∷ other ∷ [] ≡ name ∷ file ∷ [] = sym q ∙ p in

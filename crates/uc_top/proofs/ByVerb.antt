@@ -8,7 +8,8 @@ use Rattle.uc_words.specs.Reads.{Reads}
 use Rattle.uc_words.proofs.Only.{only}
 use Rattle.uc_problem.proofs.Outcomes.{some_once, some_or_none}
 use Rattle.uc_answer.specs.Lines.{usage_line}
-use Rattle.uc_top.specs.Answers.{CheckAnswers, ShowAnswers, OrderAnswers, RewriteAnswers, PairsAnswers, DecideAnswers, TableAnswers, ModelAnswers, CertifyAnswers, SystemAnswers, Answers, has_no_reading, checks, shows, orders, rewrites, pairs_up, proves, decides, decides_by_certificate, tables, models, certifies, generates}
+use Rattle.uc_top.specs.declared.listing.Listing.TheVariants.{Directions, CriticalPairs}
+use Rattle.uc_top.specs.Answers.{CheckAnswers, ShowAnswers, ListAnswers, RewriteAnswers, DecideAnswers, TableAnswers, ModelAnswers, CertifyAnswers, SystemAnswers, Answers, has_no_reading, checks, shows, orders, rewrites, pairs_up, proves, decides, decides_by_certificate, tables, models, certifies, generates}
 use Rattle.uc_top.specs.ProveAnswers.{ProveAnswers}
 use Rattle.uc_top.specs.GenAnswers.{GenAnswers}
 
@@ -42,11 +43,11 @@ module _ (holds : Option Files) (before now : ℕ) where
   abbrev pub Of : Verb → Command → ℕ → List ℕ → Type 0
   Of verb.Check k status text = (name : List ℕ) × (proof : List ℕ) × (k.positionals ≡ name ∷ proof ∷ []) × CheckAnswers holds before now k.root name proof status text
   Of verb.Show k status text = (name : List ℕ) × (k.positionals ≡ name ∷ []) × ShowAnswers holds before now k.root name status text
-  Of verb.Order k status text = (name : List ℕ) × (k.positionals ≡ name ∷ []) × OrderAnswers holds before now k.order k.root name status text
+  Of verb.Order k status text = (name : List ℕ) × (k.positionals ≡ name ∷ []) × ListAnswers holds before now Directions k.order k.root name status text
   Of verb.Prove k status text = OfProve k status text
   Of verb.Decide k status text = OfDecide k status text
   Of verb.Rewrite k status text = (name : List ℕ) × (word : List ℕ) × (k.positionals ≡ name ∷ word ∷ []) × RewriteAnswers holds before now k.order k.limit word k.root name status text
-  Of verb.Pairs k status text = (name : List ℕ) × (k.positionals ≡ name ∷ []) × PairsAnswers holds before now k.order k.root name status text
+  Of verb.Pairs k status text = (name : List ℕ) × (k.positionals ≡ name ∷ []) × ListAnswers holds before now CriticalPairs k.order k.root name status text
   Of verb.Gen k status text = GenAnswers k status text
   Of verb.Table k status text = (name : List ℕ) × (file : List ℕ) × (k.positionals ≡ name ∷ file ∷ []) × TableAnswers holds before now k.root name file status text
   Of verb.Certify k status text = (name : List ℕ) × (file : List ℕ) × (k.positionals ≡ name ∷ file ∷ []) × CertifyAnswers holds before now k.root name file status text

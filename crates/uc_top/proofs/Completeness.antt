@@ -3,12 +3,12 @@ use Rattle.std.proofs.Common.{ℕ, ◌≡◌, List, Option, Some}
 use Rattle.uc_edge.specs.Files.{Files}
 use Rattle.uc_edge.specs.Faults.{Rose}
 use Rattle.uc_top.specs.Runs.{IsRun}
+use Rattle.uc_top.specs.declared.listing.Listing.TheVariants.{Directions, CriticalPairs}
 use Rattle.uc_top.specs.Completeness.{IsComplete}
 use Rattle.uc_top.proofs.Completing.{completes}
 use Rattle.uc_top.proofs.CheckEnding.{completes_check}
-use Rattle.uc_top.proofs.OrderCompleting.{order_completes}
+use Rattle.uc_top.proofs.ListCompleting.{list_completes}
 use Rattle.uc_top.proofs.RewriteCompleting.{rewrite_completes}
-use Rattle.uc_top.proofs.PairsCompleting.{pairs_complete}
 use Rattle.uc_top.proofs.ProveCompleting.{prove_completes}
 use Rattle.uc_top.proofs.DecideCompleting.{decide_completes}
 use Rattle.uc_top.proofs.SystemCompleting.{system_completes}
@@ -21,9 +21,9 @@ pub all_complete : (holds : Option Files) (before now : ℕ) (words : List (List
 all_complete holds before now words old new write_before write_now result run files told fetched written = record {
   show = completes holds before now words old new write_before write_now result run files told fetched written;
   check = completes_check holds before now words old new write_before write_now result run files told fetched written;
-  order = order_completes holds before now words old new write_before write_now result run files told fetched written;
+  order = list_completes Directions holds before now words old new write_before write_now result run files told fetched written;
   rewrite = rewrite_completes holds before now words old new write_before write_now result run files told fetched written;
-  pairs = pairs_complete holds before now words old new write_before write_now result run files told fetched written;
+  pairs = list_completes CriticalPairs holds before now words old new write_before write_now result run files told fetched written;
   prove = prove_completes holds before now words old new write_before write_now result run files told fetched written;
   decide = decide_completes holds before now words old new write_before write_now result run files told fetched written;
   system = system_completes holds before now words old new write_before write_now result run files told fetched written;

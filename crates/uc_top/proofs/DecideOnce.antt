@@ -30,7 +30,7 @@ use Rattle.uc_answer.proofs.OneQuestion.{questions_once, questions_or_fault, fir
 use Rattle.uc_answer.proofs.OneReply.{replies_once}
 use Rattle.uc_answer.proofs.OneVerdict.{isnt_saturated, limit_once}
 use Rattle.uc_top.specs.DecideAnswers.{opening_of_axioms, facts_of, IsDecided, is_unordered, is_no_question, is_answered, is_out}
-use Rattle.uc_top.proofs.OrderedAnswers.{is_signature}
+use Rattle.uc_top.proofs.OwnSignatures.{is_signature}
 use Rattle.uc_top.proofs.SearchLaws.{OneSearch}
 
 -- answers to questions have status 0 or 2

@@ -28,7 +28,7 @@ use Rattle.uc_answer.proofs.OrderLaws.{spec_laws}
 use Rattle.uc_top.specs.ProveRuns.{IsHeldAnswer}
 use Rattle.uc_top.specs.DecideAnswers.{opening_of_axioms}
 use Rattle.uc_top.specs.DecideRuns.{IsHeldDecision}
-use Rattle.uc_top.proofs.OrderedAnswers.{is_signature}
+use Rattle.uc_top.proofs.OwnSignatures.{is_signature}
 use Rattle.uc_top.proofs.ProveOnce.{chosen_fits}
 use Rattle.uc_top.proofs.SearchLaws.{OneSearch}
 use Rattle.uc_top.proofs.EncodedTables.{marks_grow}

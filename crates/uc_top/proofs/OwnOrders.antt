@@ -39,7 +39,7 @@ use Rattle.uc_top.proofs.CertificateOrders.{own_known}
 use Rattle.uc_top.proofs.CertificateTexts.{read_system}
 use Rattle.uc_top.proofs.DecidedAnswers.{axioms_over}
 use Rattle.uc_top.proofs.EncodedTables.{marks_grow}
-use Rattle.uc_top.proofs.OrderedAnswers.{is_signature}
+use Rattle.uc_top.proofs.OwnSignatures.{is_signature}
 
 -- the symbols of a description that fits a signature are the table's
 fits_named : (table : Table) (signature : List Sym) (spec : OrderSpec) → Fits table signature spec → (f : Sym) → In (symbols_of spec) f → Has table f

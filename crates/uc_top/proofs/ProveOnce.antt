@@ -39,7 +39,7 @@ use Rattle.uc_answer.proofs.OrderLaws.{spec_laws}
 use Rattle.uc_answer.proofs.OneVerdict.{verdict_once}
 use Rattle.uc_top.specs.ProveAnswers.{IsProveAnswer, has_large_goal, is_unordered, is_searched, ProveAnswers, fetch_fails, is_refused, is_loaded}
 use Rattle.uc_top.proofs.LoadedOnce.{loaded_once}
-use Rattle.uc_top.proofs.OrderedAnswers.{is_signature}
+use Rattle.uc_top.proofs.OwnSignatures.{is_signature}
 use Rattle.uc_top.proofs.SearchLaws.{OneSearch}
 
 -- a search ends with status 0, 1 or 2

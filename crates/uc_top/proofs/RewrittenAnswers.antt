@@ -32,7 +32,7 @@ use Rattle.uc_answer.proofs.LeastConstants.{least_of}
 use Rattle.uc_answer.proofs.PrintableSteps.{rules_over, printable}
 use Rattle.uc_top.specs.RewriteAnswers.{IsNormalFor, IsRewritten, is_unordered, is_no_term, is_normalised}
 use Rattle.uc_top.proofs.Answering.{one_line}
-use Rattle.uc_top.proofs.OrderedAnswers.{axioms_over}
+use Rattle.uc_top.proofs.OwnSignatures.{axioms_over}
 
 module _ (table : Table) (spec : OrderSpec) (order : Chosen) (h : IsOrderOf table spec order) where
   pub normal_for : (limit : ℕ) (problem : Problem) (t : Tree) (normal : Normal) → IsNormalOf (chosen_meaning order).greater (chosen_meaning order).least (numbered (axioms_of problem.clauses)) limit t normal → IsNormalFor table spec limit problem t normal

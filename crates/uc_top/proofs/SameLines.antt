@@ -21,7 +21,7 @@ use Rattle.uc_answer.specs.ReplyLines.{reply_line}
 use Rattle.uc_answer.specs.RightReplies.{AreRight, none_is_wrong, one_is_right}
 use Rattle.uc_answer.proofs.OrderLaws.{spec_laws}
 use Rattle.uc_top.specs.DecideRuns.{IsAnswered, IsOut, TellsLine, Tells, KeepsDecision}
-use Rattle.uc_top.proofs.OrderedAnswers.{is_signature}
+use Rattle.uc_top.proofs.OwnSignatures.{is_signature}
 use Rattle.uc_top.proofs.VariableWeights.{w0_within}
 
 -- the reply at its number is right

@@ -35,9 +35,10 @@ use Rattle.uc_top.specs.CertificateAnswers.{CertificateAnswers}
 use Rattle.uc_top.specs.CertifyAnswers.{IsCertifiedAnswer}
 use Rattle.uc_top.specs.SystemAnswers.{IsAskedCertificate}
 use Rattle.uc_top.specs.GenAnswers.{GenAnswers}
-use Rattle.uc_top.specs.OrderAnswers.{IsOrdered}
+use Rattle.uc_top.specs.declared.listing.Listing.{Listing}
+use Rattle.uc_top.specs.declared.listing.Listing.TheVariants.{Directions, CriticalPairs}
+use Rattle.uc_top.specs.ListAnswers.{IsListed}
 use Rattle.uc_top.specs.RewriteAnswers.{IsRewritten}
-use Rattle.uc_top.specs.PairsAnswers.{IsPaired}
 use Rattle.uc_top.specs.ProveAnswers.{ProveAnswers}
 use Rattle.uc_top.specs.DecideAnswers.{IsDecided}
 
@@ -99,18 +100,14 @@ module _ (holds : Option Files) (before now : ℕ) where
   abbrev pub ShowAnswers : Option (List ℕ) → List ℕ → ℕ → List ℕ → Type 0
   ShowAnswers root name = LoadAnswers IsShown root name
 
-  -- the answer to `order` for the problem file of this name, by the order that these words name, with this root
-  abbrev pub OrderAnswers : OrderWords → Option (List ℕ) → List ℕ → ℕ → List ℕ → Type 0
-  OrderAnswers order root name = LoadAnswers (λ table. IsOrdered table order) root name
+  -- the answer to `order` or to `pairs` for the problem file of this name, by the order that these words name, with this root
+  abbrev pub ListAnswers : Listing → OrderWords → Option (List ℕ) → List ℕ → ℕ → List ℕ → Type 0
+  ListAnswers listing order root name = LoadAnswers (λ table. IsListed listing table order) root name
 
   -- the answer to `rewrite` for the problem file of this name and this word, by the order that these words name and with this
   -- limit on the steps, with this root
   abbrev pub RewriteAnswers : OrderWords → ℕ → List ℕ → Option (List ℕ) → List ℕ → ℕ → List ℕ → Type 0
   RewriteAnswers order limit word root name = LoadAnswers (λ table. IsRewritten table order limit word) root name
-
-  -- the answer to `pairs` for the problem file of this name, by the order that these words name, with this root
-  abbrev pub PairsAnswers : OrderWords → Option (List ℕ) → List ℕ → ℕ → List ℕ → Type 0
-  PairsAnswers order root name = LoadAnswers (λ table. IsPaired table order) root name
 
   -- the answer to `decide` for the problem file of this name and these questions, by a search
   abbrev pub DecideAnswers : Command → List ℕ → List (List ℕ) → ℕ → List ℕ → Type 0
@@ -139,9 +136,9 @@ module _ (holds : Option Files) (before now : ℕ) where
       has_no_reading : ((command : Command) → Reads words command → ⊥) → Answers 4 usage_line
       checks : {command : Command} {name proof : List ℕ} {status : ℕ} {answer : List ℕ} → Reads words command → command.verb ≡ verb.Check → command.positionals ≡ name ∷ proof ∷ [] → CheckAnswers command.root name proof status answer → Answers status answer
       shows : {command : Command} {name : List ℕ} {status : ℕ} {answer : List ℕ} → Reads words command → command.verb ≡ verb.Show → command.positionals ≡ name ∷ [] → ShowAnswers command.root name status answer → Answers status answer
-      orders : {command : Command} {name : List ℕ} {status : ℕ} {answer : List ℕ} → Reads words command → command.verb ≡ verb.Order → command.positionals ≡ name ∷ [] → OrderAnswers command.order command.root name status answer → Answers status answer
+      orders : {command : Command} {name : List ℕ} {status : ℕ} {answer : List ℕ} → Reads words command → command.verb ≡ verb.Order → command.positionals ≡ name ∷ [] → ListAnswers Directions command.order command.root name status answer → Answers status answer
       rewrites : {command : Command} {name word : List ℕ} {status : ℕ} {answer : List ℕ} → Reads words command → command.verb ≡ verb.Rewrite → command.positionals ≡ name ∷ word ∷ [] → RewriteAnswers command.order command.limit word command.root name status answer → Answers status answer
-      pairs_up : {command : Command} {name : List ℕ} {status : ℕ} {answer : List ℕ} → Reads words command → command.verb ≡ verb.Pairs → command.positionals ≡ name ∷ [] → PairsAnswers command.order command.root name status answer → Answers status answer
+      pairs_up : {command : Command} {name : List ℕ} {status : ℕ} {answer : List ℕ} → Reads words command → command.verb ≡ verb.Pairs → command.positionals ≡ name ∷ [] → ListAnswers CriticalPairs command.order command.root name status answer → Answers status answer
       proves : {command : Command} {name : List ℕ} {status : ℕ} {answer : List ℕ} → Reads words command → command.verb ≡ verb.Prove → command.positionals ≡ name ∷ [] → ProveAnswers command name holds before now status answer → Answers status answer
       decides : {command : Command} {name : List ℕ} {questions : List (List ℕ)} {status : ℕ} {answer : List ℕ} → Reads words command → command.verb ≡ verb.Decide → command.system ≡ None → command.positionals ≡ name ∷ questions → DecideAnswers command name questions status answer → Answers status answer
       decides_by_certificate : {command : Command} {name file : List ℕ} {questions : List (List ℕ)} {status : ℕ} {answer : List ℕ} → Reads words command → command.verb ≡ verb.Decide → command.system ≡ Some file → command.positionals ≡ name ∷ questions → SystemAnswers command.steps questions file command.root name status answer → Answers status answer

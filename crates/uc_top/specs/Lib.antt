@@ -1,7 +1,6 @@
 pub mod Loaded
-pub mod OrderAnswers
+pub mod ListAnswers
 pub mod RewriteAnswers
-pub mod PairsAnswers
 pub mod ProveAnswers
 pub mod DecideAnswers
 pub mod FileAnswers
@@ -18,9 +17,8 @@ pub mod CertificateTested
 pub mod Answers
 pub mod Runs
 pub mod Given
-pub mod OrderRuns
+pub mod ListRuns
 pub mod RewriteRuns
-pub mod PairsRuns
 pub mod ProveRuns
 pub mod DecideRuns
 pub mod DecideTold

@@ -28,10 +28,9 @@ use crate::checking::check_answer;
 use crate::deciding::decide_answer;
 use crate::deciding_by_certificate::system_answer;
 use crate::generating::gen_answer;
+use crate::listing::{Listing, list_answer};
 use crate::modelling::model_answer;
-use crate::ordering::order_answer;
 use crate::output::{WholeAnswer, tell, tell_memory_out, text_of};
-use crate::pairing::pairs_answer;
 use crate::proving::prove_answer;
 use crate::rewriting::rewrite_answer;
 use crate::showing::show_answer;
@@ -189,7 +188,7 @@ fn command_answer<R: Threads + Wait + Sync, L: Library, G: Gate + Sync>(
             _ => unreachable!(),
         },
         Verb::Order => match command.positionals.as_slice() {
-            [name] => order_answer(alloc, command.root.as_ref(), name, &command.order, library),
+            [name] => list_answer(alloc, command, name, Listing::Directions, library),
             _ => unreachable!(),
         },
         Verb::Rewrite => match command.positionals.as_slice() {
@@ -197,7 +196,7 @@ fn command_answer<R: Threads + Wait + Sync, L: Library, G: Gate + Sync>(
             _ => unreachable!(),
         },
         Verb::Pairs => match command.positionals.as_slice() {
-            [name] => pairs_answer(alloc, command.root.as_ref(), name, &command.order, library),
+            [name] => list_answer(alloc, command, name, Listing::CriticalPairs, library),
             _ => unreachable!(),
         },
         Verb::Table => match command.positionals.as_slice() {

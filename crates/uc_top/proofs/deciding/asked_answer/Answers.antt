@@ -5,7 +5,7 @@ use Rattle.uc_problem.proofs.FreshMarks.{signature_has}
 use Rattle.uc_problem.proofs.Growth.{agrees_later}
 use Rattle.uc_answer.proofs.GroundQuestions.{questions_ground}
 use Rattle.uc_top.proofs.DecidedAnswers.{unordered, misread, refused_promises, told_answers, told_promises}
-use Rattle.uc_top.proofs.OrderedAnswers.{is_signature}
+use Rattle.uc_top.proofs.OwnSignatures.{is_signature}
 use Rattle.uc_top.proofs.deciding.asked_answer.Goals as goal
 
 pub choose-requires-clause-signature : goal.choose-requires-clause-signature

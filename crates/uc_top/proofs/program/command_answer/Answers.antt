@@ -33,7 +33,7 @@ returns-in-len1-clause-answers g c words r =
 pub returns-in-len1-as_slice-clause-answers : goal.returns-in-len1-as_slice-clause-answers
 returns-in-len1-as_slice-clause-answers g c words r =
     let names : c.args.command.now.positionals ≡ c.name-item-then-this-lt2-2.result ∷ [] = sym c.as_slice-in-Order.ensures ∙ one_name c.as_slice-in-Order.result.now c.name-item-then-this-lt2-2.result c.in-len1-as_slice.len_at_least c.in-len1-as_slice.len_below c.name-item-then-this-lt2-2.is in
-    IfOk-weaker c.order_answer.result _ _ (λ answer a. is_answer (orders r c.in-Order.is names a)) (rw c.as_ref-in-len1-as_slice.ensures.value at c.order_answer.ensures.answers)
+    IfOk-weaker c.list_answer.result _ _ (λ answer a. is_answer (orders r c.in-Order.is names a)) c.list_answer.ensures.answers
 
 pub rewrite_answer-requires-clause-short : goal.rewrite_answer-requires-clause-short
 rewrite_answer-requires-clause-short g c =
@@ -48,7 +48,7 @@ returns-in-len2-as_slice-clause-answers g c words r =
 pub returns-in-len1-as_slice-2-clause-answers : goal.returns-in-len1-as_slice-2-clause-answers
 returns-in-len1-as_slice-2-clause-answers g c words r =
     let names : c.args.command.now.positionals ≡ c.name-item-then-this-lt2-3.result ∷ [] = sym c.as_slice-in-Pairs.ensures ∙ one_name c.as_slice-in-Pairs.result.now c.name-item-then-this-lt2-3.result c.in-len1-as_slice-2.len_at_least c.in-len1-as_slice-2.len_below c.name-item-then-this-lt2-3.is in
-    IfOk-weaker c.pairs_answer.result _ _ (λ answer a. is_answer (pairs_up r c.in-Pairs.is names a)) (rw c.as_ref-in-len1-as_slice-2.ensures.value at c.pairs_answer.ensures.answers)
+    IfOk-weaker c.list_answer-in-len1-as_slice-2.result _ _ (λ answer a. is_answer (pairs_up r c.in-Pairs.is names a)) c.list_answer-in-len1-as_slice-2.ensures.answers
 
 pub returns-in-len2-clause-faulted : goal.returns-in-len2-clause-faulted
 returns-in-len2-clause-faulted g c = rw c.in-Check.is c.check_answer.ensures.faulted
@@ -57,13 +57,13 @@ pub returns-in-len1-clause-faulted : goal.returns-in-len1-clause-faulted
 returns-in-len1-clause-faulted g c = rw c.in-Show.is c.show_answer.ensures.faulted
 
 pub returns-in-len1-as_slice-clause-faulted : goal.returns-in-len1-as_slice-clause-faulted
-returns-in-len1-as_slice-clause-faulted g c = rw c.in-Order.is c.order_answer.ensures.faulted
+returns-in-len1-as_slice-clause-faulted g c = rw c.in-Order.is c.list_answer.ensures.faulted
 
 pub returns-in-len2-as_slice-clause-faulted : goal.returns-in-len2-as_slice-clause-faulted
 returns-in-len2-as_slice-clause-faulted g c = rw c.in-Rewrite.is c.rewrite_answer.ensures.faulted
 
 pub returns-in-len1-as_slice-2-clause-faulted : goal.returns-in-len1-as_slice-2-clause-faulted
-returns-in-len1-as_slice-2-clause-faulted g c = rw c.in-Pairs.is c.pairs_answer.ensures.faulted
+returns-in-len1-as_slice-2-clause-faulted g c = rw c.in-Pairs.is c.list_answer-in-len1-as_slice-2.ensures.faulted
 
 pub returns-in-len2-as_slice-2-clause-answers : goal.returns-in-len2-as_slice-2-clause-answers
 returns-in-len2-as_slice-2-clause-answers g c words r =

@@ -2,7 +2,7 @@ use Rattle.std.proofs.Common.{sym, subst, List}
 use Rattle.uc_term.specs.declared.node.Sym.{Sym}
 use Rattle.uc_ordering.specs.Fits.{Fits}
 use Rattle.uc_answer.proofs.PrintableSymbols.{encoded_symbols}
-use Rattle.uc_top.proofs.OrderedAnswers.{is_signature}
+use Rattle.uc_top.proofs.OwnSignatures.{is_signature}
 use Rattle.uc_top.proofs.ProveOnce.{marks_for}
 use Rattle.uc_top.proofs.ProvedAnswers.{unordered, unordered_promises}
 use Rattle.uc_top.proofs.proving.ordered_answer.Goals as goal

@@ -4,7 +4,7 @@ use Rattle.uc_ordering.specs.Fits.{Fits}
 use Rattle.uc_problem.proofs.FreshMarks.{signature_has}
 use Rattle.uc_problem.proofs.Growth.{agrees_later}
 use Rattle.uc_answer.proofs.TermWords.{term_of}
-use Rattle.uc_top.proofs.OrderedAnswers.{is_signature}
+use Rattle.uc_top.proofs.OwnSignatures.{is_signature}
 use Rattle.uc_top.proofs.RewrittenAnswers.{rewritten, no_term, unordered}
 use Rattle.uc_top.proofs.rewriting.rewritten_answer.Goals as goal
 
