@@ -10,6 +10,7 @@ use Rattle.uc_words.specs.Reads.{Reads}
 use Rattle.uc_words.specs.declared.command.OrderWords.{OrderWords}
 use Rattle.uc_top.specs.declared.listing.Listing.{Listing}
 use Rattle.uc_top.specs.declared.listing.Listing.TheVariants.{Directions, CriticalPairs}
+use Rattle.uc_top.specs.Limits.{WeighsWithin}
 use Rattle.uc_top.specs.ListAnswers.{IsListed}
 use Rattle.uc_top.specs.RewriteAnswers.{IsRewritten}
 use Rattle.uc_top.specs.ProveAnswers.{ProveAnswers}
@@ -35,7 +36,7 @@ use Rattle.uc_top.proofs.SearchLaws.{OneSearch}
 use Rattle.uc_top.proofs.ProveOnce.{prove_answers_once}
 use Rattle.uc_top.proofs.DecideOnce.{decided_once}
 use Rattle.uc_top.proofs.GenOnce.{gen_once}
-use Rattle.uc_top.proofs.VariableWeights.{w0_within}
+use Rattle.uc_top.proofs.WithinLimits.{weight_within}
 use Rattle.uc_top.proofs.ByVerb.{IsUsage, OfProve, OfSearch, OfCertificate, OfDecide, by_search, by_certificate, Of, of_command, read_or_not}
 
 -- THE COMMANDS
@@ -68,19 +69,16 @@ module _ (files : Files) (before now again later : ℕ) where
 
   -- There is one search; and a variable's weight is within its limits.
   module _ (one_search : OneSearch) where
-    abbrev IsWithin : Command → Type 0
-    IsWithin k = (1 ≤ k.order.w0) × (k.order.w0 ≤ 1000000)
-
     usage_once : {s t : ℕ} {a b : List ℕ} → IsUsage (Some files) before now s a → IsUsage (Some files) again later t b → (s ≡ t) × (a ≡ b)
     usage_once x y = (x.0 ∙ sym y.0, x.1 ∙ sym y.1)
 
-    decide_once : (k : Command) → IsWithin k → (name : List ℕ) (questions : List (List ℕ)) {s t : ℕ} {a b : List ℕ} → (s ≤ 2 → k.workers ≡ 1) → (s ≡ 5 → Rose before now → ⊥) → (t ≡ 5 → Rose again later → ⊥) → DecideAnswers (Some files) before now k name questions s a → DecideAnswers (Some files) again later k name questions t b → (s ≡ t) × (a ≡ b)
+    decide_once : (k : Command) → WeighsWithin k.order → (name : List ℕ) (questions : List (List ℕ)) {s t : ℕ} {a b : List ℕ} → (s ≤ 2 → k.workers ≡ 1) → (s ≡ 5 → Rose before now → ⊥) → (t ≡ 5 → Rose again later → ⊥) → DecideAnswers (Some files) before now k name questions s a → DecideAnswers (Some files) again later k name questions t b → (s ≡ t) × (a ≡ b)
     decide_once k within name questions alone v w x y = load_once files k.root name before now again later (λ table problem status text. (status ≤ 2 → k.workers ≡ 1) × IsDecided table k name questions problem status text) (λ table. IsDecided table k name questions) (λ table problem s t a b d l v w p q. decided_once one_search table d k within.0 within.1 name questions problem l.holds.agrees p.0 p.1 q) v w (with_premise files k.root name before now (λ table. IsDecided table k name questions) (λ status. status ≤ 2 → k.workers ≡ 1) alone x) y
 
-    prove_command_once : (k : Command) → IsWithin k → {s t : ℕ} {a b : List ℕ} → (s ≤ 2 → k.workers ≡ 1) → (s ≡ 5 → Rose before now → ⊥) → (t ≡ 5 → Rose again later → ⊥) → OfProve (Some files) before now k s a → OfProve (Some files) again later k t b → (s ≡ t) × (a ≡ b)
+    prove_command_once : (k : Command) → WeighsWithin k.order → {s t : ℕ} {a b : List ℕ} → (s ≤ 2 → k.workers ≡ 1) → (s ≡ 5 → Rose before now → ⊥) → (t ≡ 5 → Rose again later → ⊥) → OfProve (Some files) before now k s a → OfProve (Some files) again later k t b → (s ≡ t) × (a ≡ b)
     prove_command_once k within {t = t} {b = b} alone v w (name, p, x) (named, q, y) = prove_answers_once one_search k within.0 within.1 name files before now again later alone v w x (subst (λ n. ProveAnswers k n (Some files) again later t b) (only_name (sym q ∙ p)) y)
 
-    searched_once : (k : Command) → IsWithin k → {s t : ℕ} {a b : List ℕ} → (s ≤ 2 → k.workers ≡ 1) → (s ≡ 5 → Rose before now → ⊥) → (t ≡ 5 → Rose again later → ⊥) → OfSearch (Some files) before now k s a → OfSearch (Some files) again later k t b → (s ≡ t) × (a ≡ b)
+    searched_once : (k : Command) → WeighsWithin k.order → {s t : ℕ} {a b : List ℕ} → (s ≤ 2 → k.workers ≡ 1) → (s ≡ 5 → Rose before now → ⊥) → (t ≡ 5 → Rose again later → ⊥) → OfSearch (Some files) before now k s a → OfSearch (Some files) again later k t b → (s ≡ t) × (a ≡ b)
     searched_once k within {t = t} {b = b} alone v w (name, questions, p, x) (named, asked, q, y) =
         let names : named ∷ asked ≡ name ∷ questions = sym q ∙ p in
         decide_once k within name questions alone v w x (subst (λ n. DecideAnswers (Some files) again later k n questions t b) (head_name names) (subst (λ qs. DecideAnswers (Some files) again later k named qs t b) (tail_names names) y))
@@ -90,11 +88,11 @@ module _ (files : Files) (before now again later : ℕ) where
         let names : named ∷ asked ≡ name ∷ questions = sym q ∙ p in
         system_once k.steps questions file k.root name v w x (subst (λ n. SystemAnswers (Some files) again later k.steps questions file k.root n t b) (head_name names) (subst (λ qs. SystemAnswers (Some files) again later k.steps qs file k.root named t b) (tail_names names) y))
 
-    decide_command_once : (k : Command) → IsWithin k → {s t : ℕ} {a b : List ℕ} → (s ≤ 2 → IsSearching verb.Decide k.system → k.workers ≡ 1) → (s ≡ 5 → Rose before now → ⊥) → (t ≡ 5 → Rose again later → ⊥) → OfDecide (Some files) before now k s a → OfDecide (Some files) again later k t b → (s ≡ t) × (a ≡ b)
+    decide_command_once : (k : Command) → WeighsWithin k.order → {s t : ℕ} {a b : List ℕ} → (s ≤ 2 → IsSearching verb.Decide k.system → k.workers ≡ 1) → (s ≡ 5 → Rose before now → ⊥) → (t ≡ 5 → Rose again later → ⊥) → OfDecide (Some files) before now k s a → OfDecide (Some files) again later k t b → (s ≡ t) × (a ≡ b)
     decide_command_once k within alone v w (inl x) y = searched_once k within (λ few. alone few (subst (IsSearching verb.Decide) (sym x.0) tt)) v w x.1 (by_search (Some files) again later k x.0 y)
     decide_command_once k within alone v w (inr x) y = by_certificate_once k x.0 v w x.2 (by_certificate (Some files) again later k x.0 x.1 y)
 
-    verb_once : (u : Verb) (k : Command) → IsWithin k → {s t : ℕ} {a b : List ℕ} → (s ≤ 2 → IsSearching u k.system → k.workers ≡ 1) → (s ≡ 5 → Rose before now → ⊥) → (t ≡ 5 → Rose again later → ⊥) → Of (Some files) before now u k s a → Of (Some files) again later u k t b → (s ≡ t) × (a ≡ b)
+    verb_once : (u : Verb) (k : Command) → WeighsWithin k.order → {s t : ℕ} {a b : List ℕ} → (s ≤ 2 → IsSearching u k.system → k.workers ≡ 1) → (s ≡ 5 → Rose before now → ⊥) → (t ≡ 5 → Rose again later → ⊥) → Of (Some files) before now u k s a → Of (Some files) again later u k t b → (s ≡ t) × (a ≡ b)
     verb_once verb.Check k within {t = t} {b = b} alone v w (name, proof, p, x) (named, proved, q, y) =
         let names : named ∷ proved ∷ [] ≡ name ∷ proof ∷ [] = sym q ∙ p in
         check_once k.root name proof v w x (subst (λ n. CheckAnswers (Some files) again later k.root n proof t b) (first_name names) (subst (λ n. CheckAnswers (Some files) again later k.root named n t b) (second_name names) y))
@@ -123,6 +121,6 @@ module _ (files : Files) (before now again later : ℕ) where
       answer_once {s} {t} {a} {b} alone v w x y = go (read_or_not (Some files) before now words s a x) (read_or_not (Some files) again later words t b y)
         where
           go : Either before now s a → Either again later t b → (s ≡ t) × (a ≡ b)
-          go (inl p) q = verb_once p.0.verb p.0 (w0_within words p.0 p.1) (λ few. alone few p.0 p.1) v w (of_command (Some files) before now words p.1 x) (of_command (Some files) again later words p.1 y)
+          go (inl p) q = verb_once p.0.verb p.0 (weight_within words p.0 p.1) (λ few. alone few p.0 p.1) v w (of_command (Some files) before now words p.1 x) (of_command (Some files) again later words p.1 y)
           go (inr p) (inl q) = absurd (p.0 q.0 q.1)
           go (inr p) (inr q) = usage_once p.1 q.1

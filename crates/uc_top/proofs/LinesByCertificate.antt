@@ -40,7 +40,7 @@ use Rattle.uc_top.specs.SharedOrders.{SharesOrder}
 use Rattle.uc_top.specs.SystemRuns.{AreOwnQuestions, IsAnsweredByCertificate, TellsByCertificate}
 use Rattle.uc_top.proofs.OwnOrders.{m_laws, own_laws, own_has, own_symbol, own_arity, own_order, order_extends, to_read}
 use Rattle.uc_top.proofs.SameLines.{IsToldLine, told_at, right_at, one_told}
-use Rattle.uc_top.proofs.VariableWeights.{w0_within}
+use Rattle.uc_top.proofs.WithinLimits.{weight_within}
 
 -- LINES
 
@@ -155,7 +155,7 @@ module _ (files : Files) (all : List (List ℕ)) (command other_command : Comman
   module _ (shares : SharesOrder passed.loaded passed.table passed.read passed.problem passed.encoded.fresh command.order p.decided.spec passed.certificate.text.spec) (i j : ℕ) (line other : List ℕ) (tells : Tells x i line) (tells_too : TellsByCertificate y j other) where
     pub same_for : (sides : Tree × Tree) → slice_get p.decided.questions i ≡ Some sides → slice_get y.questions j ≡ Some sides → line ≡ other
     same_for sides at there =
-        let within = w0_within all command reads in
+        let within = weight_within all command reads in
         let told = told_at p.decided.told i sides line at tells in
         let by_table = subst (λ (t : Table). IsToldLine t (axioms_of p.problem.clauses) p.decided.spec sides line) tables told in
         let by_problem = subst (λ (q : Problem). IsToldLine passed.loaded (axioms_of q.clauses) p.decided.spec sides line) problems by_table in

@@ -26,7 +26,7 @@ use Rattle.uc_top.proofs.ByVerb.{of_verb}
 use Rattle.uc_top.proofs.Completing.{told_whole}
 use Rattle.uc_top.proofs.LoadedOnce.{answers_for}
 use Rattle.uc_top.proofs.ModelsRefute.{none_follows}
-use Rattle.uc_top.proofs.VariableWeights.{size_within}
+use Rattle.uc_top.proofs.WithinLimits.{size_within}
 
 -- the answer of words that are those of `model`
 module _ (holds : Option Files) (before now : ℕ) (words : List (List ℕ)) (command : Command) (name : List ℕ) (reads : Reads words command) (is_model : command.verb ≡ verb.Model) (names : command.positionals ≡ name ∷ []) where

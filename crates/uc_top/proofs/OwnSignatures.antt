@@ -1,5 +1,5 @@
 -- The axioms and the signature of a loaded problem are of its table.
-use Rattle.std.proofs.Common.{ℕ, suc, Bool, true, false, List, [], ◌∷◌, refl, if◌then◌else◌}
+use Rattle.std.proofs.Common.{suc, Bool, true, false, List, [], ◌∷◌, refl, if◌then◌else◌}
 use Rattle.uc_term.specs.Table.{Table}
 use Rattle.uc_term.specs.Gathering.{AreOf}
 use Rattle.uc_clause.specs.declared.clause.Sourced.{Sourced}

@@ -22,7 +22,7 @@ use Rattle.uc_answer.specs.RightReplies.{AreRight, none_is_wrong, one_is_right}
 use Rattle.uc_answer.proofs.OrderLaws.{spec_laws}
 use Rattle.uc_top.specs.DecideRuns.{IsAnswered, IsOut, TellsLine, Tells, KeepsDecision}
 use Rattle.uc_top.proofs.OwnSignatures.{is_signature}
-use Rattle.uc_top.proofs.VariableWeights.{w0_within}
+use Rattle.uc_top.proofs.WithinLimits.{weight_within}
 
 -- the reply at its number is right
 pub right_at : {m : Meaning} {axioms : List Equation} {questions : List (Tree × Tree)} {replies : List Reply} (i : ℕ) (sides : Tree × Tree) (reply : Reply) → AreRight m axioms questions replies → slice_get questions i ≡ Some sides → slice_get replies i ≡ Some reply → IsRight m axioms sides.0 sides.1 reply
@@ -53,7 +53,7 @@ one_told table axioms spec laws sides m n a b =
 -- whatever files the problem is loaded from
 pub same_line : (files others : Files) (words : List (List ℕ)) (k l : Command) (name another : List ℕ) (asked questions : List (List ℕ)) (s t : ℕ) (a b : List ℕ) (x : KeepsDecision files k name asked s a) (y : KeepsDecision others l another questions t b) (i j : ℕ) (sides : Tree × Tree) (line other : List ℕ) → Reads words k → x.table ≡ y.table → axioms_of x.is_decided.problem.clauses ≡ axioms_of y.is_decided.problem.clauses → x.is_decided.decided.spec ≡ y.is_decided.decided.spec → slice_get x.is_decided.decided.questions i ≡ Some sides → slice_get y.is_decided.decided.questions j ≡ Some sides → Tells x i line → Tells y j other → line ≡ other
 same_line files others words k l name another asked questions s t a b x y i j sides line other reads tables axioms specs at there m n =
-    let within = w0_within words k reads in
+    let within = weight_within words k reads in
     let p = x.is_decided in
     let q = y.is_decided in
     let laws : Laws (meaning_of x.table p.decided.spec) = spec_laws x.table p.problem.signature.symbols p.decided.spec (fits x.table p.problem.signature k.order within.0 within.1 (is_signature x.table p.problem p.holds.agrees) None p.decided.spec p.decided.chosen tt) in

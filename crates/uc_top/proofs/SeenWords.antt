@@ -1,5 +1,5 @@
 -- The positionals of a command line and the values of its options are of visible bytes and spaces, and no positional is empty.
-use Rattle.std.proofs.Common.{ℕ, zero, suc, ◌≡◌, ◌<◌, ◌≤◌, Bool, true, false, nat_lt, List, [], ◌∷◌, ◌++◌, length, Option, Some, None, refl, sym, subst, if◌then◌else◌, bytes_eq, drop, arith}
+use Rattle.std.proofs.Common.{ℕ, zero, suc, ◌≡◌, ◌<◌, Bool, true, false, nat_lt, List, [], ◌∷◌, ◌++◌, length, Option, Some, None, refl, sym, subst, if◌then◌else◌, bytes_eq, drop, arith}
 use Rattle.std.specs.List.{list_all}
 use Rattle.std.proofs.lemmas.Bool.{and_parts}
 use Rattle.uc_words.specs.declared.command.Verb.{Verb}
@@ -15,7 +15,6 @@ use Rattle.uc_words.specs.Table.{verb_named}
 use Rattle.uc_words.specs.Lines.{Line, item, turn, onto, at_end, line_of, given_value, is_value, value, same}
 use Rattle.uc_words.specs.Reads.{is_clean, is_printable, with_items, with_verb, says, Reads}
 use Rattle.uc_answer.specs.PrintableProblems.{are_seen, IsRootSeen}
-use Rattle.uc_top.proofs.VariableWeights.{limited_within}
 
 abbrev AllSeen : List (List ℕ) → Type 0
 AllSeen [] = Unit {0}
@@ -134,12 +133,3 @@ positionals_seen words command r = subst AreTitles (sym r.is.positionals) (says_
 
 pub root_seen : (words : List (List ℕ)) (command : Command) → Reads words command → IsRootSeen command.root
 root_seen words command r = subst IsRootSeen (sym r.is.root) (option_seen key.Root r.said.1.given (says_seen words r.said (clean_seen words r.clean) r.says).1)
-
-pub budget_within : (words : List (List ℕ)) (command : Command) → Reads words command → command.budget ≤ 10000000
-budget_within words command r = (limited_within 0 10000000 command.budget 100000 (omega arith) (omega arith) (value key.Budget r.said.1.given) r.is.budget).1
-
-pub pairs_within : (words : List (List ℕ)) (command : Command) → Reads words command → command.pairs ≤ 8000000
-pairs_within words command r = (limited_within 1 8000000 command.pairs 1000000 (omega arith) (omega arith) (value key.Pairs r.said.1.given) r.is.pairs).1
-
-pub workers_within : (words : List (List ℕ)) (command : Command) → Reads words command → (1 ≤ command.workers) × (command.workers ≤ 64)
-workers_within words command r = limited_within 1 64 command.workers 1 (omega arith) (omega arith) (value key.Workers r.said.1.given) r.is.workers

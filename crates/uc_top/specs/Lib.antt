@@ -1,3 +1,4 @@
+pub mod Limits
 pub mod Loaded
 pub mod ListAnswers
 pub mod RewriteAnswers

@@ -14,6 +14,7 @@ ghost use Rattle.uc_answer.specs.Lines.{joined};
 ghost use Rattle.uc_answer.specs.QuestionWords.{AreShort};
 ghost use Rattle.uc_answer.specs.VerdictLines.{opening_for};
 ghost use Rattle.uc_answer.specs.RightReplies.{AreGroundQuestions};
+ghost use Rattle.uc_top.specs.Limits.{WeighsWithin, WorksWithin, SearchesWithin};
 ghost use Rattle.uc_top.specs.DecideAnswers.{opening_of_axioms, IsDecided};
 ghost use Rattle.uc_top.specs.Answers.{DecideAnswers};
 ghost use Rattle.uc_top.specs.DecideRuns.{Decided, KeepsDecision};
@@ -23,6 +24,7 @@ ghost use Rattle.uc_top.specs.Faulting.{AnswersFault};
 use crate::axioms::without_goals;
 use crate::loading::bytes_of;
 use crate::replying::replied_answer;
+use crate::searching::search_for;
 use std::alloc::{AllocError, Global};
 use std::sync::Wait;
 use std::thread::Threads;
@@ -39,7 +41,6 @@ use uc_search::live_system;
 use uc_shelf::Shelf;
 use uc_term::{Symbols, Text};
 use uc_words::Command;
-use uc_worker::search;
 
 /// The answer to `decide` for the problem file of this name and the questions that are these words, by the command's order,
 /// budget, limit on pairs, workers and steps.
@@ -52,12 +53,8 @@ pub(crate) fn decide_answer<R: Threads + Wait + Sync, L: Library, G: Gate + Sync
     library: &mut L,
     gate: &G,
 ) -> Result<Answer, AllocError>
-    requires w0_some { 1 ≤ command.now.order.w0 }
-    requires w0_most { command.now.order.w0 ≤ 1000000 }
-    requires budget { command.now.budget ≤ 10000000 }
-    requires pairs { command.now.pairs ≤ 8000000 }
-    requires some_workers { 1 ≤ command.now.workers }
-    requires few_workers { command.now.workers ≤ 64 }
+    requires w0 { WeighsWithin command.now.order }
+    requires search { SearchesWithin command.now }
     requires short { AreShort words.now }
     ensures answers { IfOk result (λ answer. DecideAnswers (L.holds library.old) (L.faults library.old) (L.faults library.new) command.now name.now words.now answer.status (joined answer.lines)) }
     ensures promise { IfOk result (λ answer. answer.status ≤ 2 → (files : Files) → L.holds library.old ≡ Some files → KeepsDecision files command.now name.now words.now answer.status (joined answer.lines)) }
@@ -81,12 +78,8 @@ fn load_and_decide<R: Threads + Wait + Sync, L: Library, G: Gate + Sync>(
     library: &mut L,
     gate: &G,
 ) -> Result<Answer, AllocError>
-    requires w0_some { 1 ≤ command.now.order.w0 }
-    requires w0_most { command.now.order.w0 ≤ 1000000 }
-    requires budget { command.now.budget ≤ 10000000 }
-    requires pairs { command.now.pairs ≤ 8000000 }
-    requires some_workers { 1 ≤ command.now.workers }
-    requires few_workers { command.now.workers ≤ 64 }
+    requires w0 { WeighsWithin command.now.order }
+    requires search { SearchesWithin command.now }
     requires short { AreShort words.now }
     requires empty { symbols.old ≡ [] }
     ensures answers { IfOk result (λ answer. DecideAnswers (L.holds library.old) (L.faults library.old) (L.faults library.new) command.now name.now words.now answer.status (joined answer.lines)) }
@@ -120,12 +113,8 @@ fn asked_answer<R: Threads + Wait + Sync, G: Gate + Sync>(
     gate: &G,
 ) -> Result<Answer, AllocError>
     requires agrees { Agrees symbols.old problem.now }
-    requires w0_some { 1 ≤ command.now.order.w0 }
-    requires w0_most { command.now.order.w0 ≤ 1000000 }
-    requires budget { command.now.budget ≤ 10000000 }
-    requires pairs { command.now.pairs ≤ 8000000 }
-    requires some_workers { 1 ≤ command.now.workers }
-    requires few_workers { command.now.workers ≤ 64 }
+    requires w0 { WeighsWithin command.now.order }
+    requires search { SearchesWithin command.now }
     requires short { AreShort words.now }
     ensures answers { IfOk result (λ answer. IsDecided symbols.old command.now name.now words.now problem.now answer.status (joined answer.lines)) }
     ensures promise { IfOk result (λ answer. answer.status ≤ 2 → Decided symbols.old command.now name.now words.now problem.now answer.status (joined answer.lines)) }
@@ -160,10 +149,7 @@ fn searched_answer<R: Threads + Wait + Sync, G: Gate + Sync>(
     requires agrees { Agrees symbols.now problem.now }
     requires fits { Fits symbols.now problem.now.signature.symbols spec.now }
     requires ground { AreGroundQuestions (meaning_of symbols.now spec.now) questions.now }
-    requires budget { command.now.budget ≤ 10000000 }
-    requires pairs { command.now.pairs ≤ 8000000 }
-    requires some_workers { 1 ≤ command.now.workers }
-    requires few_workers { command.now.workers ≤ 64 }
+    requires search { SearchesWithin command.now }
     ensures { IfOk result (λ answer. IsToldBySearch symbols.now (meaning_of symbols.now spec.now) command.now name.now (axioms_of problem.now.clauses) questions.now (opening_of_axioms command.now problem.now) answer.status (joined answer.lines)) }
 {
     let encoded = without_goals(alloc, problem)?;
@@ -201,24 +187,11 @@ fn told_answer<R: Threads + Wait + Sync, O: Order + Sync, G: Gate + Sync>(
     requires over { AreOfSignature (HasSym (O.meaning order.now)) (O.meaning order.now).arity encoded.now.axioms }
     requires ground { AreGroundQuestions (O.meaning order.now) asked.now.questions.now }
     requires of_table { AreGroundOfTable asked.now.symbols.now (O.meaning order.now) }
-    requires budget { asked.now.command.now.budget ≤ 10000000 }
-    requires pairs { asked.now.command.now.pairs ≤ 8000000 }
-    requires some_workers { 1 ≤ asked.now.command.now.workers }
-    requires few_workers { asked.now.command.now.workers ≤ 64 }
+    requires search { SearchesWithin asked.now.command.now }
     ensures { IfOk result (λ answer. IsToldBySearch asked.now.symbols.now (O.meaning order.now) asked.now.command.now asked.now.name.now encoded.now.axioms asked.now.questions.now (opening_for asked.now.command.now encoded.now) answer.status (joined answer.lines)) }
 {
     let command = asked.command;
-    let searched = search(
-        rt,
-        alloc,
-        encoded,
-        order,
-        shelf,
-        command.budget,
-        command.pairs,
-        command.workers,
-        gate,
-    )?;
+    let searched = search_for(rt, alloc, command, encoded, order, shelf, gate)?;
     closed_answer(
         rt,
         alloc,
@@ -242,8 +215,7 @@ fn closed_answer<R: Threads + Sync, O: Order + Sync, G: Gate + Sync>(
     verdict: Verdict,
     gate: &G,
 ) -> Result<Answer, AllocError>
-    requires some_workers { 1 ≤ asked.now.command.now.workers }
-    requires few_workers { asked.now.command.now.workers ≤ 64 }
+    requires workers { WorksWithin asked.now.command.now }
     requires shelf { book.now.opening.shelf ≡ shelf.now }
     requires no_goals { book.now.opening.problem.goals ≡ [] }
     requires over { AreOfSignature (HasSym (O.meaning order.now)) (O.meaning order.now).arity book.now.opening.problem.axioms }

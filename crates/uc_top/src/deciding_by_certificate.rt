@@ -16,6 +16,7 @@ ghost use Rattle.uc_answer.specs.Promises.{IsOwnGround};
 ghost use Rattle.uc_answer.specs.QuestionWords.{AreShort};
 ghost use Rattle.uc_answer.specs.ReplyLines.{AreReplies, replies_status, reply_lines};
 ghost use Rattle.uc_answer.specs.RightReplies.{AreGroundQuestions};
+ghost use Rattle.uc_top.specs.Limits.{WorksWithin};
 ghost use Rattle.uc_top.specs.Answers.{SystemAnswers};
 ghost use Rattle.uc_top.specs.CertificateAnswers.{CertificateAnswers};
 ghost use Rattle.uc_top.specs.SystemAnswers.{IsAskedCertificate};
@@ -46,8 +47,7 @@ pub(crate) fn system_answer<R: Threads + Sync, L: Library, G: Gate + Sync>(
     library: &mut L,
     gate: &G,
 ) -> Result<Answer, AllocError>
-    requires some_workers { 1 ≤ command.now.workers }
-    requires few_workers { command.now.workers ≤ 64 }
+    requires workers { WorksWithin command.now }
     requires short { AreShort words.now }
     ensures answers { IfOk result (λ answer. SystemAnswers (L.holds library.old) (L.faults library.old) (L.faults library.new) command.now.steps words.now file.now command.now.root name.now answer.status (joined answer.lines)) }
     ensures same { L.holds library.new ≡ L.holds library.old }
@@ -82,8 +82,7 @@ fn load_and_ask<R: Threads + Sync, L: Library, G: Gate + Sync>(
     library: &mut L,
     gate: &G,
 ) -> Result<Answer, AllocError>
-    requires some_workers { 1 ≤ command.now.workers }
-    requires few_workers { command.now.workers ≤ 64 }
+    requires workers { WorksWithin command.now }
     requires short { AreShort words.now }
     requires empty { symbols.old ≡ [] }
     ensures answers { IfOk result (λ answer. SystemAnswers (L.holds library.old) (L.faults library.old) (L.faults library.new) command.now.steps words.now file.now command.now.root name.now answer.status (joined answer.lines)) }
@@ -117,8 +116,7 @@ fn problem_answer<R: Threads + Sync, L: Library, G: Gate + Sync>(
     library: &mut L,
     gate: &G,
 ) -> Result<Answer, AllocError>
-    requires some_workers { 1 ≤ command.now.workers }
-    requires few_workers { command.now.workers ≤ 64 }
+    requires workers { WorksWithin command.now }
     requires short { AreShort words.now }
     requires agrees { Agrees symbols.old problem.now }
     ensures answers { IfOk result (λ answer. CertificateAnswers (IsAskedCertificate command.now.steps words.now problem.now) (L.holds library.old) (L.faults library.old) (L.faults library.new) file.now symbols.old problem.now answer.status (joined answer.lines)) }
@@ -154,8 +152,7 @@ fn asked_answer<R: Threads + Sync, G: Gate + Sync>(
     symbols: &mut Symbols,
     gate: &G,
 ) -> Result<Answer, AllocError>
-    requires some_workers { 1 ≤ command.now.workers }
-    requires few_workers { command.now.workers ≤ 64 }
+    requires workers { WorksWithin command.now }
     requires short { AreShort words.now }
     requires agrees { Agrees symbols.old problem.now }
     requires system { IsSystem symbols.old certificate.now.text }
@@ -183,8 +180,7 @@ fn told_answer<R: Threads + Sync, G: Gate + Sync>(
     symbols: &Symbols,
     gate: &G,
 ) -> Result<Answer, AllocError>
-    requires some_workers { 1 ≤ command.now.workers }
-    requires few_workers { command.now.workers ≤ 64 }
+    requires workers { WorksWithin command.now }
     requires system { IsSystem symbols.now certificate.now.text }
     requires ground { AreGroundQuestions (meaning_of symbols.now certificate.now.text.spec) questions.now }
     requires decides { (axioms : List AnyEquation) × Decides (meaning_of symbols.now certificate.now.text.spec) certificate.now.text.system.facts axioms }

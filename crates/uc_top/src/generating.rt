@@ -11,11 +11,13 @@ ghost use Rattle.uc_ordering.specs.Fits.{Fits};
 ghost use Rattle.uc_answer.specs.Lines.{joined};
 ghost use Rattle.uc_answer.specs.VerdictLines.{opening_for};
 ghost use Rattle.uc_gen.specs.Counting.{AreLowest};
+ghost use Rattle.uc_top.specs.Limits.{SearchesWithin};
 ghost use Rattle.uc_top.specs.GenAnswers.{IsPosed, IsCompleted, GenAnswers};
 ghost use Rattle.uc_top.specs.GenTold.{TellsCount, IsToldByCount};
 
 use crate::axioms::{are_few, without_goals};
 use crate::gen_lines::counted_answer;
+use crate::searching::search_for;
 use std::alloc::{AllocError, Global};
 use std::sync::Wait;
 use std::thread::Threads;
@@ -31,7 +33,6 @@ use uc_search::live_system;
 use uc_shelf::Shelf;
 use uc_term::{Sym, Symbols, Text};
 use uc_words::{Command, number};
-use uc_worker::search;
 
 const NAME: &[u8] = b"gen";
 
@@ -46,10 +47,7 @@ pub(crate) fn gen_answer<R: Threads + Wait + Sync, G: Gate + Sync>(
 ) -> Result<Answer, AllocError>
     requires words { command.now.positionals ≡ count.now ∷ start.now ∷ [] }
     requires numbers { numbers_fit Gen (count.now ∷ start.now ∷ []) ≡ true }
-    requires budget { command.now.budget ≤ 10000000 }
-    requires pairs { command.now.pairs ≤ 8000000 }
-    requires some_workers { 1 ≤ command.now.workers }
-    requires few_workers { command.now.workers ≤ 64 }
+    requires search { SearchesWithin command.now }
     ensures { IfOk result (λ answer. GenAnswers command.now answer.status (joined answer.lines)) }
 {
     let Some(n) = number(count.as_bytes()) else {
@@ -73,10 +71,7 @@ fn posed_answer<R: Threads + Wait + Sync, G: Gate + Sync>(
     requires some { 1 ≤ n }
     requires most { n ≤ 2000 }
     requires start { start < 2 ^ 31 }
-    requires budget { command.now.budget ≤ 10000000 }
-    requires pairs { command.now.pairs ≤ 8000000 }
-    requires some_workers { 1 ≤ command.now.workers }
-    requires few_workers { command.now.workers ≤ 64 }
+    requires search { SearchesWithin command.now }
     ensures { IfOk result (λ answer. IsCompleted command.now n start answer.status (joined answer.lines)) }
 {
     let mut symbols = Symbols::new(alloc);
@@ -97,10 +92,7 @@ fn searched_answer<R: Threads + Wait + Sync, G: Gate + Sync>(
 ) -> Result<Answer, AllocError>
     requires posed { (n : ℕ) × (start : ℕ) × IsPosed n start symbols.now problem.now spec.now }
     requires fits { Fits symbols.now problem.now.signature.symbols spec.now }
-    requires budget { command.now.budget ≤ 10000000 }
-    requires pairs { command.now.pairs ≤ 8000000 }
-    requires some_workers { 1 ≤ command.now.workers }
-    requires few_workers { command.now.workers ≤ 64 }
+    requires search { SearchesWithin command.now }
     ensures { (n start : ℕ) → IsPosed n start symbols.now problem.now spec.now → IfOk result (λ answer. IsCompleted command.now n start answer.status (joined answer.lines)) }
 {
     let encoded = without_goals(alloc, problem)?;
@@ -131,23 +123,10 @@ fn told_answer<R: Threads + Wait + Sync, O: Order + Sync, G: Gate + Sync>(
     requires over { AreOfSignature (HasSym (O.meaning order.now)) (O.meaning order.now).arity encoded.now.axioms }
     requires lowest { AreLowest (O.meaning order.now) constants.now }
     requires few { length constants.now ≤ 2000 }
-    requires budget { command.now.budget ≤ 10000000 }
-    requires pairs { command.now.pairs ≤ 8000000 }
-    requires some_workers { 1 ≤ command.now.workers }
-    requires few_workers { command.now.workers ≤ 64 }
+    requires search { SearchesWithin command.now }
     ensures { IfOk result (λ answer. IsToldByCount (O.meaning order.now) command.now constants.now (opening_for command.now encoded.now) answer.status (joined answer.lines)) }
 {
-    let searched = search(
-        rt,
-        alloc,
-        encoded,
-        order,
-        shelf,
-        command.budget,
-        command.pairs,
-        command.workers,
-        gate,
-    )?;
+    let searched = search_for(rt, alloc, command, encoded, order, shelf, gate)?;
     closed_answer(
         alloc,
         command,

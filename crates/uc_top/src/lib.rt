@@ -18,6 +18,7 @@ mod program;
 mod proving;
 mod replying;
 mod rewriting;
+mod searching;
 mod showing;
 mod tabling;
 

@@ -7,6 +7,7 @@ ghost use Rattle.uc_ordering.specs.Fits.{Fits};
 ghost use Rattle.uc_ordering.specs.Meaning.{meaning_of};
 ghost use Rattle.uc_answer.specs.Axioms.{AreEquationsOf};
 ghost use Rattle.uc_answer.specs.Lines.{joined};
+ghost use Rattle.uc_top.specs.Limits.{WeighsWithin};
 ghost use Rattle.uc_top.specs.ListAnswers.{AreListed, IsListed};
 ghost use Rattle.uc_top.specs.Answers.{ListAnswers};
 ghost use Rattle.uc_top.specs.Faulting.{AnswersFault};
@@ -39,8 +40,7 @@ pub(crate) fn list_answer<L: Library>(
     listing: Listing,
     library: &mut L,
 ) -> Result<Answer, AllocError>
-    requires w0_some { 1 ≤ command.now.order.w0 }
-    requires w0_most { command.now.order.w0 ≤ 1000000 }
+    requires w0 { WeighsWithin command.now.order }
     ensures answers { IfOk result (λ answer. ListAnswers (L.holds library.old) (L.faults library.old) (L.faults library.new) listing command.now.order command.now.root name.now answer.status (joined answer.lines)) }
     ensures same { L.holds library.new ≡ L.holds library.old }
     ensures later { L.faults library.old ≤ L.faults library.new }
@@ -66,8 +66,7 @@ fn load_and_list<L: Library>(
     symbols: &mut Symbols,
     library: &mut L,
 ) -> Result<Answer, AllocError>
-    requires w0_some { 1 ≤ command.now.order.w0 }
-    requires w0_most { command.now.order.w0 ≤ 1000000 }
+    requires w0 { WeighsWithin command.now.order }
     requires empty { symbols.old ≡ [] }
     ensures answers { IfOk result (λ answer. ListAnswers (L.holds library.old) (L.faults library.old) (L.faults library.new) listing command.now.order command.now.root name.now answer.status (joined answer.lines)) }
     ensures same { L.holds library.new ≡ L.holds library.old }
@@ -95,8 +94,7 @@ fn listed_answer(
     symbols: &Symbols,
 ) -> Result<Answer, AllocError>
     requires agrees { Agrees symbols.now problem.now }
-    requires w0_some { 1 ≤ words.now.w0 }
-    requires w0_most { words.now.w0 ≤ 1000000 }
+    requires w0 { WeighsWithin words.now }
     ensures { IfOk result (λ answer. IsListed listing symbols.now words.now problem.now answer.status (joined answer.lines)) }
 {
     match choose(alloc, words, symbols, &problem.signature, None) {

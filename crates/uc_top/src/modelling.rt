@@ -4,6 +4,7 @@ ghost use Rattle.std.specs.Prelude.{◌≡◌, ◌≤◌, [], IfOk};
 ghost use Rattle.std.specs.Option.{option_copied};
 ghost use Rattle.uc_problem.specs.Holds.{Agrees};
 ghost use Rattle.uc_answer.specs.Lines.{joined};
+ghost use Rattle.uc_top.specs.Limits.{ModelsWithin};
 ghost use Rattle.uc_top.specs.Answers.{ModelAnswers};
 ghost use Rattle.uc_top.specs.ModelAnswers.{IsModelled};
 ghost use Rattle.uc_top.specs.Faulting.{AnswersFault};
@@ -24,8 +25,7 @@ pub(crate) fn model_answer<L: Library>(
     name: &Text,
     library: &mut L,
 ) -> Result<Answer, AllocError>
-    requires some { 1 ≤ command.now.size }
-    requires most { command.now.size ≤ 8 }
+    requires size { ModelsWithin command.now }
     ensures answers { IfOk result (λ answer. ModelAnswers (L.holds library.old) (L.faults library.old) (L.faults library.new) command.now name.now answer.status (joined answer.lines)) }
     ensures same { L.holds library.new ≡ L.holds library.old }
     ensures later { L.faults library.old ≤ L.faults library.new }
@@ -43,8 +43,7 @@ fn load_and_model<L: Library>(
     symbols: &mut Symbols,
     library: &mut L,
 ) -> Result<Answer, AllocError>
-    requires some { 1 ≤ command.now.size }
-    requires most { command.now.size ≤ 8 }
+    requires size { ModelsWithin command.now }
     requires empty { symbols.old ≡ [] }
     ensures answers { IfOk result (λ answer. ModelAnswers (L.holds library.old) (L.faults library.old) (L.faults library.new) command.now name.now answer.status (joined answer.lines)) }
     ensures same { L.holds library.new ≡ L.holds library.old }
@@ -71,8 +70,7 @@ fn modelled_answer(
     problem: &Problem,
     symbols: &Symbols,
 ) -> Result<Answer, AllocError>
-    requires some { 1 ≤ command.now.size }
-    requires most { command.now.size ≤ 8 }
+    requires size { ModelsWithin command.now }
     requires agrees { Agrees symbols.now problem.now }
     ensures { IfOk result (λ answer. IsModelled symbols.now command.now name.now problem.now answer.status (joined answer.lines)) }
 {

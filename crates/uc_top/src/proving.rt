@@ -13,11 +13,13 @@ ghost use Rattle.uc_ordering.specs.Fits.{Fits};
 ghost use Rattle.uc_answer.specs.Lines.{joined};
 ghost use Rattle.uc_answer.specs.PrintableProblems.{are_seen, IsRootSeen, CanBePrinted};
 ghost use Rattle.uc_answer.specs.Promises.{Keeps};
+ghost use Rattle.uc_top.specs.Limits.{WeighsWithin, SearchesWithin};
 ghost use Rattle.uc_top.specs.ProveAnswers.{IsProveAnswer, ProveAnswers};
 ghost use Rattle.uc_top.specs.ProveRuns.{IsKept, KeepsPromise};
 ghost use Rattle.uc_top.specs.Faulting.{AnswersFault, input_error};
 
 use crate::loading::bytes_of;
+use crate::searching::search_for;
 use std::alloc::{AllocError, Global};
 use std::sync::Wait;
 use std::thread::Threads;
@@ -31,7 +33,6 @@ use uc_problem::{EncodeFault, Encoded, Problem, encode, load};
 use uc_shelf::Shelf;
 use uc_term::{Symbols, Text};
 use uc_words::Command;
-use uc_worker::search;
 
 /// The answer to `prove` for the problem file of this name, by the command's order, budget, limit on pairs and workers.
 pub(crate) fn prove_answer<R: Threads + Wait + Sync, L: Library, G: Gate + Sync>(
@@ -42,12 +43,8 @@ pub(crate) fn prove_answer<R: Threads + Wait + Sync, L: Library, G: Gate + Sync>
     library: &mut L,
     gate: &G,
 ) -> Result<Answer, AllocError>
-    requires w0_some { 1 ≤ command.now.order.w0 }
-    requires w0_most { command.now.order.w0 ≤ 1000000 }
-    requires budget { command.now.budget ≤ 10000000 }
-    requires pairs { command.now.pairs ≤ 8000000 }
-    requires some_workers { 1 ≤ command.now.workers }
-    requires few_workers { command.now.workers ≤ 64 }
+    requires w0 { WeighsWithin command.now.order }
+    requires search { SearchesWithin command.now }
     requires name { are_seen name.now ≡ true }
     requires some { 0 < length name.now }
     requires root { IsRootSeen command.now.root }
@@ -82,12 +79,8 @@ fn load_and_prove<R: Threads + Wait + Sync, L: Library, G: Gate + Sync>(
     library: &mut L,
     gate: &G,
 ) -> Result<Answer, AllocError>
-    requires w0_some { 1 ≤ command.now.order.w0 }
-    requires w0_most { command.now.order.w0 ≤ 1000000 }
-    requires budget { command.now.budget ≤ 10000000 }
-    requires pairs { command.now.pairs ≤ 8000000 }
-    requires some_workers { 1 ≤ command.now.workers }
-    requires few_workers { command.now.workers ≤ 64 }
+    requires w0 { WeighsWithin command.now.order }
+    requires search { SearchesWithin command.now }
     requires name { are_seen name.now ≡ true }
     requires some { 0 < length name.now }
     requires root { IsRootSeen command.now.root }
@@ -121,12 +114,8 @@ fn encoded_answer<R: Threads + Wait + Sync, G: Gate + Sync>(
     gate: &G,
 ) -> Result<Answer, AllocError>
     requires agrees { Agrees symbols.old problem.now }
-    requires w0_some { 1 ≤ command.now.order.w0 }
-    requires w0_most { command.now.order.w0 ≤ 1000000 }
-    requires budget { command.now.budget ≤ 10000000 }
-    requires pairs { command.now.pairs ≤ 8000000 }
-    requires some_workers { 1 ≤ command.now.workers }
-    requires few_workers { command.now.workers ≤ 64 }
+    requires w0 { WeighsWithin command.now.order }
+    requires search { SearchesWithin command.now }
     ensures answers { IfOk result (λ answer. IsProveAnswer symbols.new command.now name.now symbols.old problem.now answer.status (joined answer.lines)) }
     ensures promise { IfOk result (λ answer. answer.status ≤ 2 → CanBePrinted symbols.new name.now problem.now → Keeps symbols.new command.now name.now problem.now answer.status (joined answer.lines)) }
     ensures adds { IfOk result (λ answer. answer.status ≤ 2 → IsDistinct symbols.new → (fresh : Option Fresh) → Marks symbols.new problem.now (Ok fresh) → AddsMarks symbols.old symbols.new fresh) }
@@ -155,12 +144,8 @@ fn ordered_answer<R: Threads + Wait + Sync, G: Gate + Sync>(
 ) -> Result<Answer, AllocError>
     requires agrees { Agrees symbols.now problem.now }
     requires encodes { Encodes symbols.now problem.now (Ok encoded.now) }
-    requires w0_some { 1 ≤ command.now.order.w0 }
-    requires w0_most { command.now.order.w0 ≤ 1000000 }
-    requires budget { command.now.budget ≤ 10000000 }
-    requires pairs { command.now.pairs ≤ 8000000 }
-    requires some_workers { 1 ≤ command.now.workers }
-    requires few_workers { command.now.workers ≤ 64 }
+    requires w0 { WeighsWithin command.now.order }
+    requires search { SearchesWithin command.now }
     ensures answers { (loaded : Table) → AddsMarks loaded symbols.now encoded.now.fresh → IfOk result (λ answer. IsProveAnswer symbols.now command.now name.now loaded problem.now answer.status (joined answer.lines)) }
     ensures promise { IfOk result (λ answer. answer.status ≤ 2 → CanBePrinted symbols.now name.now problem.now → Keeps symbols.now command.now name.now problem.now answer.status (joined answer.lines)) }
 {
@@ -194,26 +179,13 @@ fn searched_answer<R: Threads + Wait + Sync, G: Gate + Sync>(
     requires encodes { Encodes symbols.now problem.now (Ok encoded.now) }
     requires chosen { IsChosen symbols.now problem.now.signature command.now.order encoded.now.fresh spec.now }
     requires fits { Fits symbols.now encoded.now.signature.symbols spec.now }
-    requires budget { command.now.budget ≤ 10000000 }
-    requires pairs { command.now.pairs ≤ 8000000 }
-    requires some_workers { 1 ≤ command.now.workers }
-    requires few_workers { command.now.workers ≤ 64 }
+    requires search { SearchesWithin command.now }
     ensures answers { (loaded : Table) → AddsMarks loaded symbols.now encoded.now.fresh → IfOk result (λ answer. IsProveAnswer symbols.now command.now name.now loaded problem.now answer.status (joined answer.lines)) }
     ensures promise { IfOk result (λ answer. answer.status ≤ 2 → CanBePrinted symbols.now name.now problem.now → Keeps symbols.now command.now name.now problem.now answer.status (joined answer.lines)) }
 {
     let order = Chosen::new(alloc, spec, symbols, encoded.signature.symbols.as_slice())?;
     let shelf = Shelf::new(alloc)?;
-    let searched = search(
-        rt,
-        alloc,
-        encoded,
-        &order,
-        &shelf,
-        command.budget,
-        command.pairs,
-        command.workers,
-        gate,
-    )?;
+    let searched = search_for(rt, alloc, command, encoded, &order, &shelf, gate)?;
     let closed = Closed {
         name,
         command,

@@ -1,6 +1,6 @@
 //! The replies to questions, as they are answered.
 
-ghost use Rattle.std.specs.Prelude.{◌≡◌, ◌≤◌, List, IfOk};
+ghost use Rattle.std.specs.Prelude.{◌≡◌, List, IfOk};
 ghost use Rattle.uc_term.specs.declared.equation.Equation.{Equation as AnyEquation};
 ghost use Rattle.uc_order.specs.Laws.{HasSym};
 ghost use Rattle.uc_fact.specs.Ground.{AreOfSignature};
@@ -10,6 +10,7 @@ ghost use Rattle.uc_decide.specs.Deciding.{Decides};
 ghost use Rattle.uc_answer.specs.Lines.{joined};
 ghost use Rattle.uc_answer.specs.ReplyLines.{AreReplies, replies_status, reply_lines};
 ghost use Rattle.uc_answer.specs.RightReplies.{AreGroundQuestions, AreRight};
+ghost use Rattle.uc_top.specs.Limits.{WorksWithin};
 ghost use Rattle.uc_top.specs.DecideTold.{AreGroundOfTable};
 
 use std::alloc::{AllocError, Global};
@@ -32,8 +33,7 @@ pub(crate) fn replied_answer<R: Threads + Sync, O: Order + Sync, G: Gate + Sync>
     system: &System,
     gate: &G,
 ) -> Result<Answer, AllocError>
-    requires some_workers { 1 ≤ command.now.workers }
-    requires few_workers { command.now.workers ≤ 64 }
+    requires workers { WorksWithin command.now }
     requires over { AreOfSignature (HasSym (O.meaning order.now)) (O.meaning order.now).arity system.now.facts }
     requires ground { AreGroundQuestions (O.meaning order.now) questions.now }
     requires of_table { AreGroundOfTable symbols.now (O.meaning order.now) }

@@ -10,6 +10,7 @@ ghost use Rattle.uc_rewrite.specs.declared.normal.Normal.{Normal as AnyNormal};
 ghost use Rattle.uc_answer.specs.Lines.{joined};
 ghost use Rattle.uc_answer.specs.TermWords.{IsTermWord, IsWordFault};
 ghost use Rattle.uc_answer.specs.ChainLines.{stop_status, AreNormalLines};
+ghost use Rattle.uc_top.specs.Limits.{WeighsWithin};
 ghost use Rattle.uc_top.specs.RewriteAnswers.{IsNormalFor, IsRewritten};
 ghost use Rattle.uc_top.specs.Answers.{RewriteAnswers};
 ghost use Rattle.uc_top.specs.Faulting.{AnswersFault};
@@ -37,8 +38,7 @@ pub(crate) fn rewrite_answer<L: Library>(
     word: &Text,
     library: &mut L,
 ) -> Result<Answer, AllocError>
-    requires w0_some { 1 ≤ command.now.order.w0 }
-    requires w0_most { command.now.order.w0 ≤ 1000000 }
+    requires w0 { WeighsWithin command.now.order }
     requires short { length word.now < 2 ^ 31 }
     ensures answers { IfOk result (λ answer. RewriteAnswers (L.holds library.old) (L.faults library.old) (L.faults library.new) command.now.order command.now.limit word.now command.now.root name.now answer.status (joined answer.lines)) }
     ensures same { L.holds library.new ≡ L.holds library.old }
@@ -65,8 +65,7 @@ fn load_and_rewrite<L: Library>(
     symbols: &mut Symbols,
     library: &mut L,
 ) -> Result<Answer, AllocError>
-    requires w0_some { 1 ≤ command.now.order.w0 }
-    requires w0_most { command.now.order.w0 ≤ 1000000 }
+    requires w0 { WeighsWithin command.now.order }
     requires short { length word.now < 2 ^ 31 }
     requires empty { symbols.old ≡ [] }
     ensures answers { IfOk result (λ answer. RewriteAnswers (L.holds library.old) (L.faults library.old) (L.faults library.new) command.now.order command.now.limit word.now command.now.root name.now answer.status (joined answer.lines)) }
@@ -95,8 +94,7 @@ fn rewritten_answer(
     symbols: &mut Symbols,
 ) -> Result<Answer, AllocError>
     requires agrees { Agrees symbols.old problem.now }
-    requires w0_some { 1 ≤ command.now.order.w0 }
-    requires w0_most { command.now.order.w0 ≤ 1000000 }
+    requires w0 { WeighsWithin command.now.order }
     requires short { length word.now < 2 ^ 31 }
     ensures { IfOk result (λ answer. IsRewritten symbols.old command.now.order command.now.limit word.now problem.now answer.status (joined answer.lines)) }
 {

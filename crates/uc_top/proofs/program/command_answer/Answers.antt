@@ -7,7 +7,7 @@ use Rattle.uc_top.proofs.Answering.{one_name, two_names}
 use Rattle.uc_top.proofs.ShortWords.{positionals_short}
 use Rattle.uc_top.specs.Faulting.{fault_opening}
 use Rattle.uc_top.proofs.Faulted.{none_failed}
-use Rattle.uc_top.proofs.VariableWeights.{size_within}
+use Rattle.uc_top.proofs.WithinLimits.{size_within}
 use Rattle.uc_top.proofs.program.command_answer.Goals as goal
 
 pub returns-in-len2-clause-answers : goal.returns-in-len2-clause-answers
@@ -81,12 +81,6 @@ returns-in-len1-as_slice-3-clause-answers g c words r =
 pub returns-in-len1-as_slice-3-clause-faulted : goal.returns-in-len1-as_slice-3-clause-faulted
 returns-in-len1-as_slice-3-clause-faulted g c = rw c.in-Model.is c.model_answer.ensures.faulted
 
-pub model_answer-requires-clause-some : goal.model_answer-requires-clause-some
-model_answer-requires-clause-some g c = (size_within c.requires.words.0 c.args.command.now c.requires.words.1).0
-
-pub model_answer-requires-clause-most : goal.model_answer-requires-clause-most
-model_answer-requires-clause-most g c = (size_within c.requires.words.0 c.args.command.now c.requires.words.1).1
-
 pub returns-in-len2-as_slice-3-clause-answers : goal.returns-in-len2-as_slice-3-clause-answers
 returns-in-len2-as_slice-3-clause-answers g c words r =
     let names : c.args.command.now.positionals ≡ c.name-item-then-this-lt3-4.result ∷ c.file-item-then-this-lt3-4.result ∷ [] = sym c.as_slice-in-Certify.ensures ∙ two_names c.as_slice-in-Certify.result.now c.name-item-then-this-lt3-4.result c.file-item-then-this-lt3-4.result c.in-len2-as_slice-3.len_at_least c.in-len2-as_slice-3.len_below c.name-item-then-this-lt3-4.is c.file-item-then-this-lt3-4.is in
@@ -100,3 +94,6 @@ returns-in-Gen-clause-answers g c words r = IfOk-weaker c.gen_command.result _ _
 
 pub returns-in-Gen-clause-faulted : goal.returns-in-Gen-clause-faulted
 returns-in-Gen-clause-faulted g c = none_failed (g.L.Library.faults c.args.library.now) (g.L.Library.faults c.args.library.now) (g.L.Library.failed_at c.args.library.now) (g.L.Library.failed_at c.args.library.now) (fault_opening c.args.command.now) c.gen_command.result (refl, refl)
+
+pub model_answer-requires : goal.model_answer-requires
+model_answer-requires g c = record { size = size_within c.requires.words.0 c.args.command.now c.requires.words.1 }

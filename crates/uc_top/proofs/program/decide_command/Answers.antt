@@ -5,39 +5,23 @@ use Rattle.uc_top.specs.Answers.{decides, decides_by_certificate}
 use Rattle.uc_top.specs.Runs.{is_answer}
 use Rattle.uc_top.proofs.Answering.{name_and_more}
 use Rattle.uc_top.proofs.DecidePromises.{kept_answers, given_answers}
-use Rattle.uc_top.proofs.SeenWords.{budget_within, pairs_within, workers_within}
 use Rattle.uc_top.proofs.ShortWords.{positionals_short}
-use Rattle.uc_top.proofs.VariableWeights.{w0_within}
+use Rattle.uc_top.proofs.WithinLimits.{weight_within, search_within, workers_within}
 use Rattle.uc_top.proofs.program.decide_command.Goals as goal
 
-pub decide_answer-requires-clause-w0_some : goal.decide_answer-requires-clause-w0_some
-decide_answer-requires-clause-w0_some g c κs within = (w0_within c.requires.words.0 c.args.command.now c.requires.words.1).0
+pub decide_answer-requires-clause-w0 : goal.decide_answer-requires-clause-w0
+decide_answer-requires-clause-w0 g c κs within = weight_within c.requires.words.0 c.args.command.now c.requires.words.1
 
-pub decide_answer-requires-clause-w0_most : goal.decide_answer-requires-clause-w0_most
-decide_answer-requires-clause-w0_most g c κs within = (w0_within c.requires.words.0 c.args.command.now c.requires.words.1).1
+pub decide_answer-requires-clause-search : goal.decide_answer-requires-clause-search
+decide_answer-requires-clause-search g c κs within = search_within c.requires.words.0 c.args.command.now c.requires.words.1
 
-pub decide_answer-requires-clause-budget : goal.decide_answer-requires-clause-budget
-decide_answer-requires-clause-budget g c κs within = budget_within c.requires.words.0 c.args.command.now c.requires.words.1
-
-pub decide_answer-requires-clause-pairs : goal.decide_answer-requires-clause-pairs
-decide_answer-requires-clause-pairs g c κs within = pairs_within c.requires.words.0 c.args.command.now c.requires.words.1
-
-pub decide_answer-requires-clause-some_workers : goal.decide_answer-requires-clause-some_workers
-decide_answer-requires-clause-some_workers g c κs within = (workers_within c.requires.words.0 c.args.command.now c.requires.words.1).0
-
-pub decide_answer-requires-clause-few_workers : goal.decide_answer-requires-clause-few_workers
-decide_answer-requires-clause-few_workers g c κs within = (workers_within c.requires.words.0 c.args.command.now c.requires.words.1).1
+pub system_answer-requires-clause-workers : goal.system_answer-requires-clause-workers
+system_answer-requires-clause-workers g c κs within = workers_within c.requires.words.0 c.args.command.now c.requires.words.1
 
 pub decide_answer-requires-clause-short : goal.decide_answer-requires-clause-short
 decide_answer-requires-clause-short g c κs within =
     let names : c.args.command.now.positionals ≡ c.name-item.result ∷ take (length c.as_slice.result.now - 1) (drop 1 c.as_slice.result.now) = sym c.as_slice.ensures ∙ name_and_more c.as_slice.result.now c.name-item.result c.in-len1-up.len_at_least c.name-item.is in
     (subst AreShort names (positionals_short c.requires.words.0 c.args.command.now c.requires.words.1)).1
-
-pub system_answer-requires-clause-some_workers : goal.system_answer-requires-clause-some_workers
-system_answer-requires-clause-some_workers g c κs within = (workers_within c.requires.words.0 c.args.command.now c.requires.words.1).0
-
-pub system_answer-requires-clause-few_workers : goal.system_answer-requires-clause-few_workers
-system_answer-requires-clause-few_workers g c κs within = (workers_within c.requires.words.0 c.args.command.now c.requires.words.1).1
 
 pub system_answer-requires-clause-short : goal.system_answer-requires-clause-short
 system_answer-requires-clause-short g c κs within =

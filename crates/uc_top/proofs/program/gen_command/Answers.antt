@@ -1,7 +1,7 @@
 use Rattle.std.proofs.Common.{◌≡◌, [], ◌∷◌, sym, ◌∙◌}
 use Rattle.uc_top.proofs.Answering.{two_names}
 use Rattle.uc_top.proofs.GenWords.{gen_numbers}
-use Rattle.uc_top.proofs.SeenWords.{budget_within, pairs_within, workers_within}
+use Rattle.uc_top.proofs.WithinLimits.{search_within}
 use Rattle.uc_top.proofs.program.gen_command.Goals as goal
 
 pub gen_answer-requires-clause-words : goal.gen_answer-requires-clause-words
@@ -12,14 +12,5 @@ gen_answer-requires-clause-numbers g c κs within =
     let names : c.args.command.now.positionals ≡ c.count-item.result ∷ c.start-item.result ∷ [] = sym c.as_slice.ensures ∙ two_names c.as_slice.result.now c.count-item.result c.start-item.result c.in-len2.len_at_least c.in-len2.len_below c.count-item.is c.start-item.is in
     gen_numbers c.requires.words.0 c.args.command.now c.requires.words.1 c.requires.generates c.count-item.result c.start-item.result names
 
-pub gen_answer-requires-clause-budget : goal.gen_answer-requires-clause-budget
-gen_answer-requires-clause-budget g c κs within = budget_within c.requires.words.0 c.args.command.now c.requires.words.1
-
-pub gen_answer-requires-clause-pairs : goal.gen_answer-requires-clause-pairs
-gen_answer-requires-clause-pairs g c κs within = pairs_within c.requires.words.0 c.args.command.now c.requires.words.1
-
-pub gen_answer-requires-clause-some_workers : goal.gen_answer-requires-clause-some_workers
-gen_answer-requires-clause-some_workers g c κs within = (workers_within c.requires.words.0 c.args.command.now c.requires.words.1).0
-
-pub gen_answer-requires-clause-few_workers : goal.gen_answer-requires-clause-few_workers
-gen_answer-requires-clause-few_workers g c κs within = (workers_within c.requires.words.0 c.args.command.now c.requires.words.1).1
+pub gen_answer-requires-clause-search : goal.gen_answer-requires-clause-search
+gen_answer-requires-clause-search g c κs within = search_within c.requires.words.0 c.args.command.now c.requires.words.1

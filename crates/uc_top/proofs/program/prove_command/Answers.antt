@@ -4,27 +4,15 @@ use Rattle.uc_top.specs.Answers.{proves}
 use Rattle.uc_top.specs.Runs.{is_answer}
 use Rattle.uc_top.proofs.Answering.{one_name}
 use Rattle.uc_top.proofs.Positionals.{only_name}
-use Rattle.uc_top.proofs.SeenWords.{AreTitles, positionals_seen, root_seen, budget_within, pairs_within, workers_within}
-use Rattle.uc_top.proofs.VariableWeights.{w0_within}
+use Rattle.uc_top.proofs.SeenWords.{AreTitles, positionals_seen, root_seen}
+use Rattle.uc_top.proofs.WithinLimits.{weight_within, search_within}
 use Rattle.uc_top.proofs.program.prove_command.Goals as goal
 
-pub prove_answer-requires-clause-w0_some : goal.prove_answer-requires-clause-w0_some
-prove_answer-requires-clause-w0_some g c κs within = (w0_within c.requires.words.0 c.args.command.now c.requires.words.1).0
+pub prove_answer-requires-clause-w0 : goal.prove_answer-requires-clause-w0
+prove_answer-requires-clause-w0 g c κs within = weight_within c.requires.words.0 c.args.command.now c.requires.words.1
 
-pub prove_answer-requires-clause-w0_most : goal.prove_answer-requires-clause-w0_most
-prove_answer-requires-clause-w0_most g c κs within = (w0_within c.requires.words.0 c.args.command.now c.requires.words.1).1
-
-pub prove_answer-requires-clause-budget : goal.prove_answer-requires-clause-budget
-prove_answer-requires-clause-budget g c κs within = budget_within c.requires.words.0 c.args.command.now c.requires.words.1
-
-pub prove_answer-requires-clause-pairs : goal.prove_answer-requires-clause-pairs
-prove_answer-requires-clause-pairs g c κs within = pairs_within c.requires.words.0 c.args.command.now c.requires.words.1
-
-pub prove_answer-requires-clause-some_workers : goal.prove_answer-requires-clause-some_workers
-prove_answer-requires-clause-some_workers g c κs within = (workers_within c.requires.words.0 c.args.command.now c.requires.words.1).0
-
-pub prove_answer-requires-clause-few_workers : goal.prove_answer-requires-clause-few_workers
-prove_answer-requires-clause-few_workers g c κs within = (workers_within c.requires.words.0 c.args.command.now c.requires.words.1).1
+pub prove_answer-requires-clause-search : goal.prove_answer-requires-clause-search
+prove_answer-requires-clause-search g c κs within = search_within c.requires.words.0 c.args.command.now c.requires.words.1
 
 pub prove_answer-requires-clause-root : goal.prove_answer-requires-clause-root
 prove_answer-requires-clause-root g c κs within = root_seen c.requires.words.0 c.args.command.now c.requires.words.1
