@@ -51,6 +51,8 @@ use Rattle.uc_top.specs.Runs.{HasProof, IsCertified}
 use Rattle.uc_top.specs.FileAnswers.{is_absent, isnt_fetched, is_found}
 use Rattle.uc_top.specs.Answers.{TextAnswers, is_not_read, is_checked, ProofAnswers, ProblemAnswers, has_large_goal, is_marked, LoadAnswers, CheckAnswers, fetch_fails, is_refused, is_loaded}
 use Rattle.uc_top.specs.Loaded.{IsLoaded}
+use Rattle.uc_top.specs.HandedOn.{IsHeld}
+use Rattle.uc_top.proofs.HandingOn.{held as held_loaded}
 use Rattle.uc_top.proofs.FileAnswering.{earlier_file}
 
 within : {X : Type 0} (p : X → Bool) (xs : List X) (n : ℕ) → position p xs ≡ Some n → n < length xs
@@ -181,29 +183,6 @@ module _ (empty table : Table) (none : empty ≡ []) (before now : ℕ) (Answers
       (subst (λ (t : Table). WhereTold holds (λ files. IsStopped files root name t why)) none s))
   refused_answers holds why (Err fault) h s line n = tt
 
-isnt_done_clause : (file : List ℕ) (why : ClauseFault) → load_status (load.Clause file why) ≡ 0 → ⊥
-isnt_done_clause file (clause.Syntax p) e = omega (arith, e)
-isnt_done_clause file (clause.NotUnit p) e = omega (arith, e)
-isnt_done_clause file (clause.NotEquality p) e = omega (arith, e)
-isnt_done_clause file (clause.BadRole p w) e = omega (arith, e)
-isnt_done_clause file (clause.Unsupported p w) e = omega (arith, e)
-isnt_done_clause file (clause.Limit p w) e = omega (arith, e)
-isnt_done_clause file clause.NoMemory e = omega (arith, e)
-
-isnt_done : (why : LoadFault) → load_status why ≡ 0 → ⊥
-isnt_done (load.Absent f from) e = omega (arith, e)
-isnt_done (load.ReadFault f) e = omega (arith, e)
-isnt_done (load.TooDeep f p) e = omega (arith, e)
-isnt_done (load.NoSuchName f p n) e = omega (arith, e)
-isnt_done (load.ArityClash f p n a b) e = omega (arith, e)
-isnt_done (load.Limit f p w) e = omega (arith, e)
-isnt_done (load.Clause f w) e = isnt_done_clause f w e
-isnt_done load.NoMemory e = omega (arith, e)
-
-pub refused_not_done : (Q : Answer → Type 0) (why : LoadFault) (r : Result Answer AllocError) → IfOk r (λ answer. (answer.status ≡ load_status why) × (joined answer.lines ≡ load_line why)) → IfOk r (λ answer. answer.status ≡ 0 → Q answer)
-refused_not_done Q why (Ok answer) line = λ e. absurd (isnt_done why (sym line.0 ∙ e))
-refused_not_done Q why (Err fault) line = tt
-
 -- what stands behind an answer with status 0
 text_proof : (table : Table) (clauses : List Sourced) (marks : Option Fresh) (name text : List ℕ) (status : ℕ) (answer : List ℕ) → status ≡ 0 → TextAnswers table clauses marks name text status answer → (read : Table) × InternsProof text table read × (proof : Proof) × IsReading read text (Ok proof) × IsChecked clauses marks proof.lines Accepted
 text_proof table clauses marks name text status answer e (is_not_read read r n) = absurd (omega (arith, e))
@@ -248,18 +227,14 @@ has_proof loaded files before now root name proof problem status answer e d h f 
     }
 
 -- the answer where a problem is loaded
-pub loaded : (empty table : Table) (holds : Option Files) (before now : ℕ) (AnswersFor : Table → Problem → ℕ → List ℕ → Type 0) (root : Option (List ℕ)) (name : List ℕ) (problem : Problem) (r : Result Answer AllocError) → empty ≡ [] → IsDistinct table → WhereTold holds (λ files. IsFilled files root name empty table problem) → IsProblem table holds root name problem → IfOk r (λ answer. AnswersFor table problem answer.status (joined answer.lines)) → IfOk r (λ answer. LoadAnswers holds before now AnswersFor root name answer.status (joined answer.lines))
-loaded empty table holds before now AnswersFor root name problem (Ok answer) none d f h a = is_loaded d (is_held empty table holds root name problem none f h) a
-loaded empty table holds before now AnswersFor root name problem (Err fault) none d f h a = tt
+module _ (table later : Table) (holds mid : Option Files) (first before now : ℕ) (root : Option (List ℕ)) (name proof : List ℕ) (problem : Problem) (h : IsHeld holds root name table problem) where
+  pub loaded_answers : (r : Result Answer AllocError) → mid ≡ holds → first ≤ before → (IsDistinct later → IfOk r (λ answer. ProblemAnswers mid before now proof table problem answer.status (joined answer.lines))) → IsDistinct later → IfOk r (λ answer. CheckAnswers holds first now root name proof answer.status (joined answer.lines))
+  loaded_answers (Ok answer) e le a distinct = is_loaded h.distinct (held_loaded holds root name table problem h) (earlier_problem table holds first before now problem proof answer.status (joined answer.lines) le (subst (λ (o : Option Files). ProblemAnswers o before now proof table problem answer.status (joined answer.lines)) e (a distinct)))
+  loaded_answers (Err fault) e le a distinct = tt
 
-module _ (empty table later : Table) (holds mid : Option Files) (first before now : ℕ) (root : Option (List ℕ)) (name proof : List ℕ) (problem : Problem) where
-  pub loaded_answers : (r : Result Answer AllocError) → empty ≡ [] → mid ≡ holds → first ≤ before → IsDistinct table → WhereTold holds (λ files. IsFilled files root name empty table problem) → IsProblem table holds root name problem → (IsDistinct later → IfOk r (λ answer. ProblemAnswers mid before now proof table problem answer.status (joined answer.lines))) → IsDistinct later → IfOk r (λ answer. CheckAnswers holds first now root name proof answer.status (joined answer.lines))
-  loaded_answers (Ok answer) none e le d f h a distinct = is_loaded d (is_held empty table holds root name problem none f h) (earlier_problem table holds first before now problem proof answer.status (joined answer.lines) le (subst (λ (o : Option Files). ProblemAnswers o before now proof table problem answer.status (joined answer.lines)) e (a distinct)))
-  loaded_answers (Err fault) none e le d f h a distinct = tt
-
-  pub loaded_certified : (r : Result Answer AllocError) → empty ≡ [] → mid ≡ holds → IsDistinct table → WhereTold holds (λ files. IsFilled files root name empty table problem) → IsProblem table holds root name problem → (IsDistinct later → IfOk r (λ answer. ProblemAnswers mid before now proof table problem answer.status (joined answer.lines))) → IfOk r (λ answer. answer.status ≡ 0 → SomeFollows (axioms_of problem.clauses) (goals_of problem.clauses)) → IsDistinct later → IfOk r (λ answer. answer.status ≡ 0 → (files : Files) → holds ≡ Some files → HasProof files root name proof)
-  loaded_certified (Ok answer) none e d f h a follows distinct = λ done files told. has_proof table files before now root name proof problem answer.status (joined answer.lines) done d (subst (λ (o : Option Files). WhereTold o (λ fs. IsLoaded fs root name table problem)) told (is_held empty table holds root name problem none f h)) (follows done) (subst (λ (o : Option Files). ProblemAnswers o before now proof table problem answer.status (joined answer.lines)) (e ∙ told) (a distinct))
-  loaded_certified (Err fault) none e d f h a follows distinct = tt
+  pub loaded_certified : (r : Result Answer AllocError) → mid ≡ holds → (IsDistinct later → IfOk r (λ answer. ProblemAnswers mid before now proof table problem answer.status (joined answer.lines))) → IfOk r (λ answer. answer.status ≡ 0 → SomeFollows (axioms_of problem.clauses) (goals_of problem.clauses)) → IsDistinct later → IfOk r (λ answer. answer.status ≡ 0 → (files : Files) → holds ≡ Some files → HasProof files root name proof)
+  loaded_certified (Ok answer) e a follows distinct = λ done files told. has_proof table files before now root name proof problem answer.status (joined answer.lines) done h.distinct (subst (λ (o : Option Files). WhereTold o (λ fs. IsLoaded fs root name table problem)) told (held_loaded holds root name table problem h)) (follows done) (subst (λ (o : Option Files). ProblemAnswers o before now proof table problem answer.status (joined answer.lines)) (e ∙ told) (a distinct))
+  loaded_certified (Err fault) e a follows distinct = tt
 
 -- two names
 pub two_names : (names : List (List ℕ)) (a b : List ℕ) → 2 ≤ length names → length names < 3 → a ≡ get_or names 0 a → b ≡ get_or names 1 b → names ≡ a ∷ b ∷ []

@@ -20,8 +20,7 @@ use Rattle.uc_problem.specs.declared.fault.EncodeFault.TheVariants.{GoalTooLarge
 use Rattle.uc_problem.specs.declared.problem.Problem.{Problem}
 use Rattle.uc_problem.specs.declared.problem.Encoded.{Encoded}
 use Rattle.uc_problem.specs.Encodes.{IsEncoded}
-use Rattle.uc_problem.specs.Filling.{WhereTold, IsFilled, AddsMarks}
-use Rattle.uc_problem.specs.Holds.{IsProblem}
+use Rattle.uc_problem.specs.Filling.{AddsMarks}
 use Rattle.uc_problem.proofs.Later.{Grows-refl}
 use Rattle.uc_tstp.specs.Framing.{max_proof}
 use Rattle.uc_order.specs.Laws.{Meaning}
@@ -54,7 +53,9 @@ use Rattle.uc_top.specs.CertificateTested.{IsRefusal, fails_so, IsTestedAs, Pass
 use Rattle.uc_top.specs.declared.certificates.Tested.{Tested}
 use Rattle.uc_top.specs.declared.certificates.Tested.TheVariants.{Refused, Passed}
 use Rattle.uc_top.specs.FileAnswers.{IsTextFetched, FileAnswers, is_absent, isnt_fetched, is_found}
-use Rattle.uc_top.proofs.Answering.{one_line, is_held, large_within}
+use Rattle.uc_top.specs.HandedOn.{IsHeld}
+use Rattle.uc_top.proofs.HandingOn.{held}
+use Rattle.uc_top.proofs.Answering.{one_line, large_within}
 use Rattle.uc_top.proofs.CertificateOrders.{each_mapped}
 use Rattle.uc_top.proofs.FileAnswering.{is_found_text, earlier_file}
 
@@ -290,6 +291,6 @@ module _ (AnswersFor : Table → Certificate → Certified → ℕ → List ℕ 
   earlier_certificate first status answer le (is_encoded d i e a) = is_encoded d i e (earlier_file holds before now _ _ first le a)
 
 -- the answer for a problem that is loaded, where a later part of the call read the certificate file
-pub loaded_certificate : (AnswersFor : Problem → Table → Certificate → Certified → ℕ → List ℕ → Type 0) (empty table : Table) (holds mid : Option Files) (first before now : ℕ) (root : Option (List ℕ)) (name file : List ℕ) (problem : Problem) (r : Result Answer AllocError) → empty ≡ [] → mid ≡ holds → first ≤ before → IsDistinct table → WhereTold holds (λ files. IsFilled files root name empty table problem) → IsProblem table holds root name problem → IfOk r (λ answer. CertificateAnswers (AnswersFor problem) mid before now file table problem answer.status (joined answer.lines)) → IfOk r (λ answer. LoadAnswers holds first now (λ loaded held. CertificateAnswers (AnswersFor held) holds first now file loaded held) root name answer.status (joined answer.lines))
-loaded_certificate AnswersFor empty table holds mid first before now root name file problem (Ok answer) none e le d f h a = is_loaded d (is_held empty table holds root name problem none f h) (earlier_certificate (AnswersFor problem) holds before now file table problem first answer.status (joined answer.lines) le (subst (λ (o : Option Files). CertificateAnswers (AnswersFor problem) o before now file table problem answer.status (joined answer.lines)) e a))
-loaded_certificate AnswersFor empty table holds mid first before now root name file problem (Err fault) none e le d f h a = tt
+pub loaded_certificate : (AnswersFor : Problem → Table → Certificate → Certified → ℕ → List ℕ → Type 0) (table : Table) (holds mid : Option Files) (first before now : ℕ) (root : Option (List ℕ)) (name file : List ℕ) (problem : Problem) (r : Result Answer AllocError) → IsHeld holds root name table problem → mid ≡ holds → first ≤ before → IfOk r (λ answer. CertificateAnswers (AnswersFor problem) mid before now file table problem answer.status (joined answer.lines)) → IfOk r (λ answer. LoadAnswers holds first now (λ loaded held. CertificateAnswers (AnswersFor held) holds first now file loaded held) root name answer.status (joined answer.lines))
+loaded_certificate AnswersFor table holds mid first before now root name file problem (Ok answer) h e le a = is_loaded h.distinct (held holds root name table problem h) (earlier_certificate (AnswersFor problem) holds before now file table problem first answer.status (joined answer.lines) le (subst (λ (o : Option Files). CertificateAnswers (AnswersFor problem) o before now file table problem answer.status (joined answer.lines)) e a))
+loaded_certificate AnswersFor table holds mid first before now root name file problem (Err fault) h e le a = tt

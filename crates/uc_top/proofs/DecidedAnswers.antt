@@ -4,18 +4,18 @@ use Rattle.std.specs.Result.{IfOk}
 use Rattle.std.specs.declared.alloc.AllocError.{AllocError}
 use Rattle.uc_term.specs.declared.equation.Equation.{Equation}
 use Rattle.uc_term.specs.Tree.{Tree}
-use Rattle.uc_term.specs.Table.{Table, Has, IsDistinct}
+use Rattle.uc_term.specs.Table.{Table, Has}
 use Rattle.uc_edge.specs.Files.{Files}
 use Rattle.uc_check.specs.Clauses.{axioms_of}
 use Rattle.uc_problem.specs.declared.problem.Problem.{Problem}
 use Rattle.uc_problem.specs.declared.problem.Encoded.{Encoded}
-use Rattle.uc_problem.specs.Holds.{Agrees, IsProblem}
+use Rattle.uc_problem.specs.Holds.{Agrees}
 use Rattle.uc_order.specs.declared.spec.OrderSpec.{OrderSpec}
 use Rattle.uc_order.specs.Laws.{Meaning, HasSym}
 use Rattle.uc_fact.specs.Ground.{AreOfSignature}
 use Rattle.uc_fact.specs.Live.{equations_of, numbered}
 use Rattle.uc_shelf.specs.Entries.{live}
-use Rattle.uc_problem.specs.Filling.{WhereTold, IsFilled}
+use Rattle.uc_problem.specs.Filling.{WhereTold}
 use Rattle.uc_machine.specs.declared.event.Verdict.{Verdict}
 use Rattle.uc_machine.specs.declared.event.Verdict.TheVariants.{Saturated}
 use Rattle.uc_machine.specs.State.{Opening, State}
@@ -52,7 +52,9 @@ use Rattle.uc_top.specs.DecideAnswers.{opening_of_axioms, IsDecided, is_unordere
 use Rattle.uc_top.specs.Loaded.{IsLoaded}
 use Rattle.uc_top.specs.DecideRuns.{IsAnswered, IsOut, Decided, KeepsDecision}
 use Rattle.uc_top.specs.DecideTold.{without_goals, AreGroundOfTable, TellsEnd, tells_replies, tells_limit, IsToldBySearch}
-use Rattle.uc_top.proofs.Answering.{one_line, is_held}
+use Rattle.uc_top.specs.HandedOn.{IsHeld}
+use Rattle.uc_top.proofs.HandingOn.{held}
+use Rattle.uc_top.proofs.Answering.{one_line}
 use Rattle.uc_top.proofs.ProvedAnswers.{no_promise}
 
 -- THE REPLIES
@@ -191,8 +193,8 @@ module _ (table : Table) (command : Command) (name : List ℕ) (words : List (Li
 
 -- A PROBLEM THAT IS LOADED
 
-pub loaded_decided : (empty table : Table) (command : Command) (name : List ℕ) (words : List (List ℕ)) (holds : Option Files) (problem : Problem) (r : Result Answer AllocError) → empty ≡ [] → IsDistinct table → WhereTold holds (λ files. IsFilled files command.root name empty table problem) → IsProblem table holds command.root name problem → IfOk r (λ answer. answer.status ≤ 2 → Decided table command name words problem answer.status (joined answer.lines)) → IfOk r (λ answer. answer.status ≤ 2 → (files : Files) → holds ≡ Some files → KeepsDecision files command name words answer.status (joined answer.lines))
-loaded_decided empty table command name words holds problem (Ok answer) none d f h k = λ few files told.
-    let l = subst (λ (o : Option Files). WhereTold o (λ files. IsLoaded files command.root name table problem)) told (is_held empty table holds command.root name problem none f h) in
-    record { table = table; distinct = d; is_decided = record { problem = problem; filled = l.filled; holds = l.holds; decided = k few } }
-loaded_decided empty table command name words holds problem (Err fault) none d f h k = tt
+pub loaded_decided : (table : Table) (command : Command) (name : List ℕ) (words : List (List ℕ)) (holds : Option Files) (problem : Problem) (r : Result Answer AllocError) → IsHeld holds command.root name table problem → IfOk r (λ answer. answer.status ≤ 2 → Decided table command name words problem answer.status (joined answer.lines)) → IfOk r (λ answer. answer.status ≤ 2 → (files : Files) → holds ≡ Some files → KeepsDecision files command name words answer.status (joined answer.lines))
+loaded_decided table command name words holds problem (Ok answer) h k = λ few files told.
+    let l = subst (λ (o : Option Files). WhereTold o (λ files. IsLoaded files command.root name table problem)) told (held holds command.root name table problem h) in
+    record { table = table; distinct = h.distinct; is_decided = record { problem = problem; filled = l.filled; holds = l.holds; decided = k few } }
+loaded_decided table command name words holds problem (Err fault) h k = tt

@@ -22,7 +22,7 @@ module _ (before now : ℕ) (old new : List (List ℕ)) where
   none_failed opening (Err e) k = (None, k)
 
   -- a refusal of loading
-  some_counted : (why : LoadFault) → IsFaultedBy why before now old new → (file : Option (List ℕ)) × IsCounted file before now old new
+  pub some_counted : (why : LoadFault) → IsFaultedBy why before now old new → (file : Option (List ℕ)) × IsCounted file before now old new
   some_counted (load.ReadFault file) k = (Some file, k)
   some_counted load.NoMemory k = k
   some_counted (load.Absent file from) k = (None, k)

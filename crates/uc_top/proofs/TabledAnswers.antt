@@ -1,16 +1,14 @@
 -- From what reading and checking a table promise to the answer of `table`.
-use Rattle.std.proofs.Common.{◌⊎◌, inl, inr, ℕ, ◌≡◌, ◌<◌, ◌≤◌, Bool, true, false, List, [], length, take, Option, Result, Ok, Err, refl, sym, ◌∙◌, subst, arith, if◌then◌else◌}
+use Rattle.std.proofs.Common.{◌⊎◌, inl, inr, ℕ, ◌≡◌, ◌<◌, ◌≤◌, Bool, true, false, List, length, take, Option, Result, Ok, Err, refl, sym, ◌∙◌, subst, arith, if◌then◌else◌}
 use Rattle.std.specs.Prelude.{nat_le, nat_lt}
 use Rattle.std.specs.Result.{IfOk}
 use Rattle.std.specs.declared.alloc.AllocError.{AllocError}
 use Rattle.std.proofs.lemmas.List.{take_all, length-take-le}
 use Rattle.std.proofs.lemmas.Bool.{lt-ltb}
 use Rattle.std.proofs.lemmas.Bool.Decides.{leb_tells}
-use Rattle.uc_term.specs.Table.{Table as SymbolTable, IsDistinct}
+use Rattle.uc_term.specs.Table.{Table as SymbolTable}
 use Rattle.uc_edge.specs.Files.{Files}
 use Rattle.uc_problem.specs.declared.problem.Problem.{Problem}
-use Rattle.uc_problem.specs.Holds.{IsProblem}
-use Rattle.uc_problem.specs.Filling.{WhereTold, IsFilled}
 use Rattle.uc_table.specs.declared.table.Table.{Table}
 use Rattle.uc_table.specs.declared.answers.Tabled.{Tabled}
 use Rattle.uc_table.specs.declared.fault.TableFault.{TableFault}
@@ -24,7 +22,8 @@ use Rattle.uc_answer.specs.TableLines.{tabled_line, tabled_status, table_fault_l
 use Rattle.uc_top.specs.FileAnswers.{FileAnswers}
 use Rattle.uc_top.specs.TableAnswers.{TableTextAnswers, isnt_table, is_table}
 use Rattle.uc_top.specs.Answers.{TableAnswers, is_loaded}
-use Rattle.uc_top.proofs.Answering.{is_held}
+use Rattle.uc_top.specs.HandedOn.{IsHeld}
+use Rattle.uc_top.proofs.HandingOn.{held}
 use Rattle.uc_top.proofs.FileAnswering.{earlier_file}
 
 -- what reading comes to, where memory isn't wanted
@@ -68,6 +67,6 @@ module _ (symbols : SymbolTable) (problem : Problem) (file : List ℕ) where
       go (inr p) = subst (λ (t : List ℕ). TableTextAnswers symbols problem file t status answer) (take_all 16777217 text (omega (arith, p.1))) a
 
 -- the answer for a problem that is loaded, where a later part of the call read the table file
-pub loaded_file : (empty symbols : SymbolTable) (holds mid : Option Files) (first before now : ℕ) (root : Option (List ℕ)) (name file : List ℕ) (problem : Problem) (r : Result Answer AllocError) → empty ≡ [] → mid ≡ holds → first ≤ before → IsDistinct symbols → WhereTold holds (λ files. IsFilled files root name empty symbols problem) → IsProblem symbols holds root name problem → IfOk r (λ answer. FileAnswers mid before now (TableTextAnswers symbols problem file) file answer.status (joined answer.lines)) → IfOk r (λ answer. TableAnswers holds first now root name file answer.status (joined answer.lines))
-loaded_file empty symbols holds mid first before now root name file problem (Ok answer) none e le d f h a = is_loaded d (is_held empty symbols holds root name problem none f h) (earlier_file holds before now (TableTextAnswers symbols problem file) file first le (subst (λ (o : Option Files). FileAnswers o before now (TableTextAnswers symbols problem file) file answer.status (joined answer.lines)) e a))
-loaded_file empty symbols holds mid first before now root name file problem (Err fault) none e le d f h a = tt
+pub loaded_file : (symbols : SymbolTable) (holds mid : Option Files) (first before now : ℕ) (root : Option (List ℕ)) (name file : List ℕ) (problem : Problem) (r : Result Answer AllocError) → IsHeld holds root name symbols problem → mid ≡ holds → first ≤ before → IfOk r (λ answer. FileAnswers mid before now (TableTextAnswers symbols problem file) file answer.status (joined answer.lines)) → IfOk r (λ answer. TableAnswers holds first now root name file answer.status (joined answer.lines))
+loaded_file symbols holds mid first before now root name file problem (Ok answer) h e le a = is_loaded h.distinct (held holds root name symbols problem h) (earlier_file holds before now (TableTextAnswers symbols problem file) file first le (subst (λ (o : Option Files). FileAnswers o before now (TableTextAnswers symbols problem file) file answer.status (joined answer.lines)) e a))
+loaded_file symbols holds mid first before now root name file problem (Err fault) h e le a = tt

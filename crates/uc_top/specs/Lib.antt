@@ -16,6 +16,7 @@ pub mod Told
 pub mod Faulting
 pub mod CertificateTested
 pub mod Answers
+pub mod HandedOn
 pub mod Runs
 pub mod Given
 pub mod ListRuns

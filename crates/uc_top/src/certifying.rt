@@ -10,12 +10,12 @@ ghost use Rattle.uc_top.specs.CertifyAnswers.{IsCertifiedAnswer};
 ghost use Rattle.uc_top.specs.Faulting.{AnswersFault};
 
 use crate::certificates::{Tested, test_certificate};
-use crate::loading::bytes_of;
+use crate::loading::{Loaded, load_problem};
 use std::alloc::{AllocError, Global};
-use uc_answer::{Answer, certified_answer, load_answer};
+use uc_answer::{Answer, certified_answer};
 use uc_certify::Certified;
 use uc_edge::Library;
-use uc_problem::{Problem, load};
+use uc_problem::Problem;
 use uc_term::{Symbols, Text};
 
 /// The answer to `certify` for the problem file and the certificate file of these names.
@@ -31,36 +31,15 @@ pub(crate) fn certify_answer<L: Library>(
     ensures later { L.faults library.old ≤ L.faults library.new }
     ensures faulted { AnswersFault (L.faults library.old) (L.faults library.new) (L.failed_at library.old) (L.failed_at library.new) [] result }
 {
-    let root = bytes_of(root);
-    let mut symbols = Symbols::new(alloc);
-    load_and_certify(
-        alloc,
-        root,
-        name.as_bytes(),
-        file.as_bytes(),
-        &mut symbols,
-        library,
-    )
-}
-
-// The answer, with a table for the symbols.
-fn load_and_certify<L: Library>(
-    alloc: Global,
-    root: Option<&[u8]>,
-    name: &[u8],
-    file: &[u8],
-    symbols: &mut Symbols,
-    library: &mut L,
-) -> Result<Answer, AllocError>
-    requires empty { symbols.old ≡ [] }
-    ensures answers { IfOk result (λ answer. CertifyAnswers (L.holds library.old) (L.faults library.old) (L.faults library.new) (option_copied root.entry) name.now file.now answer.status (joined answer.lines)) }
-    ensures same { L.holds library.new ≡ L.holds library.old }
-    ensures later { L.faults library.old ≤ L.faults library.new }
-    ensures faulted { AnswersFault (L.faults library.old) (L.faults library.new) (L.failed_at library.old) (L.failed_at library.new) [] result }
-{
-    match load(alloc, library, root, name, symbols) {
-        Ok(problem) => problem_answer(alloc, &problem, file, symbols, library),
-        Err(fault) => load_answer(alloc, &fault),
+    match load_problem(alloc, root, name, library)? {
+        Loaded::Refused(answer) => Ok(answer),
+        Loaded::Held(problem, mut symbols) => problem_answer(
+            alloc,
+            &problem,
+            file.as_bytes(),
+            &mut symbols,
+            library,
+        ),
     }
 }
 

@@ -10,20 +10,17 @@ ghost use Rattle.uc_problem.specs.Holds.{Agrees};
 ghost use Rattle.uc_tstp.specs.Interning.{InternsProof};
 ghost use Rattle.uc_tstp.specs.Reading.{IsReading};
 ghost use Rattle.uc_answer.specs.Lines.{joined, proof_line};
-ghost use Rattle.uc_answer.specs.Refusals.{large_line};
 ghost use Rattle.uc_top.specs.Answers.{checked_status, TextAnswers, ProofAnswers, ProblemAnswers, CheckAnswers};
 ghost use Rattle.uc_top.specs.Runs.{HasProof};
 ghost use Rattle.uc_top.specs.Faulting.{AnswersFault};
 
-use crate::loading::{absent_answer, bytes_of, failed_answer, fetch_text};
+use crate::loading::{Loaded, absent_answer, failed_answer, fetch_text, load_problem};
 use std::alloc::{AllocError, Global};
-use uc_answer::{
-    Answer, DONE, NO, REFUSED, checked_line, large_answer, load_answer, of_line, proof_line,
-};
+use uc_answer::{Answer, DONE, NO, REFUSED, checked_line, large_answer, of_line, proof_line};
 use uc_check::{Checked, Proof, check};
 use uc_clause::Sourced;
 use uc_edge::{Fetched, Library};
-use uc_problem::{EncodeFault, Problem, load, marks};
+use uc_problem::{EncodeFault, Problem, marks};
 use uc_term::{Fresh, Symbols, Text};
 use uc_tstp::{MAX_PROOF, ProofFault, read_proof};
 
@@ -41,33 +38,14 @@ pub(crate) fn check_answer<L: Library>(
     ensures later { L.faults library.old ≤ L.faults library.new }
     ensures faulted { AnswersFault (L.faults library.old) (L.faults library.new) (L.failed_at library.old) (L.failed_at library.new) [] result }
 {
-    let root = bytes_of(root);
-    let mut symbols = Symbols::new(alloc);
-    let answer = load_and_check(alloc, root, name.as_bytes(), proof, &mut symbols, library);
-    // The entries of the table are all different, so what was read is the only reading.
-    let _ = symbols.len();
-    answer
-}
-
-// The answer, with a table for the symbols.
-fn load_and_check<L: Library>(
-    alloc: Global,
-    root: Option<&[u8]>,
-    name: &[u8],
-    proof: &Text,
-    symbols: &mut Symbols,
-    library: &mut L,
-) -> Result<Answer, AllocError>
-    requires empty { symbols.old ≡ [] }
-    ensures answers { IsDistinct symbols.new → IfOk result (λ answer. CheckAnswers (L.holds library.old) (L.faults library.old) (L.faults library.new) (option_copied root.entry) name.now proof.now answer.status (joined answer.lines)) }
-    ensures certified { IsDistinct symbols.new → IfOk result (λ answer. answer.status ≡ 0 → (files : Files) → L.holds library.old ≡ Some files → HasProof files (option_copied root.entry) name.now proof.now) }
-    ensures same { L.holds library.new ≡ L.holds library.old }
-    ensures later { L.faults library.old ≤ L.faults library.new }
-    ensures faulted { AnswersFault (L.faults library.old) (L.faults library.new) (L.failed_at library.old) (L.failed_at library.new) [] result }
-{
-    match load(alloc, library, root, name, symbols) {
-        Ok(problem) => problem_answer(alloc, &problem, proof, symbols, library),
-        Err(fault) => load_answer(alloc, &fault),
+    match load_problem(alloc, root, name, library)? {
+        Loaded::Refused(answer) => Ok(answer),
+        Loaded::Held(problem, mut symbols) => {
+            let answer = problem_answer(alloc, &problem, proof, &mut symbols, library);
+            // The entries of the table are all different, so what was read is the only reading.
+            let _ = symbols.len();
+            answer
+        }
     }
 }
 

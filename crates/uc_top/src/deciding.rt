@@ -22,21 +22,19 @@ ghost use Rattle.uc_top.specs.DecideTold.{AreGroundOfTable, TellsEnd, IsToldBySe
 ghost use Rattle.uc_top.specs.Faulting.{AnswersFault};
 
 use crate::axioms::without_goals;
-use crate::loading::bytes_of;
+use crate::loading::{Loaded, load_problem};
 use crate::replying::replied_answer;
 use crate::searching::search_for;
 use std::alloc::{AllocError, Global};
 use std::sync::Wait;
 use std::thread::Threads;
-use uc_answer::{
-    Answer, Question, STOPPED, choice_answer, load_answer, out_lines, read_questions, word_answer,
-};
+use uc_answer::{Answer, Question, STOPPED, choice_answer, out_lines, read_questions, word_answer};
 use uc_book::Book;
 use uc_edge::{Gate, Library};
 use uc_machine::Verdict;
 use uc_order::{Order, OrderSpec};
 use uc_ordering::{Chosen, choose};
-use uc_problem::{Encoded, Problem, load};
+use uc_problem::{Encoded, Problem};
 use uc_search::live_system;
 use uc_shelf::Shelf;
 use uc_term::{Symbols, Text};
@@ -62,41 +60,18 @@ pub(crate) fn decide_answer<R: Threads + Wait + Sync, L: Library, G: Gate + Sync
     ensures later { L.faults library.old ≤ L.faults library.new }
     ensures faulted { AnswersFault (L.faults library.old) (L.faults library.new) (L.failed_at library.old) (L.failed_at library.new) [] result }
 {
-    let mut symbols = Symbols::new(alloc);
-    let name = name.as_bytes();
-    load_and_decide(rt, alloc, command, name, words, &mut symbols, library, gate)
-}
-
-/// The answer, with a table for the symbols.
-fn load_and_decide<R: Threads + Wait + Sync, L: Library, G: Gate + Sync>(
-    rt: &R,
-    alloc: Global,
-    command: &Command,
-    name: &[u8],
-    words: &[Text],
-    symbols: &mut Symbols,
-    library: &mut L,
-    gate: &G,
-) -> Result<Answer, AllocError>
-    requires w0 { WeighsWithin command.now.order }
-    requires search { SearchesWithin command.now }
-    requires short { AreShort words.now }
-    requires empty { symbols.old ≡ [] }
-    ensures answers { IfOk result (λ answer. DecideAnswers (L.holds library.old) (L.faults library.old) (L.faults library.new) command.now name.now words.now answer.status (joined answer.lines)) }
-    ensures promise { IfOk result (λ answer. answer.status ≤ 2 → (files : Files) → L.holds library.old ≡ Some files → KeepsDecision files command.now name.now words.now answer.status (joined answer.lines)) }
-    ensures same { L.holds library.new ≡ L.holds library.old }
-    ensures later { L.faults library.old ≤ L.faults library.new }
-    ensures faulted { AnswersFault (L.faults library.old) (L.faults library.new) (L.failed_at library.old) (L.failed_at library.new) [] result }
-{
-    match load(
-        alloc,
-        library,
-        bytes_of(command.root.as_ref()),
-        name,
-        symbols,
-    ) {
-        Ok(problem) => asked_answer(rt, alloc, command, name, words, &problem, symbols, gate),
-        Err(fault) => load_answer(alloc, &fault),
+    match load_problem(alloc, command.root.as_ref(), name, library)? {
+        Loaded::Refused(answer) => Ok(answer),
+        Loaded::Held(problem, mut symbols) => asked_answer(
+            rt,
+            alloc,
+            command,
+            name.as_bytes(),
+            words,
+            &problem,
+            &mut symbols,
+            gate,
+        ),
     }
 }
 

@@ -23,15 +23,15 @@ ghost use Rattle.uc_top.specs.SystemAnswers.{IsAskedCertificate};
 ghost use Rattle.uc_top.specs.Faulting.{AnswersFault};
 
 use crate::certificates::{Tested, precedence, test_certificate};
-use crate::loading::bytes_of;
+use crate::loading::{Loaded, load_problem};
 use crate::replying::replied_answer;
 use std::alloc::{AllocError, Global};
 use std::thread::Threads;
-use uc_answer::{Answer, Question, load_answer, read_questions, word_answer};
+use uc_answer::{Answer, Question, read_questions, word_answer};
 use uc_certificate::Certificate;
 use uc_edge::{Gate, Library};
 use uc_ordering::Chosen;
-use uc_problem::{Problem, load};
+use uc_problem::Problem;
 use uc_term::{Symbols, Text};
 use uc_words::Command;
 
@@ -54,53 +54,19 @@ pub(crate) fn system_answer<R: Threads + Sync, L: Library, G: Gate + Sync>(
     ensures later { L.faults library.old ≤ L.faults library.new }
     ensures faulted { AnswersFault (L.faults library.old) (L.faults library.new) (L.failed_at library.old) (L.failed_at library.new) [] result }
 {
-    let mut symbols = Symbols::new(alloc);
-    let file = file.as_bytes();
-    let name = name.as_bytes();
-    load_and_ask(
-        rt,
-        alloc,
-        command,
-        file,
-        name,
-        words,
-        &mut symbols,
-        library,
-        gate,
-    )
-}
-
-// The answer, with a table for the symbols.
-fn load_and_ask<R: Threads + Sync, L: Library, G: Gate + Sync>(
-    rt: &R,
-    alloc: Global,
-    command: &Command,
-    file: &[u8],
-    name: &[u8],
-    words: &[Text],
-    symbols: &mut Symbols,
-    library: &mut L,
-    gate: &G,
-) -> Result<Answer, AllocError>
-    requires workers { WorksWithin command.now }
-    requires short { AreShort words.now }
-    requires empty { symbols.old ≡ [] }
-    ensures answers { IfOk result (λ answer. SystemAnswers (L.holds library.old) (L.faults library.old) (L.faults library.new) command.now.steps words.now file.now command.now.root name.now answer.status (joined answer.lines)) }
-    ensures same { L.holds library.new ≡ L.holds library.old }
-    ensures later { L.faults library.old ≤ L.faults library.new }
-    ensures faulted { AnswersFault (L.faults library.old) (L.faults library.new) (L.failed_at library.old) (L.failed_at library.new) [] result }
-{
-    match load(
-        alloc,
-        library,
-        bytes_of(command.root.as_ref()),
-        name,
-        symbols,
-    ) {
-        Ok(problem) => problem_answer(
-            rt, alloc, command, file, words, &problem, symbols, library, gate,
+    match load_problem(alloc, command.root.as_ref(), name, library)? {
+        Loaded::Refused(answer) => Ok(answer),
+        Loaded::Held(problem, mut symbols) => problem_answer(
+            rt,
+            alloc,
+            command,
+            file.as_bytes(),
+            words,
+            &problem,
+            &mut symbols,
+            library,
+            gate,
         ),
-        Err(fault) => load_answer(alloc, &fault),
     }
 }
 

@@ -13,13 +13,13 @@ ghost use Rattle.uc_top.specs.Answers.{ListAnswers};
 ghost use Rattle.uc_top.specs.Faulting.{AnswersFault};
 
 use crate::axioms::{are_few, axioms_of};
-use crate::loading::bytes_of;
+use crate::loading::{Loaded, load_problem};
 use std::alloc::{AllocError, Global};
-use uc_answer::{Answer, DONE, all_pair_lines, choice_answer, directed_lines, load_answer};
+use uc_answer::{Answer, DONE, all_pair_lines, choice_answer, directed_lines};
 use uc_edge::Library;
 use uc_order::{Order, OrderSpec};
 use uc_ordering::{Chosen, choose};
-use uc_problem::{Problem, load};
+use uc_problem::Problem;
 use uc_term::{Equation, Seq, Symbols, Text};
 use uc_words::{Command, OrderWords};
 
@@ -46,42 +46,15 @@ pub(crate) fn list_answer<L: Library>(
     ensures later { L.faults library.old ≤ L.faults library.new }
     ensures faulted { AnswersFault (L.faults library.old) (L.faults library.new) (L.failed_at library.old) (L.failed_at library.new) [] result }
 {
-    let mut symbols = Symbols::new(alloc);
-    load_and_list(
-        alloc,
-        command,
-        name.as_bytes(),
-        listing,
-        &mut symbols,
-        library,
-    )
-}
-
-// The answer, with a table for the symbols.
-fn load_and_list<L: Library>(
-    alloc: Global,
-    command: &Command,
-    name: &[u8],
-    listing: Listing,
-    symbols: &mut Symbols,
-    library: &mut L,
-) -> Result<Answer, AllocError>
-    requires w0 { WeighsWithin command.now.order }
-    requires empty { symbols.old ≡ [] }
-    ensures answers { IfOk result (λ answer. ListAnswers (L.holds library.old) (L.faults library.old) (L.faults library.new) listing command.now.order command.now.root name.now answer.status (joined answer.lines)) }
-    ensures same { L.holds library.new ≡ L.holds library.old }
-    ensures later { L.faults library.old ≤ L.faults library.new }
-    ensures faulted { AnswersFault (L.faults library.old) (L.faults library.new) (L.failed_at library.old) (L.failed_at library.new) [] result }
-{
-    match load(
-        alloc,
-        library,
-        bytes_of(command.root.as_ref()),
-        name,
-        symbols,
-    ) {
-        Ok(problem) => listed_answer(alloc, &problem, &command.order, listing, symbols),
-        Err(fault) => load_answer(alloc, &fault),
+    match load_problem(alloc, command.root.as_ref(), name, library)? {
+        Loaded::Refused(answer) => Ok(answer),
+        Loaded::Held(problem, symbols) => listed_answer(
+            alloc,
+            &problem,
+            &command.order,
+            listing,
+            &symbols,
+        ),
     }
 }
 

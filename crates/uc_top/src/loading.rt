@@ -6,11 +6,13 @@ ghost use Rattle.uc_edge.specs.Faults.{IsCounted};
 ghost use Rattle.uc_edge.specs.Files.{failing};
 ghost use Rattle.uc_answer.specs.Lines.{joined, about_file};
 ghost use Rattle.uc_top.specs.FileAnswers.{IsTextFetched};
+ghost use Rattle.uc_top.specs.HandedOn.{IsHandedOn, IsHandFaulted};
 
 use std::alloc::{AllocError, Global};
-use uc_answer::{Answer, READ_FAULT, REFUSED, about_file, of_line};
+use uc_answer::{Answer, READ_FAULT, REFUSED, about_file, load_answer, of_line};
 use uc_edge::{Fetched, Library};
-use uc_term::Text;
+use uc_problem::{Problem, load};
+use uc_term::{Symbols, Text};
 
 // The bytes of a root, where one is given.
 pub(crate) fn bytes_of(root: Option<&Text>) -> Option<&[u8]>
@@ -19,6 +21,35 @@ pub(crate) fn bytes_of(root: Option<&Text>) -> Option<&[u8]>
     match root {
         Some(root) => Some(root.as_bytes()),
         None => None,
+    }
+}
+
+/// What loading a problem file comes to.
+#[derive(Drop)]
+pub(crate) enum Loaded {
+    /// No problem is loaded, and this answers the command.
+    Refused(Answer),
+    /// The problem, with its symbols in this table.
+    Held(Problem, Symbols),
+}
+
+/// Loads the problem file of this name, with a table of its own for the symbols.
+pub(crate) fn load_problem<L: Library>(
+    alloc: Global,
+    root: Option<&Text>,
+    name: &Text,
+    library: &mut L,
+) -> Result<Loaded, AllocError>
+    ensures handed { IfOk result (IsHandedOn (L.holds library.old) (L.faults library.old) (L.faults library.new) (option_copied root.entry) name.now) }
+    ensures same { L.holds library.new ≡ L.holds library.old }
+    ensures later { L.faults library.old ≤ L.faults library.new }
+    ensures faulted { IsHandFaulted (L.faults library.old) (L.faults library.new) (L.failed_at library.old) (L.failed_at library.new) result }
+{
+    let root = bytes_of(root);
+    let mut symbols = Symbols::new(alloc);
+    match load(alloc, library, root, name.as_bytes(), &mut symbols) {
+        Ok(problem) => Ok(Loaded::Held(problem, symbols)),
+        Err(fault) => Ok(Loaded::Refused(load_answer(alloc, &fault)?)),
     }
 }
 

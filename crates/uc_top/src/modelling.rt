@@ -1,7 +1,6 @@
 //! The command `model`.
 
 ghost use Rattle.std.specs.Prelude.{◌≡◌, ◌≤◌, [], IfOk};
-ghost use Rattle.std.specs.Option.{option_copied};
 ghost use Rattle.uc_problem.specs.Holds.{Agrees};
 ghost use Rattle.uc_answer.specs.Lines.{joined};
 ghost use Rattle.uc_top.specs.Limits.{ModelsWithin};
@@ -9,11 +8,11 @@ ghost use Rattle.uc_top.specs.Answers.{ModelAnswers};
 ghost use Rattle.uc_top.specs.ModelAnswers.{IsModelled};
 ghost use Rattle.uc_top.specs.Faulting.{AnswersFault};
 
-use crate::loading::bytes_of;
+use crate::loading::{Loaded, load_problem};
 use std::alloc::{AllocError, Global};
-use uc_answer::{Answer, load_answer, searched_answer};
+use uc_answer::{Answer, searched_answer};
 use uc_edge::Library;
-use uc_problem::{Problem, load};
+use uc_problem::Problem;
 use uc_table::search;
 use uc_term::{Symbols, Text};
 use uc_words::Command;
@@ -31,34 +30,15 @@ pub(crate) fn model_answer<L: Library>(
     ensures later { L.faults library.old ≤ L.faults library.new }
     ensures faulted { AnswersFault (L.faults library.old) (L.faults library.new) (L.failed_at library.old) (L.failed_at library.new) [] result }
 {
-    let mut symbols = Symbols::new(alloc);
-    load_and_model(alloc, command, name.as_bytes(), &mut symbols, library)
-}
-
-// The answer, with a table for the symbols.
-fn load_and_model<L: Library>(
-    alloc: Global,
-    command: &Command,
-    name: &[u8],
-    symbols: &mut Symbols,
-    library: &mut L,
-) -> Result<Answer, AllocError>
-    requires size { ModelsWithin command.now }
-    requires empty { symbols.old ≡ [] }
-    ensures answers { IfOk result (λ answer. ModelAnswers (L.holds library.old) (L.faults library.old) (L.faults library.new) command.now name.now answer.status (joined answer.lines)) }
-    ensures same { L.holds library.new ≡ L.holds library.old }
-    ensures later { L.faults library.old ≤ L.faults library.new }
-    ensures faulted { AnswersFault (L.faults library.old) (L.faults library.new) (L.failed_at library.old) (L.failed_at library.new) [] result }
-{
-    match load(
-        alloc,
-        library,
-        bytes_of(command.root.as_ref()),
-        name,
-        symbols,
-    ) {
-        Ok(problem) => modelled_answer(alloc, command, name, &problem, symbols),
-        Err(fault) => load_answer(alloc, &fault),
+    match load_problem(alloc, command.root.as_ref(), name, library)? {
+        Loaded::Refused(answer) => Ok(answer),
+        Loaded::Held(problem, symbols) => modelled_answer(
+            alloc,
+            command,
+            name.as_bytes(),
+            &problem,
+            &symbols,
+        ),
     }
 }
 

@@ -1,14 +1,11 @@
 //! The command `rewrite`.
 
 ghost use Rattle.std.specs.Prelude.{◌≡◌, ◌≤◌, ◌<◌, ◌^◌, [], None, length, IfOk};
-ghost use Rattle.std.specs.Option.{option_copied};
 ghost use Rattle.uc_term.specs.Table.{IsOf};
 ghost use Rattle.uc_problem.specs.Holds.{Agrees};
-ghost use Rattle.uc_ordering.specs.Choice.{IsChosen};
 ghost use Rattle.uc_ordering.specs.Fits.{Fits};
 ghost use Rattle.uc_rewrite.specs.declared.normal.Normal.{Normal as AnyNormal};
 ghost use Rattle.uc_answer.specs.Lines.{joined};
-ghost use Rattle.uc_answer.specs.TermWords.{IsTermWord, IsWordFault};
 ghost use Rattle.uc_answer.specs.ChainLines.{stop_status, AreNormalLines};
 ghost use Rattle.uc_top.specs.Limits.{WeighsWithin};
 ghost use Rattle.uc_top.specs.RewriteAnswers.{IsNormalFor, IsRewritten};
@@ -16,16 +13,14 @@ ghost use Rattle.uc_top.specs.Answers.{RewriteAnswers};
 ghost use Rattle.uc_top.specs.Faulting.{AnswersFault};
 
 use crate::axioms::{are_few, axioms_of};
-use crate::loading::bytes_of;
+use crate::loading::{Loaded, load_problem};
 use std::alloc::{AllocError, Global};
-use uc_answer::{
-    Answer, DONE, STOPPED, chain_lines, choice_answer, load_answer, read_word, word_answer,
-};
+use uc_answer::{Answer, DONE, STOPPED, chain_lines, choice_answer, read_word, word_answer};
 use uc_edge::Library;
 use uc_fact::Stop;
 use uc_order::OrderSpec;
 use uc_ordering::{Chosen, choose};
-use uc_problem::{Problem, load};
+use uc_problem::Problem;
 use uc_rewrite::{Scan, normalise};
 use uc_term::{Symbols, Term, Text};
 use uc_words::Command;
@@ -45,43 +40,15 @@ pub(crate) fn rewrite_answer<L: Library>(
     ensures later { L.faults library.old ≤ L.faults library.new }
     ensures faulted { AnswersFault (L.faults library.old) (L.faults library.new) (L.failed_at library.old) (L.failed_at library.new) [] result }
 {
-    let mut symbols = Symbols::new(alloc);
-    load_and_rewrite(
-        alloc,
-        command,
-        name.as_bytes(),
-        word.as_bytes(),
-        &mut symbols,
-        library,
-    )
-}
-
-// The answer, with a table for the symbols.
-fn load_and_rewrite<L: Library>(
-    alloc: Global,
-    command: &Command,
-    name: &[u8],
-    word: &[u8],
-    symbols: &mut Symbols,
-    library: &mut L,
-) -> Result<Answer, AllocError>
-    requires w0 { WeighsWithin command.now.order }
-    requires short { length word.now < 2 ^ 31 }
-    requires empty { symbols.old ≡ [] }
-    ensures answers { IfOk result (λ answer. RewriteAnswers (L.holds library.old) (L.faults library.old) (L.faults library.new) command.now.order command.now.limit word.now command.now.root name.now answer.status (joined answer.lines)) }
-    ensures same { L.holds library.new ≡ L.holds library.old }
-    ensures later { L.faults library.old ≤ L.faults library.new }
-    ensures faulted { AnswersFault (L.faults library.old) (L.faults library.new) (L.failed_at library.old) (L.failed_at library.new) [] result }
-{
-    match load(
-        alloc,
-        library,
-        bytes_of(command.root.as_ref()),
-        name,
-        symbols,
-    ) {
-        Ok(problem) => rewritten_answer(alloc, &problem, command, word, symbols),
-        Err(fault) => load_answer(alloc, &fault),
+    match load_problem(alloc, command.root.as_ref(), name, library)? {
+        Loaded::Refused(answer) => Ok(answer),
+        Loaded::Held(problem, mut symbols) => rewritten_answer(
+            alloc,
+            &problem,
+            command,
+            word.as_bytes(),
+            &mut symbols,
+        ),
     }
 }
 

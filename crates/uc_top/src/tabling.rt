@@ -13,12 +13,12 @@ ghost use Rattle.uc_top.specs.FileAnswers.{FileAnswers};
 ghost use Rattle.uc_top.specs.TableAnswers.{TableTextAnswers};
 ghost use Rattle.uc_top.specs.Faulting.{AnswersFault};
 
-use crate::loading::{absent_answer, bytes_of, failed_answer, fetch_text};
+use crate::loading::{Loaded, absent_answer, failed_answer, fetch_text, load_problem};
 use std::alloc::{AllocError, Global};
-use uc_answer::{Answer, load_answer, table_fault_answer, tabled_answer};
+use uc_answer::{Answer, table_fault_answer, tabled_answer};
 use uc_clause::MAX_BYTES;
 use uc_edge::{Fetched, Library};
-use uc_problem::{Problem, load};
+use uc_problem::Problem;
 use uc_table::{Table, check_table, read_table};
 use uc_term::{Symbols, Text};
 
@@ -35,36 +35,15 @@ pub(crate) fn table_answer<L: Library>(
     ensures later { L.faults library.old ≤ L.faults library.new }
     ensures faulted { AnswersFault (L.faults library.old) (L.faults library.new) (L.failed_at library.old) (L.failed_at library.new) [] result }
 {
-    let root = bytes_of(root);
-    let mut symbols = Symbols::new(alloc);
-    load_and_table(
-        alloc,
-        root,
-        name.as_bytes(),
-        file.as_bytes(),
-        &mut symbols,
-        library,
-    )
-}
-
-// The answer, with a table for the symbols.
-fn load_and_table<L: Library>(
-    alloc: Global,
-    root: Option<&[u8]>,
-    name: &[u8],
-    file: &[u8],
-    symbols: &mut Symbols,
-    library: &mut L,
-) -> Result<Answer, AllocError>
-    requires empty { symbols.old ≡ [] }
-    ensures answers { IfOk result (λ answer. TableAnswers (L.holds library.old) (L.faults library.old) (L.faults library.new) (option_copied root.entry) name.now file.now answer.status (joined answer.lines)) }
-    ensures same { L.holds library.new ≡ L.holds library.old }
-    ensures later { L.faults library.old ≤ L.faults library.new }
-    ensures faulted { AnswersFault (L.faults library.old) (L.faults library.new) (L.failed_at library.old) (L.failed_at library.new) [] result }
-{
-    match load(alloc, library, root, name, symbols) {
-        Ok(problem) => file_answer(alloc, &problem, file, symbols, library),
-        Err(fault) => load_answer(alloc, &fault),
+    match load_problem(alloc, root, name, library)? {
+        Loaded::Refused(answer) => Ok(answer),
+        Loaded::Held(problem, symbols) => file_answer(
+            alloc,
+            &problem,
+            file.as_bytes(),
+            &symbols,
+            library,
+        ),
     }
 }
 

@@ -1,4 +1,13 @@
+use Rattle.std.proofs.Common.{[]}
+use Rattle.uc_top.proofs.HandingOn.{loaded_for, refused_for}
+use Rattle.uc_top.proofs.Faulted.{none_failed}
 use Rattle.uc_top.proofs.modelling.model_answer.Goals as goal
 
-pub returns-clause-answers : goal.returns-clause-answers
-returns-clause-answers g c = rw c.as_bytes.ensures at c.load_and_model.ensures.answers
+pub returns-in-Refused-clause-answers : goal.returns-in-Refused-clause-answers
+returns-in-Refused-clause-answers g c = refused_for _ _ _ _ c.args.name.now _ (rw (c.in-Refused.is, c.as_ref.ensures.value) at c.in_ok-answer.ensures.handed)
+
+pub returns-in-Held-clause-answers : goal.returns-in-Held-clause-answers
+returns-in-Held-clause-answers g c = loaded_for _ _ _ _ c.args.name.now _ c.in-Held.symbols c.in-Held.problem c.modelled_answer.result (rw (c.in-Held.is, c.as_ref.ensures.value) at c.in_ok-answer.ensures.handed) (rw c.as_bytes.ensures at c.modelled_answer.ensures)
+
+pub returns-in-Held-clause-faulted : goal.returns-in-Held-clause-faulted
+returns-in-Held-clause-faulted g c = none_failed (g.L.Library.faults c.args.library.now) (g.L.Library.faults c.load_problem.new.library) (g.L.Library.failed_at c.args.library.now) (g.L.Library.failed_at c.load_problem.new.library) [] c.modelled_answer.result (rw c.in-Held.is at c.in_ok-answer.ensures.faulted)
