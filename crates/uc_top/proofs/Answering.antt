@@ -27,13 +27,13 @@ use Rattle.uc_clause.specs.declared.fault.What.TheVariants as what
 use Rattle.uc_problem.specs.declared.fault.LoadFault.{LoadFault}
 use Rattle.uc_problem.specs.declared.fault.LoadFault.TheVariants as load
 use Rattle.uc_problem.specs.declared.problem.Problem.{Problem}
-use Rattle.uc_problem.specs.Holds.{IsProblem, IsLoadFault}
+use Rattle.uc_problem.specs.Holds.{IsLoadFault}
 use Rattle.uc_problem.specs.Refusing.{Stops, IsRefused, IsStopped}
 use Rattle.uc_problem.specs.Refusing as stopped
 use Rattle.uc_problem.specs.Marks.{IsMarked, is_too_large}
 use Rattle.uc_problem.specs.declared.fault.EncodeFault.TheVariants.{GoalTooLarge}
 use Rattle.uc_problem.specs.Loading.{held}
-use Rattle.uc_problem.specs.Filling.{WhereTold, IsFilled, AddsMarks}
+use Rattle.uc_problem.specs.Filling.{WhereTold, AddsMarks}
 use Rattle.uc_problem.proofs.AddedOnce.{distinct_earlier}
 use Rattle.uc_problem.proofs.Later.{Grows-refl}
 use Rattle.uc_problem.proofs.Shapes.{problem_shapes}
@@ -51,7 +51,7 @@ use Rattle.uc_top.specs.Runs.{HasProof, IsCertified}
 use Rattle.uc_top.specs.FileAnswers.{is_absent, isnt_fetched, is_found}
 use Rattle.uc_top.specs.Answers.{TextAnswers, is_not_read, is_checked, ProofAnswers, ProblemAnswers, has_large_goal, is_marked, LoadAnswers, CheckAnswers, fetch_fails, is_refused, is_loaded}
 use Rattle.uc_top.specs.Loaded.{IsLoaded}
-use Rattle.uc_top.specs.HandedOn.{IsHeld}
+use Rattle.uc_top.specs.HandedOn.{AnswersNone, IsHeld, IsUnheld}
 use Rattle.uc_top.proofs.HandingOn.{held as held_loaded}
 use Rattle.uc_top.proofs.FileAnswering.{earlier_file}
 
@@ -120,11 +120,6 @@ pub marked_answers : (old table later : Table) (holds : Option Files) (before no
 marked_answers old table later holds before now problem marks proof (Ok answer) i h g a = λ d. is_marked (distinct_earlier table later g d) i (h table (Grows-refl table)) a
 marked_answers old table later holds before now problem marks proof (Err fault) i h g a = λ d. tt
 
--- the problem that is loaded, in the table that loading it leaves
-pub is_held : (empty table : Table) (holds : Option Files) (root : Option (List ℕ)) (name : List ℕ) (problem : Problem) → empty ≡ [] → WhereTold holds (λ files. IsFilled files root name empty table problem) → IsProblem table holds root name problem → WhereTold holds (λ files. IsLoaded files root name table problem)
-is_held empty table None root name problem none f h = tt
-is_held empty table (Some files) root name problem none f h = record { filled = subst (λ t. IsFilled files root name t table problem) none f; holds = h table (Grows-refl table) }
-
 -- why no problem is loaded
 module _ (root : Option (List ℕ)) (name : List ℕ) where
   refusal : {files : Files} {why : LoadFault} → load_status why ≡ 3 → IsStopped files root name [] why → IsRefused files root name [] why
@@ -175,13 +170,12 @@ module _ (root : Option (List ℕ)) (name : List ℕ) where
       not_loaded load.NoMemory n h s = absurd (n refl)
 
 -- the answer where no problem is loaded
-module _ (empty table : Table) (none : empty ≡ []) (before now : ℕ) (AnswersFor : Table → Problem → ℕ → List ℕ → Type 0) (root : Option (List ℕ)) (name : List ℕ) where
-  pub refused_answers : (holds : Option Files) (why : LoadFault) (r : Result Answer AllocError) → IsLoadFault table holds before now root name why → WhereTold holds (λ files. IsStopped files root name empty why) → IfOk r (λ answer. (answer.status ≡ load_status why) × (joined answer.lines ≡ load_line why)) → IfOk r (λ answer. answer.status ≡ 7 → ⊥) → IfOk r (λ answer. LoadAnswers holds before now AnswersFor root name answer.status (joined answer.lines))
-  refused_answers holds why (Ok answer) h s line n =
-      one_line (Ok answer) (LoadAnswers holds before now AnswersFor root name) (load_status why) (load_line why) line
-      (not_loaded root name table before now holds (λ status reason. LoadAnswers holds before now AnswersFor root name status (load_line reason)) (λ file r x. fetch_fails file r x) (λ reason x e. is_refused reason x e) why (λ e. n (line.0 ∙ e)) h
-      (subst (λ (t : Table). WhereTold holds (λ files. IsStopped files root name t why)) none s))
-  refused_answers holds why (Err fault) h s line n = tt
+module _ (holds : Option Files) (before now : ℕ) (root : Option (List ℕ)) (name : List ℕ) where
+  pub refused_answers : (why : LoadFault) (r : Result Answer AllocError) → IsUnheld holds before now root name why → IfOk r (λ answer. (answer.status ≡ load_status why) × (joined answer.lines ≡ load_line why)) → IfOk r (λ answer. answer.status ≡ 7 → ⊥) → IfOk r (λ answer. LoadAnswers holds before now AnswersNone root name answer.status (joined answer.lines))
+  refused_answers why (Ok answer) u line n =
+      one_line (Ok answer) (LoadAnswers holds before now AnswersNone root name) (load_status why) (load_line why) line
+      (not_loaded root name u.table before now holds (λ status reason. LoadAnswers holds before now AnswersNone root name status (load_line reason)) (λ file r x. fetch_fails file r x) (λ reason x e. is_refused reason x e) why (λ e. n (line.0 ∙ e)) u.refused u.stopped)
+  refused_answers why (Err fault) u line n = tt
 
 -- what stands behind an answer with status 0
 text_proof : (table : Table) (clauses : List Sourced) (marks : Option Fresh) (name text : List ℕ) (status : ℕ) (answer : List ℕ) → status ≡ 0 → TextAnswers table clauses marks name text status answer → (read : Table) × InternsProof text table read × (proof : Proof) × IsReading read text (Ok proof) × IsChecked clauses marks proof.lines Accepted

@@ -17,10 +17,9 @@ use Rattle.uc_problem.specs.declared.fault.LoadFault.TheVariants as load
 use Rattle.uc_problem.specs.declared.fault.EncodeFault.TheVariants.{GoalTooLarge}
 use Rattle.uc_problem.specs.declared.problem.Problem.{Problem}
 use Rattle.uc_problem.specs.declared.problem.Encoded.{Encoded}
-use Rattle.uc_problem.specs.Holds.{Agrees, Holds, IsProblem, IsLoadFault}
+use Rattle.uc_problem.specs.Holds.{Agrees, Holds, IsProblem}
 use Rattle.uc_problem.specs.Encodes.{Encodes, IsEncoded}
 use Rattle.uc_problem.specs.Filling.{WhereTold, IsFilled, AddsMarks}
-use Rattle.uc_problem.specs.Refusing.{IsStopped}
 use Rattle.uc_problem.specs.Marks.{Marks}
 use Rattle.uc_problem.proofs.MarksOnce.{marks_once}
 use Rattle.uc_term.specs.declared.fresh.Fresh.{Fresh}
@@ -46,8 +45,10 @@ use Rattle.uc_answer.specs.VerdictLines.{verdict_status, trace_if, opening_for, 
 use Rattle.uc_answer.specs.Promises.{Keeps}
 use Rattle.uc_answer.proofs.PrintableFiles.{held_printable}
 use Rattle.uc_top.specs.ProveAnswers.{IsProveAnswer, has_large_goal, is_unordered, is_searched, ProveAnswers, fetch_fails, is_refused, is_loaded}
-use Rattle.uc_top.specs.ProveRuns.{IsKept}
-use Rattle.uc_top.proofs.Answering.{one_line, not_loaded, is_held, large_within}
+use Rattle.uc_top.specs.ProveRuns.{KeepsPromise}
+use Rattle.uc_top.specs.HandedOn.{IsHeld, IsUnheld}
+use Rattle.uc_top.proofs.HandingOn.{held}
+use Rattle.uc_top.proofs.Answering.{one_line, not_loaded, large_within}
 
 -- A STATUS ABOVE 2
 
@@ -77,13 +78,12 @@ high_status load.NoMemory = omega arith
 
 -- A PROBLEM THAT ISN'T LOADED
 
-module _ (empty table : Table) (none : empty ≡ []) (command : Command) (name : List ℕ) (holds : Option Files) (before now : ℕ) where
-  pub unloaded : (why : LoadFault) (r : Result Answer AllocError) → IsLoadFault table holds before now command.root name why → WhereTold holds (λ files. IsStopped files command.root name empty why) → IfOk r (λ answer. (answer.status ≡ load_status why) × (joined answer.lines ≡ status_line (unloaded_word why) name ++ load_line why)) → IfOk r (λ answer. answer.status ≡ 7 → ⊥) → IfOk r (λ answer. ProveAnswers command name holds before now answer.status (joined answer.lines))
-  unloaded why (Ok answer) h s line n =
+module _ (command : Command) (name : List ℕ) (holds : Option Files) (before now : ℕ) where
+  pub unloaded : (why : LoadFault) (r : Result Answer AllocError) → IsUnheld holds before now command.root name why → IfOk r (λ answer. (answer.status ≡ load_status why) × (joined answer.lines ≡ status_line (unloaded_word why) name ++ load_line why)) → IfOk r (λ answer. answer.status ≡ 7 → ⊥) → IfOk r (λ answer. ProveAnswers command name holds before now answer.status (joined answer.lines))
+  unloaded why (Ok answer) u line n =
       one_line (Ok answer) (ProveAnswers command name holds before now) (load_status why) (status_line (unloaded_word why) name ++ load_line why) line
-      (not_loaded command.root name table before now holds (λ status reason. ProveAnswers command name holds before now status (status_line (unloaded_word reason) name ++ load_line reason)) (λ file r x. fetch_fails file r x) (λ reason x e. is_refused reason x e) why (λ e. n (line.0 ∙ e)) h
-      (subst (λ (t : Table). WhereTold holds (λ files. IsStopped files command.root name t why)) none s))
-  unloaded why (Err fault) h s line n = tt
+      (not_loaded command.root name u.table before now holds (λ status reason. ProveAnswers command name holds before now status (status_line (unloaded_word reason) name ++ load_line reason)) (λ file r x. fetch_fails file r x) (λ reason x e. is_refused reason x e) why (λ e. n (line.0 ∙ e)) u.refused u.stopped)
+  unloaded why (Err fault) u line n = tt
 
 -- A PROBLEM THAT IS LOADED
 
@@ -92,9 +92,9 @@ held_problem : (table later : Table) (holds : Option Files) (root : Option (List
 held_problem table later None root name problem g h = tt
 held_problem table later (Some files) root name problem g h = h later g
 
-pub loaded : (empty table later : Table) (command : Command) (name : List ℕ) (holds : Option Files) (before now : ℕ) (problem : Problem) (r : Result Answer AllocError) → empty ≡ [] → Grows table later → IsDistinct table → WhereTold holds (λ files. IsFilled files command.root name empty table problem) → IsProblem table holds command.root name problem → IfOk r (λ answer. IsProveAnswer later command name table problem answer.status (joined answer.lines)) → IsDistinct later → IfOk r (λ answer. ProveAnswers command name holds before now answer.status (joined answer.lines))
-loaded empty table later command name holds before now problem (Ok answer) none g d f h a distinct = is_loaded d (is_held empty table holds command.root name problem none f h) distinct (held_problem table later holds command.root name problem g h) a
-loaded empty table later command name holds before now problem (Err fault) none g d f h a distinct = tt
+pub loaded : (table later : Table) (command : Command) (name : List ℕ) (holds : Option Files) (before now : ℕ) (problem : Problem) (r : Result Answer AllocError) → IsHeld holds command.root name table problem → Grows table later → IsDistinct later → IfOk r (λ answer. IsProveAnswer later command name table problem answer.status (joined answer.lines)) → IfOk r (λ answer. ProveAnswers command name holds before now answer.status (joined answer.lines))
+loaded table later command name holds before now problem (Ok answer) h g distinct a = is_loaded h.distinct (held holds command.root name table problem h) distinct (held_problem table later holds command.root name problem g h.is_problem) a
+loaded table later command name holds before now problem (Err fault) h g distinct a = tt
 
 -- visible bytes and spaces end no line
 byte_in_line : (b : ℕ) → 32 ≤ b → in_line b ≡ true
@@ -107,14 +107,14 @@ seen_in_line (b ∷ bs) e =
     let low = leb-true 32 b (and_parts (nat_le 32 b) (nat_le b 126) p.0).0 in
     rw (byte_in_line b low) (seen_in_line bs p.1)
 
-pub loaded_kept : (empty table later : Table) (command : Command) (name : List ℕ) (holds : Option Files) (problem : Problem) (r : Result Answer AllocError) → empty ≡ [] → Grows table later → WhereTold holds (λ files. IsFilled files command.root name empty table problem) → IsProblem table holds command.root name problem → are_seen name ≡ true → 0 < length name → IsRootSeen command.root → IfOk r (λ answer. answer.status ≤ 2 → CanBePrinted later name problem → Keeps later command name problem answer.status (joined answer.lines)) → IfOk r (λ answer. answer.status ≤ 2 → IsDistinct later → (fresh : Option Fresh) → Marks later problem (Ok fresh) → AddsMarks table later fresh) → IfOk r (λ answer. answer.status ≤ 2 → (files : Files) → holds ≡ Some files → (kept : IsKept later files command name answer.status (joined answer.lines)) × (IsDistinct later → AddsMarks kept.loaded later kept.keeps.fresh))
-loaded_kept empty table later command name holds problem (Ok answer) none g f h seen some root k marks = λ few files told.
-    let held : Holds later files command.root name problem = subst (λ (o : Option Files). IsProblem table o command.root name problem) told h later g in
-    let can : CanBePrinted later name problem = record { name = (some, seen_in_line name seen); clauses = held_printable later files command.root name problem (some, seen) root held } in
-    let filled = subst (λ (o : Option Files). WhereTold o (λ files. IsFilled files command.root name [] table problem)) told (subst (λ (t : Table). WhereTold holds (λ files. IsFilled files command.root name t table problem)) none f) in
+pub loaded_kept : (table later : Table) (command : Command) (name : List ℕ) (holds : Option Files) (problem : Problem) (r : Result Answer AllocError) → IsHeld holds command.root name table problem → Grows table later → IsDistinct later → are_seen name ≡ true → 0 < length name → IsRootSeen command.root → IfOk r (λ answer. answer.status ≤ 2 → CanBePrinted later name problem → Keeps later command name problem answer.status (joined answer.lines)) → IfOk r (λ answer. answer.status ≤ 2 → IsDistinct later → (fresh : Option Fresh) → Marks later problem (Ok fresh) → AddsMarks table later fresh) → IfOk r (λ answer. answer.status ≤ 2 → (files : Files) → holds ≡ Some files → KeepsPromise files command name answer.status (joined answer.lines))
+loaded_kept table later command name holds problem (Ok answer) h g distinct seen some root k marks = λ few files told.
+    let there : Holds later files command.root name problem = subst (λ (o : Option Files). IsProblem table o command.root name problem) told h.is_problem later g in
+    let can : CanBePrinted later name problem = record { name = (some, seen_in_line name seen); clauses = held_printable later files command.root name problem (some, seen) root there } in
+    let filled = subst (λ (o : Option Files). WhereTold o (λ files. IsFilled files command.root name [] table problem)) told h.filled in
     let keeps = k few can in
-    (record { problem = problem; holds = held; keeps = keeps; loaded = table; filled = filled }, λ distinct. marks few distinct keeps.fresh keeps.marked)
-loaded_kept empty table later command name holds problem (Err fault) none g f h seen some root k marks = tt
+    record { table = later; distinct = distinct; is_kept = record { problem = problem; holds = there; keeps = keeps; loaded = table; filled = filled }; adds = marks few distinct keeps.fresh keeps.marked }
+loaded_kept table later command name holds problem (Err fault) h g distinct seen some root k marks = tt
 
 -- what holds of every answer
 pub for_any : {P : Answer → Type 0} (r : Result Answer AllocError) → ((answer : Answer) → P answer) → IfOk r P

@@ -3,8 +3,10 @@ use Rattle.std.specs.Prelude.{ℕ, List, [], Option, None, Result, Ok, Err}
 use Rattle.uc_term.specs.Table.{Table, IsDistinct}
 use Rattle.uc_edge.specs.Files.{Files}
 use Rattle.uc_edge.specs.Faults.{IsCounted}
+use Rattle.uc_problem.specs.declared.fault.LoadFault.{LoadFault}
 use Rattle.uc_problem.specs.declared.problem.Problem.{Problem}
-use Rattle.uc_problem.specs.Holds.{Agrees, IsProblem}
+use Rattle.uc_problem.specs.Holds.{Agrees, IsProblem, IsLoadFault}
+use Rattle.uc_problem.specs.Refusing.{IsStopped}
 use Rattle.uc_problem.specs.Filling.{WhereTold, IsFilled}
 use Rattle.uc_answer.specs.Lines.{joined}
 use Rattle.uc_top.specs.declared.loading.Loaded.{Loaded}
@@ -22,6 +24,12 @@ pub record IsHeld (holds : Option Files) (root : Option (List ℕ)) (name : List
   pub agrees : Agrees table problem
   pub filled : WhereTold holds (λ files. IsFilled files root name [] table problem)
   pub is_problem : IsProblem table holds root name problem
+
+-- Why no problem is loaded. The library's count of faults was and is this.
+pub record IsUnheld (holds : Option Files) (before now : ℕ) (root : Option (List ℕ)) (name : List ℕ) (why : LoadFault) : Type 0 where
+  pub table : Table
+  pub refused : IsLoadFault table holds before now root name why
+  pub stopped : WhereTold holds (λ files. IsStopped files root name [] why)
 
 -- The answer where no problem is loaded; or the problem that is. The library's count of faults was and is this.
 abbrev pub IsHandedOn : Option Files → ℕ → ℕ → Option (List ℕ) → List ℕ → Loaded → Type 0

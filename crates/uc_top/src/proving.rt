@@ -15,10 +15,10 @@ ghost use Rattle.uc_answer.specs.PrintableProblems.{are_seen, IsRootSeen, CanBeP
 ghost use Rattle.uc_answer.specs.Promises.{Keeps};
 ghost use Rattle.uc_top.specs.Limits.{WeighsWithin, SearchesWithin};
 ghost use Rattle.uc_top.specs.ProveAnswers.{IsProveAnswer, ProveAnswers};
-ghost use Rattle.uc_top.specs.ProveRuns.{IsKept, KeepsPromise};
+ghost use Rattle.uc_top.specs.ProveRuns.{KeepsPromise};
 ghost use Rattle.uc_top.specs.Faulting.{AnswersFault, input_error};
 
-use crate::loading::bytes_of;
+use crate::loading::load_held;
 use crate::searching::search_for;
 use std::alloc::{AllocError, Global};
 use std::sync::Wait;
@@ -29,7 +29,7 @@ use uc_answer::{
 use uc_edge::{Gate, Library};
 use uc_order::OrderSpec;
 use uc_ordering::{Chosen, choose};
-use uc_problem::{EncodeFault, Encoded, Problem, encode, load};
+use uc_problem::{EncodeFault, Encoded, Problem, encode};
 use uc_shelf::Shelf;
 use uc_term::{Symbols, Text};
 use uc_words::Command;
@@ -54,52 +54,15 @@ pub(crate) fn prove_answer<R: Threads + Wait + Sync, L: Library, G: Gate + Sync>
     ensures later { L.faults library.old ≤ L.faults library.new }
     ensures faulted { AnswersFault (L.faults library.old) (L.faults library.new) (L.failed_at library.old) (L.failed_at library.new) (input_error name.now) result }
 {
-    let mut symbols = Symbols::new(alloc);
-    let answer = load_and_prove(
-        rt,
-        alloc,
-        command,
-        name.as_bytes(),
-        &mut symbols,
-        library,
-        gate,
-    );
-    // The entries of the table are all different, so what was read is the only reading.
-    let _ = symbols.len();
-    answer
-}
-
-/// The answer, with a table for the symbols.
-fn load_and_prove<R: Threads + Wait + Sync, L: Library, G: Gate + Sync>(
-    rt: &R,
-    alloc: Global,
-    command: &Command,
-    name: &[u8],
-    symbols: &mut Symbols,
-    library: &mut L,
-    gate: &G,
-) -> Result<Answer, AllocError>
-    requires w0 { WeighsWithin command.now.order }
-    requires search { SearchesWithin command.now }
-    requires name { are_seen name.now ≡ true }
-    requires some { 0 < length name.now }
-    requires root { IsRootSeen command.now.root }
-    requires empty { symbols.old ≡ [] }
-    ensures answers { IsDistinct symbols.new → IfOk result (λ answer. ProveAnswers command.now name.now (L.holds library.old) (L.faults library.old) (L.faults library.new) answer.status (joined answer.lines)) }
-    ensures promise { IfOk result (λ answer. answer.status ≤ 2 → (files : Files) → L.holds library.old ≡ Some files → (kept : IsKept symbols.new files command.now name.now answer.status (joined answer.lines)) × (IsDistinct symbols.new → AddsMarks kept.loaded symbols.new kept.keeps.fresh)) }
-    ensures same { L.holds library.new ≡ L.holds library.old }
-    ensures later { L.faults library.old ≤ L.faults library.new }
-    ensures faulted { AnswersFault (L.faults library.old) (L.faults library.new) (L.failed_at library.old) (L.failed_at library.new) (input_error name.now) result }
-{
-    match load(
-        alloc,
-        library,
-        bytes_of(command.root.as_ref()),
-        name,
-        symbols,
-    ) {
-        Ok(problem) => encoded_answer(rt, alloc, command, name, &problem, symbols, gate),
-        Err(fault) => unloaded_answer(alloc, name, &fault),
+    match load_held(alloc, command.root.as_ref(), name, library) {
+        Ok((problem, mut symbols)) => {
+            let name = name.as_bytes();
+            let answer = encoded_answer(rt, alloc, command, name, &problem, &mut symbols, gate);
+            // The entries of the table are all different, so what was read is the only reading.
+            let _ = symbols.len();
+            answer
+        }
+        Err(fault) => unloaded_answer(alloc, name.as_bytes(), &fault),
     }
 }
 
