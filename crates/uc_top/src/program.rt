@@ -8,7 +8,7 @@ ghost use Rattle.uc_words.specs.declared.command.Command.{Command};
 ghost use Rattle.uc_words.specs.declared.command.Verb.TheVariants.{Check, Prove, Decide, Gen};
 ghost use Rattle.uc_words.specs.Reads.{Reads};
 ghost use Rattle.uc_words.specs.Table.{fits};
-ghost use Rattle.uc_answer.specs.Lines.{joined, usage_line};
+ghost use Rattle.uc_answer.specs.Lines.{joined};
 ghost use Rattle.uc_top.specs.Runs.{MayAnswer, IsRun, IsCertified};
 ghost use Rattle.uc_top.specs.Completeness.{IsComplete};
 ghost use Rattle.uc_top.specs.ProveRuns.{KeepsCommand};
@@ -40,7 +40,6 @@ use std::sync::Wait;
 use std::thread::Threads;
 use uc_answer::{Answer, usage_answer};
 use uc_edge::{Gate, Library, Sink};
-use uc_term::Text;
 use uc_words::{Command, Verb, WordsFault, read_words};
 
 /// Answers the words after the program's name: tells the sink the whole answer, line by line, and answers its status.
