@@ -39,8 +39,9 @@ pub(crate) fn load_held<L: Library>(
     ensures counted { IsFaulted result (L.faults library.old) (L.faults library.new) (L.failed_at library.old) (L.failed_at library.new) }
 {
     let root = bytes_of(root);
+    let name = name.as_bytes();
     let mut symbols = Symbols::new(alloc);
-    match load(alloc, library, root, name.as_bytes(), &mut symbols) {
+    match load(alloc, library, root, name, &mut symbols) {
         Ok(problem) => Ok((problem, symbols)),
         Err(fault) => Err(fault),
     }
