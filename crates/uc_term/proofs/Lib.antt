@@ -18,6 +18,7 @@ pub mod Gets
 pub mod Encoding
 pub mod Firsts
 pub mod Pairs
+pub mod Bindings
 pub mod Joins
 pub mod NodeVars
 pub mod Gathered

@@ -4,6 +4,7 @@ pub mod Code
 pub mod Path
 pub mod Positions
 pub mod Subst
+pub mod Bindings
 pub mod Over
 pub mod Variables
 pub mod Within

@@ -4,29 +4,42 @@ ghost use Rattle.std.specs.Prelude.{◌≡◌, ℕ, ◌+◌, ◌*◌, ◌<◌, �
 ghost use Rattle.uc_term.specs.Tree.{apply, nodes};
 ghost use Rattle.uc_term.specs.Subst.{found, image, image_nodes};
 ghost use Rattle.uc_term.specs.Flat.{flat, tree_of, IsWhole};
+ghost use Rattle.uc_term.specs.Bindings.{part_of, IsBinding, IsTermOf};
 ghost use Rattle.uc_term.specs.Faults.{IsSizeFault};
 
 use crate::{MAX_INSTANCE, MAX_NODES, Node, Term, TermFault};
 use std::alloc::{AllocError, Global};
 use std::marker::Model;
 
+/// A variable, and where the nodes of its term stand among those of all terms.
+#[derive(Clone, Copy)]
+struct Binding {
+    variable: u32,
+    start: usize,
+    end: usize,
+}
+
 /// A substitution: a finite map from variables to terms, kept as a list of pairs. A variable without a pair stands for
-/// itself, and the first pair of a variable counts.
+/// itself, and the first pair of a variable counts. The terms stand one behind another in one list of nodes.
 #[derive(Drop)]
 pub struct Subst {
-    pairs: Vec<(u32, Term)>,
+    bindings: Vec<Binding>,
+    nodes: Vec<Node>,
 }
 
 impl Model for Subst {
     ghost use Rattle.std.specs.Prelude.{List, ℕ};
     ghost use Rattle.uc_term.specs.Tree.{Tree};
     ghost use Rattle.uc_term.specs.Subst.{pairs_code};
+    ghost use Rattle.uc_term.specs.Bindings.{pairs_of, AreBindings};
 
     ghost Value = { List (ℕ × Tree) };
 
     ghost coded = { pairs_code };
 
-    ghost view = { λ s. s.pairs.items };
+    ghost view = { λ s. pairs_of s.nodes.items s.bindings.items };
+
+    ghost invariant = { λ s. AreBindings s.nodes.items s.bindings.items };
 }
 
 impl Subst {
@@ -35,30 +48,57 @@ impl Subst {
         ensures { result ≡ [] }
     {
         Subst {
-            pairs: Vec::new(alloc),
+            bindings: Vec::new(alloc),
+            nodes: Vec::new(alloc),
         }
     }
 
-    /// Gives a variable its term, where it has none yet. For want of memory the substitution stays.
-    pub fn add(&mut self, x: u32, term: Term) -> Result<(), AllocError>
-        ensures ok { IfOk result (λ _. self.new ≡ self.old ++ (x, term) ∷ []) }
+    /// Takes all pairs away, and keeps the memory.
+    pub fn clear(&mut self)
+        ensures { self.new ≡ [] }
+    {
+        self.bindings.clear();
+        self.nodes.clear();
+    }
+
+    /// Gives a variable the term of these nodes, where it has none yet. For want of memory the substitution stays.
+    pub fn add(&mut self, x: u32, term: &[Node]) -> Result<(), AllocError>
+        requires whole { IsWhole term.now }
+        requires small { length term.now ≤ MAX_NODES }
+        ensures ok { IfOk result (λ _. self.new ≡ self.old ++ (x, tree_of term.now) ∷ []) }
         ensures err { OnErr result (self.new ≡ self.old) }
     {
-        self.pairs.push((x, term))?;
+        let start = self.nodes.len();
+        self.nodes.extend_from_slice(term)?;
+        let end = self.nodes.len();
+        self.bindings.push(Binding {
+            variable: x,
+            start,
+            end,
+        })?;
         Ok(())
     }
 
-    /// The term of a variable, if it has a pair.
-    pub fn get(&self, x: u32) -> Option<&Term>
-        ensures { MatchOption result (found self.now x ≡ None) (λ t. found self.now x ≡ Some t.now) }
+    /// The nodes of a variable's term, if it has a pair.
+    pub fn get(&self, x: u32) -> Option<&[Node]>
+        ensures { MatchOption result (found self.now x ≡ None) (λ nodes. IsTermOf self.now x nodes.now) }
     {
-        for p in &self.pairs {
-            if p.0 == x {
-                return Some(&p.1);
+        for binding in &self.bindings {
+            if binding.variable == x {
+                return Some(term_of(self.nodes.as_slice(), *binding));
             }
         }
         None
     }
+}
+
+/// The nodes of a binding's term.
+#[inline]
+fn term_of(nodes: &[Node], binding: Binding) -> &[Node]
+    requires { IsBinding nodes.now binding }
+    ensures { result.now ≡ part_of nodes.now binding }
+{
+    &nodes[binding.start..binding.end]
 }
 
 /// Returns the nodes of the pattern's instance, of which there are at most 16,777,216.
@@ -72,7 +112,7 @@ pub fn instance(alloc: Global, pattern: &[Node], subst: &Subst) -> Result<Vec<No
     for n in pattern {
         match *n {
             Node::Var(x) => match subst.get(x) {
-                Some(t) => all.extend_from_slice(t.as_nodes())?,
+                Some(nodes) => all.extend_from_slice(nodes)?,
                 None => all.push(*n)?,
             },
             Node::App(_, _) => all.push(*n)?,
@@ -102,7 +142,7 @@ fn image_size(node: Node, subst: &Subst) -> usize
 {
     match node {
         Node::Var(x) => match subst.get(x) {
-            Some(t) => t.nodes() as usize,
+            Some(nodes) => nodes.len(),
             None => 1,
         },
         Node::App(_, _) => 1,

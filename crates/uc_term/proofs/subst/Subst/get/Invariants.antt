@@ -1,6 +1,7 @@
 use Rattle.std.proofs.Common.{◌≡◌, drop}
 use Rattle.uc_term.specs.Subst.{found}
+use Rattle.uc_term.specs.Bindings.{pairs_of}
 use Rattle.uc_term.proofs.subst.Subst.get.Given as goal
 
-abbrev pub invariant-loop-p : goal.invariant-loop-p
-invariant-loop-p l = found l.self l.x ≡ found (drop l.p-index l.p-items) l.x
+abbrev pub invariant-loop-binding : goal.invariant-loop-binding
+invariant-loop-binding l = found l.self l.x ≡ found (pairs_of l.self-inside.nodes.items (drop l.binding-index l.binding-items)) l.x
