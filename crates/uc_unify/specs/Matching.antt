@@ -1,5 +1,5 @@
 -- What a match is: a substitution that makes a pattern a term.
-use Rattle.std.specs.Prelude.{ℕ, ◌≡◌, ◌++◌, List}
+use Rattle.std.specs.Prelude.{ℕ, ◌≡◌, ◌++◌, List, Bool, true, false}
 use Rattle.uc_term.specs.Tree.{Tree, apply}
 use Rattle.uc_term.specs.Subst.{image, domain}
 use Rattle.uc_term.specs.Variables.{variables, firsts}
@@ -12,6 +12,10 @@ pub record IsMatch (pattern term : Tree) (pairs : List (ℕ × Tree)) : Type 0 w
 -- no substitution makes the pattern the term
 abbrev pub HasNoMatch : Tree → Tree → Type 0
 HasNoMatch pattern term = (σ : ℕ → Tree) → apply σ pattern ≡ term → ⊥
+
+abbrev pub IsMatched : Tree → Tree → List (ℕ × Tree) → Bool → Type 0
+IsMatched pattern term pairs true = IsMatch pattern term pairs
+IsMatched pattern term pairs false = HasNoMatch pattern term
 
 -- the pairs make each pattern its term, and they are those of the variables of both, each once, by first occurrence, in
 -- the left pattern first

@@ -13,7 +13,7 @@ mod solution;
 mod unification;
 mod workspace;
 
-pub use matching::{matches, matches_both};
+pub use matching::{matches, matches_both, matches_in};
 pub use replacement::replaces_at;
 pub use unification::{Unified, unify, unify_in};
 pub use workspace::Workspace;

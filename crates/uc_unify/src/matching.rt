@@ -3,11 +3,11 @@
 
 ghost use Rattle.std.specs.Prelude.{◌≡◌, ◌↔◌, ℕ, ◌+◌, ◌<◌, ◌≤◌, IsTrue, length, IfOk, MatchOption};
 ghost use Rattle.uc_term.specs.Flat.{IsWhole, tree_of};
-ghost use Rattle.uc_unify.specs.Matching.{IsMatch, HasNoMatch, IsMatchOfBoth, HasNoMatchOfBoth};
+ghost use Rattle.uc_unify.specs.Matching.{IsMatch, HasNoMatch, IsMatched, IsMatchOfBoth, HasNoMatchOfBoth};
 ghost use Rattle.uc_unify.specs.Extension.{IsExtended, IsBound};
 
 use std::alloc::{AllocError, Global};
-use uc_term::{MAX_NODES, Node, Subst, Sym, Term, end_of, same_nodes};
+use uc_term::{MAX_NODES, Node, Subst, Sym, end_of, same_nodes};
 
 /// The substitution that makes the pattern the term: its pairs are those of the pattern's variables, by first
 /// occurrence. None exactly where there is none.
@@ -18,11 +18,22 @@ pub fn matches(alloc: Global, pattern: &[Node], term: &[Node]) -> Result<Option<
     ensures { IfOk result (λ found. MatchOption found (HasNoMatch (tree_of pattern.now) (tree_of term.now)) (IsMatch (tree_of pattern.now) (tree_of term.now))) }
 {
     let mut subst = Subst::new(alloc);
-    if extend(alloc, &mut subst, pattern, term)? {
+    if matches_in(&mut subst, pattern, term)? {
         Ok(Some(subst))
     } else {
         Ok(None)
     }
+}
+
+/// The same in a lent substitution, whatever it was: whether there is one, which it then is.
+pub fn matches_in(subst: &mut Subst, pattern: &[Node], term: &[Node]) -> Result<bool, AllocError>
+    requires whole_pattern { IsWhole pattern.now }
+    requires whole_term { IsWhole term.now }
+    requires small_term { length term.now ≤ MAX_NODES }
+    ensures { IfOk result (IsMatched (tree_of pattern.now) (tree_of term.now) subst.new) }
+{
+    subst.clear();
+    extend(subst, pattern, term)
 }
 
 /// One substitution that makes each pattern its term: its pairs are those of the variables of both patterns, by first
@@ -43,10 +54,10 @@ pub fn matches_both(
     ensures { IfOk result (λ found. MatchOption found (HasNoMatchOfBoth (tree_of left_pattern.now) (tree_of left_term.now) (tree_of right_pattern.now) (tree_of right_term.now)) (IsMatchOfBoth (tree_of left_pattern.now) (tree_of left_term.now) (tree_of right_pattern.now) (tree_of right_term.now))) }
 {
     let mut subst = Subst::new(alloc);
-    if !extend(alloc, &mut subst, left_pattern, left_term)? {
+    if !extend(&mut subst, left_pattern, left_term)? {
         return Ok(None);
     }
-    if !extend(alloc, &mut subst, right_pattern, right_term)? {
+    if !extend(&mut subst, right_pattern, right_term)? {
         return Ok(None);
     }
     Ok(Some(subst))
@@ -54,12 +65,7 @@ pub fn matches_both(
 
 /// Adds the pairs that the pattern's further variables need so that the substitution makes it the term. False exactly
 /// where no substitution that has the pairs so far does; then the substitution is of no further use.
-fn extend(
-    alloc: Global,
-    subst: &mut Subst,
-    pattern: &[Node],
-    term: &[Node],
-) -> Result<bool, AllocError>
+fn extend(subst: &mut Subst, pattern: &[Node], term: &[Node]) -> Result<bool, AllocError>
     requires whole_pattern { IsWhole pattern.now }
     requires whole_term { IsWhole term.now }
     requires small_term { length term.now ≤ MAX_NODES }
@@ -70,7 +76,7 @@ fn extend(
         match *node {
             Node::Var(x) => {
                 let end = end_of(term, place);
-                if !bind(alloc, subst, x, &term[place..end])? {
+                if !bind(subst, x, &term[place..end])? {
                     return Ok(false);
                 }
                 place = end;
@@ -87,15 +93,15 @@ fn extend(
 }
 
 /// Whether the variable's term is, or can be made, this one.
-fn bind(alloc: Global, subst: &mut Subst, x: u32, part: &[Node]) -> Result<bool, AllocError>
+fn bind(subst: &mut Subst, x: u32, part: &[Node]) -> Result<bool, AllocError>
     requires whole { IsWhole part.now }
     requires small { length part.now ≤ MAX_NODES }
     ensures { IfOk result (IsBound x (tree_of part.now) subst.old subst.new) }
 {
-    if let Some(term) = subst.get(x) {
-        return Ok(same_nodes(term.as_nodes(), part));
+    if let Some(nodes) = subst.get(x) {
+        return Ok(same_nodes(nodes, part));
     }
-    subst.add(x, Term::from_nodes(Vec::from_slice(alloc, part)?))?;
+    subst.add(x, part)?;
     Ok(true)
 }
 

@@ -22,7 +22,7 @@ use crate::sizes::sizes_of;
 use crate::solution::solved;
 use crate::workspace::Workspace;
 use std::alloc::{AllocError, Global};
-use uc_term::{MAX_NODES, Node, Subst, Term};
+use uc_term::{MAX_NODES, Node, Subst};
 
 /// What two terms come to.
 #[derive(Drop)]
@@ -175,7 +175,7 @@ fn add_variable(
     }
     if subst.get(x).is_none() {
         let list = solved(alloc, nodes, ends, classes, pending, place)?;
-        subst.add(x, Term::from_nodes(list))?;
+        subst.add(x, list.as_slice())?;
     }
     Ok(())
 }
