@@ -2,15 +2,15 @@
 use Rattle.std.proofs.Common.{◌≡◌, ℕ, zero, suc, ◌==◌, ◌+◌, ◌-◌, ◌<◌, ◌≤◌, List, [], ◌∷◌, ◌++◌, length, take, drop, slice_get, get_or, Some, None, Bool, true, false, if◌then◌else◌, refl, sym, ap, ◌∙◌, arith, inl, inr, ◌⊎◌, length-append, length-drop}
 use Rattle.std.proofs.lemmas.List.{take-append-le, drop-append-le, map-append}
 use Rattle.std.proofs.Math.Seq.{drop-append_seam}
-use Rattle.std.proofs.lemmas.Option.{slice_get-get_or}
+use Rattle.std.proofs.lemmas.Option.{slice_get-get_or, get_or_from_slice_get, slice_get_within}
 use Rattle.std.proofs.lemmas.Bool.{eq-eqb, eqb-true}
 use Rattle.uc_term.specs.declared.node.Node.{Node}
 use Rattle.uc_term.specs.declared.subst.Binding.{Binding}
 use Rattle.uc_term.specs.Tree.{Tree}
-use Rattle.uc_term.specs.Flat.{tree_of, IsWhole}
-use Rattle.uc_term.specs.Subst.{found}
+use Rattle.uc_term.specs.Flat.{flat, tree_of, IsWhole}
+use Rattle.uc_term.specs.Subst.{found, Moves, IsIdempotent}
 use Rattle.uc_term.specs.Bindings.{part_of, pair_of, pairs_of, IsBinding, AreBindings, IsTermOf}
-use Rattle.uc_term.proofs.Gets.{get_pushed}
+use Rattle.uc_term.proofs.Gets.{get_pushed, get-map, map-get}
 
 module _ (ns more : List Node) where
   part_kept : (b : Binding) → IsBinding ns b → part_of (ns ++ more) b ≡ part_of ns b
@@ -110,3 +110,27 @@ is_term ns bs all pairs i x h is e before = record {
   short = (at ns bs all i nothing h).short;
   is = before ∙ (ap (found (pairs_of ns (drop i bs))) (sym e) ∙ here ns bs all i nothing h);
 }
+
+-- what holds of none before an index and not of the one there holds of none before the next index
+pub until_next : {A : Type 0} (xs : List A) (n : ℕ) (d : A) (P : A → Type 0) → ((i : ℕ) (x : A) → i < n → slice_get xs i ≡ Some x → P x → ⊥) → (P (get_or xs n d) → ⊥) → (i : ℕ) (x : A) → i < n + 1 → slice_get xs i ≡ Some x → P x → ⊥
+until_next xs n d P before not i x h e p = go (split_lt i n h)
+  where
+    split_lt : (i n : ℕ) → i < n + 1 → (i < n) ⊎ (i ≡ n)
+    split_lt i n h = grind arith
+
+    go : (i < n) ⊎ (i ≡ n) → ⊥
+    go (inl l) = before i x l e p
+    go (inr q) = not (rw (get_or_from_slice_get xs n x d (rw (← q) e)) p)
+
+module _ (ns : List Node) (bs : List Binding) (all : AreBindings ns bs) (pairs : List (ℕ × Tree)) (is : pairs_of ns bs ≡ pairs) where
+  pub idempotent : (n : ℕ) → length bs ≤ n → ((i : ℕ) (b : Binding) → i < n → slice_get bs i ≡ Some b → Moves pairs (part_of ns b) → ⊥) → IsIdempotent pairs
+  idempotent n long none i p e m =
+      let g = get-map (pair_of ns) bs i p (rw is e) in
+      let whole : flat p.1 ≡ part_of ns g.0 = ap (λ (q : ℕ × Tree). flat q.1) (sym g.2) ∙ (all i g.0 g.1).whole in
+      none i g.0 (let w = slice_get_within bs i g.0 g.1 in omega arith) g.1 (rw (← whole) m)
+
+  pub not_idempotent : (i : ℕ) → i < length bs → Moves pairs (part_of ns (get_or bs i nothing)) → IsIdempotent pairs → ⊥
+  not_idempotent i h m idem =
+      let b = get_or bs i nothing in
+      let e = slice_get-get_or bs i nothing h in
+      idem i (pair_of ns b) (rw (← is) (map-get (pair_of ns) bs i b e)) (rw (at ns bs all i nothing h).whole m)

@@ -1,8 +1,8 @@
 //! Substitutions and instances.
 
-ghost use Rattle.std.specs.Prelude.{◌≡◌, ℕ, ◌+◌, ◌*◌, ◌<◌, ◌≤◌, ◌∷◌, ◌++◌, [], length, IfOk, IfErr, OnOk, OnErr, MatchOption};
+ghost use Rattle.std.specs.Prelude.{◌≡◌, ◌↔◌, IsTrue, ℕ, ◌+◌, ◌*◌, ◌<◌, ◌≤◌, ◌∷◌, ◌++◌, [], length, IfOk, IfErr, OnOk, OnErr, MatchOption};
 ghost use Rattle.uc_term.specs.Tree.{apply, nodes};
-ghost use Rattle.uc_term.specs.Subst.{found, image, image_nodes};
+ghost use Rattle.uc_term.specs.Subst.{found, image, image_nodes, HasPair, Moves, IsIdempotent};
 ghost use Rattle.uc_term.specs.Flat.{flat, tree_of, IsWhole};
 ghost use Rattle.uc_term.specs.Bindings.{part_of, IsBinding, IsTermOf};
 ghost use Rattle.uc_term.specs.Faults.{IsSizeFault};
@@ -89,6 +89,43 @@ impl Subst {
             }
         }
         None
+    }
+}
+
+impl Subst {
+    /// Whether no variable that has a pair occurs in a pair's term, so that the substitution is idempotent. It takes no memory.
+    pub fn is_idempotent(&self) -> bool
+        ensures { IsTrue result ↔ IsIdempotent self.now }
+    {
+        for binding in &self.bindings {
+            if self.moves(term_of(self.nodes.as_slice(), *binding)) {
+                return false;
+            }
+        }
+        true
+    }
+
+    /// Whether a variable among these nodes has a pair.
+    fn moves(&self, nodes: &[Node]) -> bool
+        ensures { IsTrue result ↔ Moves self.now nodes.now }
+    {
+        for node in nodes {
+            if self.has(*node) {
+                return true;
+            }
+        }
+        false
+    }
+
+    /// Whether the node is a variable that has a pair.
+    #[inline]
+    fn has(&self, node: Node) -> bool
+        ensures { IsTrue result ↔ HasPair self.now node }
+    {
+        match node {
+            Node::Var(x) => self.get(x).is_some(),
+            Node::App(_, _) => false,
+        }
     }
 }
 
