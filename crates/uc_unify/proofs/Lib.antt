@@ -15,3 +15,4 @@ pub mod Writing
 pub mod General
 pub mod Solving
 pub mod Outcome
+pub mod Crossing

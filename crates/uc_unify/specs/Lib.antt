@@ -5,3 +5,4 @@ pub mod Unifiers
 pub mod Closure
 pub mod Forest
 pub mod Solutions
+pub mod Walking

@@ -11,6 +11,7 @@ mod replacement;
 mod sizes;
 mod solution;
 mod unification;
+mod walking;
 mod workspace;
 
 pub use matching::{matches, matches_both, matches_in};

@@ -93,7 +93,7 @@ fn extend(subst: &mut Subst, pattern: &[Node], term: &[Node]) -> Result<bool, Al
 }
 
 /// Whether the variable's term is, or can be made, this one.
-fn bind(subst: &mut Subst, x: u32, part: &[Node]) -> Result<bool, AllocError>
+pub fn bind(subst: &mut Subst, x: u32, part: &[Node]) -> Result<bool, AllocError>
     requires whole { IsWhole part.now }
     requires small { length part.now ≤ MAX_NODES }
     ensures { IfOk result (IsBound x (tree_of part.now) subst.old subst.new) }

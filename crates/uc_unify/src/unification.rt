@@ -1,17 +1,17 @@
 //! Unification: a most general substitution that makes two terms equal.
 //!
-//! Places of the two flat lists that must have one instance are brought into one class; the arguments of joined terms
-//! follow. Then the classes are sized from the leaves on; where that stops, a class holds a term of itself. No term is
+//! Mostly one walk over both terms finds it (`walking`). Else the places of the two flat lists that must have one instance are
+//! brought into one class; the arguments of joined terms follow. Then the classes are sized from the leaves on; where that stops, a class holds a term of itself. No term is
 //! built before its size is known, so nothing grows exponentially. Where each term ends and each variable first stands is
 //! found in one walk, and a place's class by union and find. (Huet's unification closure; Baader and Snyder, Unification
 //! Theory, section 2.3.)
 
 ghost use Rattle.std.specs.Prelude.{◌≡◌, ℕ, ◌+◌, ◌<◌, ◌≤◌, ◌++◌, length, slice_get, slice_index, Some, IfOk, OnOk};
 ghost use Rattle.uc_term.specs.declared.node.Node.TheVariants.{Var};
-ghost use Rattle.uc_term.specs.Tree.{nodes};
+ghost use Rattle.uc_term.specs.Tree.{Tree, nodes};
 ghost use Rattle.uc_term.specs.Subst.{image};
 ghost use Rattle.uc_term.specs.Flat.{IsWhole, AreWhole, tree_of};
-ghost use Rattle.uc_unify.specs.Unifiers.{IsUnified};
+ghost use Rattle.uc_unify.specs.Unifiers.{IsMostGeneral, IsUnified};
 ghost use Rattle.uc_unify.specs.Closure.{at, next, class, AreClasses, AreEnds, IsClosed};
 ghost use Rattle.uc_unify.specs.Solutions.{IsWritable, IsSolution, AddsSolution};
 
@@ -20,9 +20,10 @@ use crate::ends::ends_of;
 use crate::firsts::is_var;
 use crate::sizes::sizes_of;
 use crate::solution::solved;
+use crate::walking::{Walked, walk};
 use crate::workspace::Workspace;
 use std::alloc::{AllocError, Global};
-use uc_term::{MAX_NODES, Node, Subst};
+use uc_term::{MAX_NODES, Node, Subst, instance_size};
 
 /// What two terms come to.
 #[derive(Drop)]
@@ -50,6 +51,46 @@ pub fn unify(alloc: Global, s: &[Node], t: &[Node]) -> Result<Unified, AllocErro
 
 /// The same as `unify`, in lent memory: new memory is taken for the unifier alone, and where the workspace is too small.
 pub fn unify_in(
+    alloc: Global,
+    space: &mut Workspace,
+    s: &[Node],
+    t: &[Node],
+) -> Result<Unified, AllocError>
+    requires whole_s { IsWhole s.now }
+    requires whole_t { IsWhole t.now }
+    requires small_s { length s.now ≤ MAX_NODES }
+    requires small_t { length t.now ≤ MAX_NODES }
+    ensures { IfOk result (IsUnified (tree_of s.now) (tree_of t.now)) }
+{
+    let mut subst = Subst::new(alloc);
+    match walk(s, t, &mut subst)? {
+        Walked::Apart => Ok(Unified::Apart),
+        Walked::Solved => {
+            if subst.is_idempotent() {
+                Ok(sized(s, subst))
+            } else {
+                unify_by_classes(alloc, space, s, t)
+            }
+        }
+        Walked::Unclear => unify_by_classes(alloc, space, s, t),
+    }
+}
+
+/// What two terms come to whose most general unifier this is.
+fn sized(s: &[Node], subst: Subst) -> Unified
+    requires whole_s { IsWhole s.now }
+    requires small_s { length s.now ≤ MAX_NODES }
+    ensures { (t : Tree) → IsMostGeneral (tree_of s.now) t (image subst) → IsUnified (tree_of s.now) t result }
+{
+    if instance_size(s, &subst) > MAX_NODES {
+        Unified::TooLarge
+    } else {
+        Unified::Unifier(subst)
+    }
+}
+
+/// What two terms come to, by the classes of their places.
+fn unify_by_classes(
     alloc: Global,
     space: &mut Workspace,
     s: &[Node],
