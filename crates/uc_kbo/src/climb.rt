@@ -272,6 +272,10 @@ pub fn compare_by(w: &Weights, under: bool, classes: &Classes, s: &[Node], t: &[
     if at >= s.len() || at >= t.len() {
         return Cmp::Equal;
     }
+    // Terms of one length often weigh as much, and then the weights of the whole terms decide nothing.
+    if under && s.len() == t.len() {
+        return climb(w, under, classes, s, t, at);
+    }
     let mut a = Run::new(at);
     a.extend(w, under, classes, s, s.len());
     let mut b = Run::new(at);
