@@ -116,7 +116,7 @@ impl Notes {
         ensures { AreNoted [] others result.firsts result.numbers }
     {
         let mut firsts = [0; NOTED];
-        for x in 0..16u32 {
+        for x in 0..NOTED as u32 {
             firsts[x as usize] = x;
         }
         Notes {
