@@ -185,11 +185,25 @@ so_far_more xs bs at h f k l m = go (grind arith)
     go (inl g) = f k g m
     go (inr e) = let P : ℕ → Type 0 = λ j. sum (drop j bs) ≤ sum (drop j xs) in subst P (sym e) h
 
-pub so_far_end : (xs bs : List ℕ) → length xs ≡ 32 → length bs ≡ 32 → (k : ℕ) → 32 ≤ k → k ≤ 32 → sum (drop k bs) ≤ sum (drop k xs)
-so_far_end xs bs ha hb k l m = omega (arith, ap sum (drop_past bs k (omega arith)), ap sum (drop_past xs k (omega arith)))
+-- n counters before the end, from which on all stand at 0
+rest_sum : (xs : List ℕ) (n i : ℕ) → length xs ≡ 32 → i + n ≡ 32 → ((k : ℕ) → i ≤ k → k < 32 → slice_index xs k ≡ 0) → sum (drop i xs) ≡ 0
+rest_sum xs zero i h e z = ap sum (drop_past xs i (omega arith))
+rest_sum xs (suc n) i h e z = omega (arith, sum_at xs i (omega arith), z i (omega arith) (omega arith), rest_sum xs n (i + 1) h (omega arith) (λ k l m. z k (omega arith) m))
 
-pub drop_end : (xs : List ℕ) → length xs ≡ 32 → 0 ≡ sum (drop 32 xs)
-drop_end xs h = sym (ap sum (drop_past xs 32 (omega arith)))
+pub sum_rest : (xs : List ℕ) (end : ℕ) → length xs ≡ 32 → ((k : ℕ) → end ≤ k → k < 32 → slice_index xs k ≡ 0) → (i : ℕ) → end ≤ i → i ≤ 32 → sum (drop i xs) ≡ 0
+sum_rest xs end h z i l m = rest_sum xs (32 - i) i h (omega arith) (λ k g. z k (omega arith))
+
+pub so_far_rest : (xs bs : List ℕ) (end : ℕ) → length xs ≡ 32 → length bs ≡ 32 → ((k : ℕ) → end ≤ k → k < 32 → slice_index xs k ≡ 0) → ((k : ℕ) → end ≤ k → k < 32 → slice_index bs k ≡ 0) → (k : ℕ) → end ≤ k → k ≤ 32 → sum (drop k bs) ≤ sum (drop k xs)
+so_far_rest xs bs end ha hb za zb k l m = omega (arith, sum_rest bs end hb zb k l m)
+
+-- a counter behind those of the classes
+no_slot : (cs : Classes) (i : ℕ) (ns : List Node) → length cs < i → count_by (is_counted (in_slot (class_of cs) i)) ns ≡ 0
+no_slot cs i ns h = omega (arith, count_split cs i ns, no_class cs i ns h)
+
+pub run_rest : (w : Weighing) (under : Bool) (cs : Classes) (list : List Node) (r : Run) → under ≡ true → IsRun w (slot_by under cs) (read_by under cs list) r → (i : ℕ) → i < 32 → length cs < i → slice_index r.counts i ≡ 0
+run_rest w under cs list r u =
+    let P : Bool → Type 0 = λ v. IsRun w (slot_by v cs) (read_by v cs list) r → (i : ℕ) → i < 32 → length cs < i → slice_index r.counts i ≡ 0 in
+    subst P (sym u) (λ run i h l. run.counts i h ∙ no_slot cs i (part (read_by true cs list) r.from r.to) l)
 
 -- counting node by node
 pub count_step : (p : Node → Bool) (ns : List Node) (i : ℕ) (d : Node) → i < length ns → count_by p (take (i + 1) ns) ≡ count_by p (take i ns) + cond {A = ℕ} (p (get_or ns i d)) 1 0

@@ -1,15 +1,16 @@
 -- Runs that grow.
-use Rattle.std.proofs.Common.{◌≡◌, ℕ, zero, suc, ◌+◌, ◌-◌, ◌*◌, ◌<◌, ◌≤◌, List, [], ◌∷◌, ◌++◌, length, take, drop, get_or, slice_index, refl, sym, ap, ◌∙◌, arith, sum_by, count_by, cond, false, Bool, length-drop, drop-drop, replicate, ◌⊎◌, inl, inr}
+use Rattle.std.proofs.Common.{◌≡◌, ℕ, zero, suc, ◌+◌, ◌-◌, ◌*◌, ◌<◌, ◌≤◌, List, [], ◌∷◌, ◌++◌, length, take, drop, get_or, slice_index, refl, sym, ap, ◌∙◌, subst, arith, sum_by, count_by, cond, false, Bool, length-drop, drop-drop, replicate, ◌⊎◌, inl, inr}
 use Rattle.std.proofs.lemmas.List.{length-take-le, length-replicate, get_or-replicate}
-use Rattle.std.proofs.lemmas.List.Sums.{sum_by_more, sum_by-append, count_by-le-length}
+use Rattle.std.proofs.lemmas.List.Sums.{sum_by-cons, sum_by_more, sum_by-append, count_by-le-length}
 use Rattle.uc_term.specs.declared.node.Node.{Node}
+use Rattle.uc_term.specs.declared.node.Node.TheVariants.{Var, App}
 use Rattle.uc_term.proofs.Terms.{take_of_length-le, flat_all-take-drop, whole-drop, count-of_list}
-use Rattle.uc_term.proofs.Ahead.{Ahead, ahead_bounds}
-use Rattle.uc_term.specs.Tree.{nodes_all, of_list}
-use Rattle.uc_term.specs.Flat.{spelled, flat_all, AreWhole}
+use Rattle.uc_term.proofs.Ahead.{Ahead, ahead_bounds, drop-at, ahead_var_at, ahead_app_at}
+use Rattle.uc_term.specs.Tree.{nodes, nodes_all, of_list}
+use Rattle.uc_term.specs.Flat.{spelled, flat_all, tree_of, AreWhole}
 use Rattle.uc_kbo.specs.declared.run.Run.{Run}
 use Rattle.uc_kbo.specs.Kbo.{Weighing}
-use Rattle.uc_kbo.specs.Runs.{IsRun, part, is_counted, in_slot, node_weight}
+use Rattle.uc_kbo.specs.Runs.{IsRun, part, is_counted, in_slot, node_weight, arguments}
 
 pub sum_step : {X : Type 0} (f : X → ℕ) (xs : List X) (i : ℕ) (d : X) (base old new : ℕ) → i < length xs → new ≡ old + f (get_or xs i d) → old ≡ base + sum_by f (take i xs) → new ≡ base + sum_by f (take (i + 1) xs)
 sum_step f xs i d base old new h e k = omega (arith, sum_by_more f xs i d h)
@@ -130,3 +131,47 @@ module _ (w : Weighing) (slot : ℕ → ℕ) (list : List Node) (old : Run) (to 
         counts = λ x h. sum_step (λ m. cond (is_counted (in_slot slot x) m) 1 0) xs i d (slice_index old.counts x) (slice_index r.counts x) (slice_index r'.counts x) more (cs x h ∙ ap (λ m. slice_index r.counts x + cond (is_counted (in_slot slot x) m) 1 0) e) (t.counts x h);
         large = λ k. let a = lg k in let b = t.large a.0 in (b.0, λ x h. none_step (is_counted (in_slot slot x)) xs i d more (ap (is_counted (in_slot slot x)) (sym e) ∙ a.1 x h) (b.1 x h));
       }
+
+-- a run that takes in the node behind it
+part_one : (ns : List Node) (i : ℕ) (d : Node) → i < length ns → part ns i (i + 1) ≡ get_or ns i d ∷ []
+part_one ns i d h = let e : i + 1 - i ≡ 1 = omega arith in ap (λ n. take n (drop i ns)) e ∙ ap (take 1) (drop-at ns i d h)
+
+sum_next : (f : Node → ℕ) (ns : List Node) (from at : ℕ) (d n : Node) → from ≤ at → at < length ns → n ≡ get_or ns at d → sum_by f (part ns from (at + 1)) ≡ sum_by f (part ns from at) + f n
+sum_next f ns from at d n h k e = omega (arith, sum_join f ns from at (at + 1) h (omega arith), ap (sum_by f) (part_one ns at d k), sum_by-cons f (get_or ns at d) [], ap f e)
+
+module _ (w : Weighing) (slot : ℕ → ℕ) (list : List Node) (at : ℕ) (r : Run) (run : IsRun w slot list (record r { to = at })) (small : length list ≤ 16777216) where
+  pub next_weight : r.weight + 4294967295 < 18446744073709551616
+  next_weight = omega (arith, run.small, run.ordered, run.within)
+
+  pub next_counts : (x : ℕ) → x < 32 → slice_index r.counts x + 1 < 4294967296
+  next_counts x h = omega (arith, run.counts x h, count_small (is_counted (in_slot slot x)) (part list r.from at), length-part list r.from at run.ordered run.within, run.ordered, run.within)
+
+  pub run_next : (r' : Run) (d n : Node) → at < length list → n ≡ get_or list at d → r'.from ≡ r.from → r'.weight ≡ r.weight + node_weight w n → r'.weight ≤ r.weight + 4294967295 → length r'.counts ≡ 32 → ((x : ℕ) → x < 32 → slice_index r'.counts x ≡ slice_index r.counts x + cond (is_counted (in_slot slot x) n) 1 0) → (r'.has_large ≡ false → (r.has_large ≡ false) × ((x : ℕ) → 32 ≤ x → is_counted (in_slot slot x) n ≡ false)) → IsRun w slot list (record r' { to = at + 1 })
+  run_next r' d n more e f wt sm sz cs lg = record {
+    ordered = omega (arith, run.ordered, f);
+    within = omega arith;
+    weight = rw f (wt ∙ ap (λ m. m + node_weight w n) run.weight ∙ sym (sum_next (node_weight w) list r.from at d n run.ordered more e));
+    small = omega (arith, sm, run.small, run.ordered, f);
+    size = sz;
+    counts = λ x h. rw f (cs x h ∙ ap (λ m. m + cond {A = ℕ} (is_counted (in_slot slot x) n) 1 0) (run.counts x h) ∙ sym (sum_next (λ m. cond (is_counted (in_slot slot x) m) 1 0) list r.from at d n run.ordered more e));
+    large = λ q x h. let a = lg q in let one : cond {A = ℕ} (is_counted (in_slot slot x) n) 1 0 ≡ 0 = rw (a.1 x h) refl in rw f (omega (arith, sum_next (λ m. cond (is_counted (in_slot slot x) m) 1 0) list r.from at d n run.ordered more e, run.large a.0 x h, one));
+  }
+
+-- the terms behind a node, of which its arguments are the first
+pub ahead_node : (ns : List Node) (i k n : ℕ) (d m : Node) → get_or ns i d ≡ m → i < length ns → Ahead (drop i ns) k n → 0 < k → (0 < n) × Ahead (drop (i + 1) ns) (k - 1 + arguments m) (n - 1)
+ahead_node ns i k n d (Var x) e h a some = let r = ahead_var_at ns i x k n d e h a some in let z : k - 1 ≡ k - 1 + 0 = omega arith in (r.0, subst (λ (j : ℕ). Ahead (drop (i + 1) ns) j (n - 1)) z r.1)
+ahead_node ns i k n d (App f a) e h b some = ahead_app_at ns i f a k n d e h b some
+
+-- the one term that begins at a place
+pub one_enough : (ns : List Node) → 0 < length ns → 1 ≤ length (spelled ns)
+one_enough [] h = absurd (omega arith)
+one_enough (Var y ∷ ns) h = omega arith
+one_enough (App f n ∷ ns) h = omega arith
+
+one_spelled : (ns : List Node) → 0 < length ns → nodes_all (of_list (take 1 (spelled ns))) ≡ nodes (tree_of ns)
+one_spelled [] h = absurd (omega arith)
+one_spelled (Var y ∷ ns) h = omega arith
+one_spelled (App f n ∷ ns) h = omega arith
+
+pub one_term : (ns : List Node) (at to e : ℕ) → at < length ns → to ≡ at → e ≡ to + nodes_all (of_list (take 1 (spelled (drop to ns)))) → e ≡ at + nodes (tree_of (drop at ns))
+one_term ns at to e h q k = omega (arith, k, q, ap (λ i. nodes_all (of_list (take 1 (spelled (drop i ns))))) q, one_spelled (drop at ns) (omega (arith, length-drop at ns)))

@@ -50,6 +50,11 @@ abbrev pub node_weight : Weighing → Node → ℕ
 node_weight w (Var x) = w.w0
 node_weight w (App f n) = w.weight_of f n
 
+-- how many arguments follow the node
+abbrev pub arguments : Node → ℕ
+arguments (Var x) = 0
+arguments (App f n) = n
+
 -- the node is a variable that passes
 abbrev pub is_counted : (ℕ → Bool) → Node → Bool
 is_counted p (Var x) = p x

@@ -9,19 +9,22 @@ use std::marker::Model;
 use uc_order::{class_number, first_of_class};
 use uc_term::Seq;
 
+// The variables below this number have their classes noted.
+const NOTED: usize = 16;
+
 /// The first variable of its class, and the number of its class, for each variable below 16.
 #[derive(Drop)]
-struct Notes {
-    firsts: [u32; 16],
-    numbers: [usize; 16],
+pub struct Notes {
+    firsts: [u32; NOTED],
+    numbers: [usize; NOTED],
 }
 
 /// The classes of an order of variables, the least first. A comparison asks for a variable's class at each place where it
-/// stands, so those of the first variables are noted, which takes no memory. A contract sees the classes alone.
+/// stands, so those of the variables below 16 are noted, which takes no memory. A contract sees the classes alone.
 #[derive(Drop)]
 pub struct Classes<'a> {
     list: &'a [Seq<u32>],
-    notes: Notes,
+    notes: &'a Notes,
 }
 
 impl<'a> Model for Classes<'a> {
@@ -35,27 +38,26 @@ impl<'a> Model for Classes<'a> {
 
     ghost view = { λ c. c.list.now };
 
-    ghost invariant = { λ c. AreNoted c.list.now 0 c.notes.firsts c.notes.numbers };
+    ghost invariant = { λ c. AreNoted c.list.now 0 c.notes.now.firsts c.notes.now.numbers };
 }
 
 impl<'a> Classes<'a> {
-    /// These classes.
+    /// These classes, with the notes of them.
     #[inline]
-    pub fn new(list: &'a [Seq<u32>]) -> Classes<'a>
+    pub fn new(list: &'a [Seq<u32>], notes: &'a Notes) -> Classes<'a>
+        requires { AreNoted list.now 0 notes.now.firsts notes.now.numbers }
         ensures { result ≡ list.now }
     {
-        Classes {
-            list,
-            notes: notes_of(list),
-        }
+        Classes { list, notes }
     }
 
-    /// No classes.
+    /// No classes, with the notes of none.
     #[inline]
-    pub fn none() -> Classes<'a>
+    pub fn none(notes: &'a Notes) -> Classes<'a>
+        requires { AreNoted [] 0 notes.now.firsts notes.now.numbers }
         ensures { result ≡ [] }
     {
-        Classes::new(&[])
+        Classes::new(&[], notes)
     }
 
     /// The list of the classes.
@@ -71,7 +73,7 @@ impl<'a> Classes<'a> {
         ensures { result ≡ representative self.now x }
     {
         let at = x as usize;
-        if at < 16 {
+        if at < NOTED {
             self.notes.firsts[at]
         } else {
             first_of_class(self.list, x)
@@ -84,7 +86,7 @@ impl<'a> Classes<'a> {
         ensures { result ≡ class_of self.now x }
     {
         let at = x as usize;
-        if at < 16 {
+        if at < NOTED {
             self.notes.numbers[at]
         } else {
             class_number(self.list, x)
@@ -92,37 +94,38 @@ impl<'a> Classes<'a> {
     }
 }
 
-/// Notes the classes from the last to the first, since a variable's class is the first one that has it.
-#[inline]
-fn notes_of(list: &[Seq<u32>]) -> Notes
-    ensures { AreNoted list.now 0 result.firsts result.numbers }
-{
-    let mut notes = Notes::none(list.len());
-    let mut number = list.len();
-    while number > 0 {
-        number -= 1;
-        notes.add(list[number].as_slice(), number);
-    }
-    notes
-}
-
 impl Notes {
-    /// Of no classes, behind so many others.
+    /// The notes of these classes. They are noted from the last to the first, since a variable's class is the first one
+    /// that has it.
     #[inline]
-    fn none(others: usize) -> Notes
+    pub fn of(list: &[Seq<u32>]) -> Notes
+        ensures { AreNoted list.now 0 result.firsts result.numbers }
+    {
+        let mut notes = Notes::none(list.len());
+        let mut number = list.len();
+        while number > 0 {
+            number -= 1;
+            notes.add(list[number].as_slice(), number);
+        }
+        notes
+    }
+
+    /// The notes of no classes: each variable is noted as the first of its class, and `others` as the number of its class.
+    #[inline]
+    pub fn none(others: usize) -> Notes
         ensures { AreNoted [] others result.firsts result.numbers }
     {
-        let mut firsts = [0; 16];
-        for x in 0..16u32 {
+        let mut firsts = [0; NOTED];
+        for x in 0..NOTED as u32 {
             firsts[x as usize] = x;
         }
         Notes {
             firsts,
-            numbers: [others; 16],
+            numbers: [others; NOTED],
         }
     }
 
-    /// Notes a class with this number before the others.
+    /// Notes the first variable of a class and this number for each variable of the class.
     #[inline]
     fn add(&mut self, class: &[u32], number: usize)
         requires firsts { length self.old.firsts ≡ 16 }
@@ -150,7 +153,7 @@ impl Notes {
         ensures number { (y : ℕ) → y < 16 → slice_index self.new.numbers y ≡ (if y == x then number else slice_index self.old.numbers y) }
     {
         let at = x as usize;
-        if at < 16 {
+        if at < NOTED {
             self.firsts[at] = first;
             self.numbers[at] = number;
         }

@@ -14,7 +14,7 @@ use crate::covers::has_all;
 use crate::run::{Run, read};
 use crate::wide::compare_wide;
 use uc_order::Cmp;
-use uc_term::{Node, end_of};
+use uc_term::Node;
 
 // Weights first, and `equal` where they are equal; and the greater run has all variables of the other.
 #[inline]
@@ -223,11 +223,9 @@ fn climb(w: &Weights, under: bool, classes: &Classes, s: &[Node], t: &[Node], at
     ensures { IsVerdict (table_weighing w.now.w0 w.now.table.items) (test_by under classes.now) (above_by under classes.now) result (tree_of (read_by under classes.now s.now)) (tree_of (read_by under classes.now t.now)) }
 {
     let mut a = Run::new(at);
-    let s_end = end_of(s, at);
-    a.extend(w, under, classes, s, s_end);
+    a.extend_terms(w, under, classes, s, 1);
     let mut b = Run::new(at);
-    let t_end = end_of(t, at);
-    b.extend(w, under, classes, t, t_end);
+    b.extend_terms(w, under, classes, t, 1);
     let inner = heads(w, under, classes, s, t, at);
     let mut verdict = decide(w, under, classes, s, t, &a, &b, inner);
     let mut part = at;
@@ -243,10 +241,8 @@ fn climb(w: &Weights, under: bool, classes: &Classes, s: &[Node], t: &[Node], at
                     done = done - arity + 1;
                 } else {
                     let left = arity - done - 1;
-                    let s_end = end_of_terms(s, a.to, left);
-                    let t_end = end_of_terms(t, b.to, left);
-                    a.extend(w, under, classes, s, s_end);
-                    b.extend(w, under, classes, t, t_end);
+                    a.extend_terms(w, under, classes, s, left);
+                    b.extend_terms(w, under, classes, t, left);
                     verdict = decide(w, under, classes, s, t, &a, &b, verdict);
                     part = from;
                     done = 0;
@@ -271,6 +267,10 @@ pub fn compare_by(w: &Weights, under: bool, classes: &Classes, s: &[Node], t: &[
     let at = first_difference(under, classes, s, t);
     if at >= s.len() || at >= t.len() {
         return Cmp::Equal;
+    }
+    // Terms of one length often weigh as much, and then the weights of the whole terms decide nothing.
+    if under && s.len() == t.len() {
+        return climb(w, under, classes, s, t, at);
     }
     let mut a = Run::new(at);
     a.extend(w, under, classes, s, s.len());

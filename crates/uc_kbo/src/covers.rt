@@ -30,7 +30,7 @@ pub fn has_all(
         return has_all_nodes(under, classes, &s[a.from..a.to], &t[b.from..b.to]);
     }
     if under {
-        has_from(a, b)
+        has_from(a, b, counters(classes))
     } else {
         has_each(a, b)
     }
@@ -52,16 +52,29 @@ fn has_each(a: &Run, b: &Run) -> bool
     all
 }
 
-// From each counter on the sum of the first run is as great as that of the second.
+// How many counters may stand above 0: one for each class, and one for the variables that are in none.
 #[inline]
-fn has_from(a: &Run, b: &Run) -> bool
+fn counters(classes: &Classes) -> usize
+    ensures within { result ≤ 32 }
+    ensures beyond { (i : ℕ) → result ≤ i → i < 32 → length classes.now < i }
+{
+    let many = classes.as_slice().len();
+    if many < 32 { many + 1 } else { 32 }
+}
+
+// From each counter on the sum of the first run is as great as that of the second. The counters from `end` on stand at 0.
+#[inline]
+fn has_from(a: &Run, b: &Run, end: usize) -> bool
     requires a { length a.now.counts ≡ 32 }
     requires b { length b.now.counts ≡ 32 }
+    requires within { end ≤ 32 }
+    requires a_rest { (i : ℕ) → end ≤ i → i < 32 → slice_index a.now.counts i ≡ 0 }
+    requires b_rest { (i : ℕ) → end ≤ i → i < 32 → slice_index b.now.counts i ≡ 0 }
     ensures { IsTrue result ↔ ((i : ℕ) → i ≤ 32 → sum (drop i b.now.counts) ≤ sum (drop i a.now.counts)) }
 {
     let mut ours: u64 = 0;
     let mut theirs: u64 = 0;
-    let mut at = 32;
+    let mut at = end;
     while at > 0 {
         at -= 1;
         let mine: u32 = a.counts[at];

@@ -9,7 +9,7 @@ ghost use Rattle.uc_kbo.specs.Weights.{IsTable, symbol_or, least_constant, kbo_m
 ghost use Rattle.uc_kbo.specs.Valid.{IsTied, IsTable-prop, IsTied-prop};
 ghost use Rattle.uc_kbo.specs.Laws.{kbo_laws};
 
-use crate::classes::Classes;
+use crate::classes::{Classes, Notes};
 use crate::climb::compare_by;
 use crate::table::{first_bad, least_of, slots_of, weigh};
 use crate::{Weighed, Weights};
@@ -74,11 +74,14 @@ impl Order for Kbo {
     ghost laws = { λ k. kbo_laws k.weights.w0 k.entries.items k.valid };
 
     fn compare(&self, s: &[Node], t: &[Node]) -> Cmp {
-        compare_by(&self.weights, false, &Classes::none(), s, t)
+        let notes = Notes::none(0);
+        compare_by(&self.weights, false, &Classes::none(&notes), s, t)
     }
 
     fn compare_under(&self, cases: &VarOrder, s: &[Node], t: &[Node]) -> Cmp {
-        compare_by(&self.weights, true, &Classes::new(cases.classes()), s, t)
+        let list = cases.classes();
+        let notes = Notes::of(list);
+        compare_by(&self.weights, true, &Classes::new(list, &notes), s, t)
     }
 
     fn least(&self) -> Sym {

@@ -1,8 +1,10 @@
 //! A run of nodes within a list: its weight, and how often each variable is in it.
 
-ghost use Rattle.std.specs.Prelude.{◌≡◌, ℕ, ◌+◌, ◌<◌, ◌≤◌, length, slice_index, false, replicate, cond, ◌^◌};
+ghost use Rattle.std.specs.Prelude.{◌≡◌, ℕ, ◌+◌, ◌<◌, ◌≤◌, length, slice_index, false, replicate, cond, ◌^◌, take, drop};
+ghost use Rattle.uc_term.specs.Tree.{nodes_all, of_list};
+ghost use Rattle.uc_term.specs.Flat.{spelled, AreWhole};
 ghost use Rattle.uc_order.specs.Renamed.{renamed_node};
-ghost use Rattle.uc_kbo.specs.Runs.{IsRun, image_by, slot_by, read_by, table_weighing, node_weight, is_counted, in_slot};
+ghost use Rattle.uc_kbo.specs.Runs.{IsRun, image_by, slot_by, read_by, table_weighing, node_weight, is_counted, in_slot, arguments};
 
 use crate::Weights;
 use crate::classes::Classes;
@@ -39,6 +41,17 @@ pub fn slot(under: bool, classes: &Classes, x: u32) -> usize
         classes.number_of(x)
     } else {
         x as usize
+    }
+}
+
+#[inline]
+fn arguments(node: Node) -> usize
+    ensures value { result ≡ arguments node }
+    ensures small { result < 2 ^ 32 }
+{
+    match node {
+        Node::Var(_) => 0,
+        Node::App(_, n) => n as usize,
     }
 }
 
@@ -104,5 +117,34 @@ impl Run {
             self.count(w, under, classes, read(under, classes, *n));
         }
         self.to = to;
+    }
+
+    // Takes in the nodes of the next `terms` terms.
+    #[inline]
+    pub fn extend_terms(
+        &mut self,
+        w: &Weights,
+        under: bool,
+        classes: &Classes,
+        list: &[Node],
+        terms: usize,
+    )
+        requires run { IsRun (table_weighing w.now.w0 w.now.table.items) (slot_by under classes.now) (read_by under classes.now list.now) self.old }
+        requires whole { AreWhole list.now }
+        requires enough { terms ≤ length (spelled (drop self.old.to list.now)) }
+        requires small { length list.now ≤ 16777216 }
+        ensures run { IsRun (table_weighing w.now.w0 w.now.table.items) (slot_by under classes.now) (read_by under classes.now list.now) self.new }
+        ensures from { self.new.from ≡ self.old.from }
+        ensures to { self.new.to ≡ self.old.to + nodes_all (of_list (take terms (spelled (drop self.old.to list.now)))) }
+    {
+        let mut end = self.to;
+        let mut pending = terms;
+        while pending > 0 {
+            let node = list[end];
+            self.count(w, under, classes, read(under, classes, node));
+            pending = pending - 1 + arguments(node);
+            end += 1;
+        }
+        self.to = end;
     }
 }

@@ -12,7 +12,7 @@ ghost use Rattle.uc_kbo.specs.Balances.{IsBoth, is_asked, AsksFor, has_counter, 
 
 use crate::Weights;
 use crate::balance::Balance;
-use crate::classes::Classes;
+use crate::classes::{Classes, Notes};
 use crate::climb::{end_of_terms, heads, heavier};
 use crate::run::Run;
 use uc_order::Cmp;
@@ -63,7 +63,8 @@ impl Both {
     {
         self.balance.gain_all(&s[self.first.to..s_end]);
         self.balance.lose_all(&t[self.second.to..t_end]);
-        let none = Classes::none();
+        let notes = Notes::none(0);
+        let none = Classes::none(&notes);
         self.first.extend(w, false, &none, s, s_end);
         self.second.extend(w, false, &none, t, t_end);
     }
@@ -114,7 +115,8 @@ fn climb_from(w: &Weights, s: &[Node], t: &[Node], at: usize, base: u32) -> Cmp
     let s_end = end_of(s, at);
     let t_end = end_of(t, at);
     both.extend(w, s, t, s_end, t_end);
-    let inner = heads(w, false, &Classes::none(), s, t, at);
+    let notes = Notes::none(0);
+    let inner = heads(w, false, &Classes::none(&notes), s, t, at);
     let mut verdict = both.decide(w, s, t, inner);
     let mut part = at;
     let mut from = at;

@@ -74,5 +74,8 @@ returns-then-a-b-clause-less c = heavy (table_weighing c.args.w.now.w0 c.args.w.
 pub returns-then-a-b-clause-equal : goal.returns-then-a-b-clause-equal
 returns-then-a-b-clause-equal c = (λ e. absurd (c.decide.ensures.differ e), λ e. absurd (trees_differ (read_by c.args.under c.args.classes.now c.args.s.now) (read_by c.args.under c.args.classes.now c.args.t.now) c.first_difference-at.result (Var 0) (read_whole c.args.under c.args.classes.now c.args.s.now c.requires.s_whole) (read_whole c.args.under c.args.classes.now c.args.t.now c.requires.t_whole) (c.first_difference-at.ensures.differ (omega arith) (omega arith) (Var 0)) e))
 
+pub returns-then-s-t-clause-equal : goal.returns-then-s-t-clause-equal
+returns-then-s-t-clause-equal c = (λ e. absurd (c.climb.ensures.not_equal e), λ e. absurd (trees_differ (read_by c.args.under c.args.classes.now c.args.s.now) (read_by c.args.under c.args.classes.now c.args.t.now) c.first_difference-at.result (Var 0) (read_whole c.args.under c.args.classes.now c.args.s.now c.requires.s_whole) (read_whole c.args.under c.args.classes.now c.args.t.now c.requires.t_whole) (c.first_difference-at.ensures.differ (omega arith) (omega arith) (Var 0)) e))
+
 pub returns-else-a-b-clause-equal : goal.returns-else-a-b-clause-equal
-returns-else-a-b-clause-equal c = (λ e. absurd (c.climb.ensures.not_equal e), λ e. absurd (trees_differ (read_by c.args.under c.args.classes.now c.args.s.now) (read_by c.args.under c.args.classes.now c.args.t.now) c.first_difference-at.result (Var 0) (read_whole c.args.under c.args.classes.now c.args.s.now c.requires.s_whole) (read_whole c.args.under c.args.classes.now c.args.t.now c.requires.t_whole) (c.first_difference-at.ensures.differ (omega arith) (omega arith) (Var 0)) e))
+returns-else-a-b-clause-equal c = (λ e. absurd (c.climb-else-a-b.ensures.not_equal e), λ e. absurd (trees_differ (read_by c.args.under c.args.classes.now c.args.s.now) (read_by c.args.under c.args.classes.now c.args.t.now) c.first_difference-at.result (Var 0) (read_whole c.args.under c.args.classes.now c.args.s.now c.requires.s_whole) (read_whole c.args.under c.args.classes.now c.args.t.now c.requires.t_whole) (c.first_difference-at.ensures.differ (omega arith) (omega arith) (Var 0)) e))

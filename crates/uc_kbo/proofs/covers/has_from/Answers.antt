@@ -1,15 +1,15 @@
-use Rattle.std.proofs.Common.{arith}
-use Rattle.uc_kbo.proofs.Covering.{sum_before, so_far_more, so_far_end, drop_end}
+use Rattle.std.proofs.Common.{arith, sym}
+use Rattle.uc_kbo.proofs.Covering.{sum_before, so_far_more, so_far_rest, sum_rest}
 use Rattle.uc_kbo.proofs.covers.has_from.Goals as goal
 
 pub loop-at-init : goal.loop-at-init
 loop-at-init c = record {
-  within = omega arith;
-  ours = drop_end c.args.a.now.counts c.requires.a;
-  theirs = drop_end c.args.b.now.counts c.requires.b;
+  within = c.requires.within;
+  ours = sym (sum_rest c.args.a.now.counts c.args.end c.requires.a c.requires.a_rest c.args.end (omega arith) c.requires.within);
+  theirs = sym (sum_rest c.args.b.now.counts c.args.end c.requires.b c.requires.b_rest c.args.end (omega arith) c.requires.within);
   ours_small = omega arith;
   theirs_small = omega arith;
-  so_far = so_far_end c.args.a.now.counts c.args.b.now.counts c.requires.a c.requires.b;
+  so_far = so_far_rest c.args.a.now.counts c.args.b.now.counts c.args.end c.requires.a c.requires.b c.requires.a_rest c.requires.b_rest;
 }
 
 pub loop-at-preserved : goal.loop-at-preserved

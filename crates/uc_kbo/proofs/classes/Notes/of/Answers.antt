@@ -3,7 +3,7 @@ use Rattle.uc_term.specs.Variables.{is_among}
 use Rattle.uc_order.specs.VarOrders.{Classes, first_or}
 use Rattle.uc_kbo.specs.Noted.{AreNoted}
 use Rattle.uc_kbo.proofs.Noting.{class_more, classes_from}
-use Rattle.uc_kbo.proofs.classes.notes_of.Goals as goal
+use Rattle.uc_kbo.proofs.classes.Notes.of.Goals as goal
 
 pub loop-number-preserved : goal.loop-number-preserved
 loop-number-preserved c =
