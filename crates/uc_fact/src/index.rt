@@ -50,20 +50,21 @@ pub trait Test {
         false
     }
 
-    /// Whether the test accepts what was found.
+    /// Whether the test accepts what was found. The space is memory that it may use; what stands in it is arbitrary.
     fn passes(
         &self,
         alloc: Global,
         found: &Found,
         from: &Term,
         to: &Term,
+        space: &mut Vec<Node>,
     ) -> Result<bool, AllocError>
         requires { can_test self.now found.now from.now to.now }
         ensures { IfOk result (λ passes. IsTrue passes ↔ accepts self.now found.now) };
 }
 
 /// Whether a test accepts what was found at a side of a fact, of which the outlook is this one. The test is asked only where
-/// that is unclear.
+/// that is unclear; the space is lent to it.
 pub fn passes_by<T: Test>(
     alloc: Global,
     test: &T,
@@ -71,6 +72,7 @@ pub fn passes_by<T: Test>(
     found: &Found,
     from: &Term,
     to: &Term,
+    space: &mut Vec<Node>,
 ) -> Result<bool, AllocError>
     requires can { T.can_test test.now found.now from.now to.now }
     requires passes { outlook ≡ Outlook.Passes → T.accepts test.now found.now }
@@ -80,7 +82,7 @@ pub fn passes_by<T: Test>(
     match outlook {
         Outlook::Passes => Ok(true),
         Outlook::Fails => Ok(false),
-        Outlook::Unclear => test.passes(alloc, found, from, to),
+        Outlook::Unclear => test.passes(alloc, found, from, to, space),
     }
 }
 
