@@ -129,7 +129,7 @@ module _ (rules : List Rule) (numbers : List ℕ) (ps : List Place) (b : IsBuilt
   rest = drop n labels
 
   end : Place
-  end = record { label = Leaf number; depth = length labels }
+  end = record { label = Leaf number; depth = length labels; skip = 0; least = 0 }
 
   fit : AreFit n (drop n labels)
   fit = let z : 0 + n ≡ n = omega arith in subst (λ (k : ℕ). AreFit k (drop n labels)) z (fit-drop n 0 labels (rw spells (labels_fit rule.from)))
@@ -143,28 +143,28 @@ module _ (rules : List Rule) (numbers : List ℕ) (ps : List Place) (b : IsBuilt
   middle : (take (length labels) (trail before (stretch n (drop n labels))) ≡ labels) × (length labels ≤ length (trail before (stretch n (drop n labels))))
   middle = let r = stretch_trail before n (drop n labels) a.within.0 fit in (ap (λ z. take z (trail before (stretch n (drop n labels)))) (sym size) ∙ r.0 ∙ whole, omega (arith, r.1, size))
 
-  all_supported : AreSupported before (stretch n (drop n labels) ++ record { label = Leaf number; depth = length labels } ∷ [])
-  all_supported = supported-append before (stretch n (drop n labels)) (record { label = Leaf number; depth = length labels } ∷ []) (stretch_supported before n (drop n labels) a.within.0 fit) (middle.1, tt, tt)
+  all_supported : AreSupported before (stretch n (drop n labels) ++ record { label = Leaf number; depth = length labels; skip = 0; least = 0 } ∷ [])
+  all_supported = supported-append before (stretch n (drop n labels)) (record { label = Leaf number; depth = length labels; skip = 0; least = 0 } ∷ []) (stretch_supported before n (drop n labels) a.within.0 fit) (middle.1, tt, tt)
 
-  all_spelled : AreSpelled rules before (stretch n (drop n labels) ++ record { label = Leaf number; depth = length labels } ∷ [])
-  all_spelled = spelled-append rules before (stretch n (drop n labels)) (record { label = Leaf number; depth = length labels } ∷ []) (stretch_spelled rules before n (drop n labels) fit) ((rule, is, middle.0 ∙ spells), tt)
+  all_spelled : AreSpelled rules before (stretch n (drop n labels) ++ record { label = Leaf number; depth = length labels; skip = 0; least = 0 } ∷ [])
+  all_spelled = spelled-append rules before (stretch n (drop n labels)) (record { label = Leaf number; depth = length labels; skip = 0; least = 0 } ∷ []) (stretch_spelled rules before n (drop n labels) fit) ((rule, is, middle.0 ∙ spells), tt)
 
   pub built_more : IsBuilt rules (numbers ++ number ∷ []) new
   built_more = rw a.new_is (record {
-    supported = supported-append [] ps (stretch n (drop n labels) ++ record { label = Leaf number; depth = length labels } ∷ []) b.supported (rw old all_supported);
-    spelled = spelled-append rules [] ps (stretch n (drop n labels) ++ record { label = Leaf number; depth = length labels } ∷ []) b.spelled (rw old all_spelled);
-    leaves_are = leaves-append ps (stretch n (drop n labels) ++ record { label = Leaf number; depth = length labels } ∷ []) ∙ ap₂ (λ x y. x ++ y) b.leaves_are (leaves-append (stretch n (drop n labels)) (record { label = Leaf number; depth = length labels } ∷ []) ∙ ap (λ z. z ++ number ∷ []) (stretch_leaves n (drop n labels) fit));
-    short = λ i p e. shallow i p (get-append_cases ps (stretch n (drop n labels) ++ record { label = Leaf number; depth = length labels } ∷ []) i p e);
+    supported = supported-append [] ps (stretch n (drop n labels) ++ record { label = Leaf number; depth = length labels; skip = 0; least = 0 } ∷ []) b.supported (rw old all_supported);
+    spelled = spelled-append rules [] ps (stretch n (drop n labels) ++ record { label = Leaf number; depth = length labels; skip = 0; least = 0 } ∷ []) b.spelled (rw old all_spelled);
+    leaves_are = leaves-append ps (stretch n (drop n labels) ++ record { label = Leaf number; depth = length labels; skip = 0; least = 0 } ∷ []) ∙ ap₂ (λ x y. x ++ y) b.leaves_are (leaves-append (stretch n (drop n labels)) (record { label = Leaf number; depth = length labels; skip = 0; least = 0 } ∷ []) ∙ ap (λ z. z ++ number ∷ []) (stretch_leaves n (drop n labels) fit));
+    short = λ i p e. shallow i p (get-append_cases ps (stretch n (drop n labels) ++ record { label = Leaf number; depth = length labels; skip = 0; least = 0 } ∷ []) i p e);
   })
     where
-      last : (p : Place) (j : ℕ) → (slice_get (stretch n (drop n labels)) j ≡ Some p) ⊎ ((k : ℕ) × (slice_get (record { label = Leaf number; depth = length labels } ∷ []) k ≡ Some p)) → p.depth ≤ 4096
+      last : (p : Place) (j : ℕ) → (slice_get (stretch n (drop n labels)) j ≡ Some p) ⊎ ((k : ℕ) × (slice_get (record { label = Leaf number; depth = length labels; skip = 0; least = 0 } ∷ []) k ≡ Some p)) → p.depth ≤ 4096
       last p j (inl g) = omega (arith, stretch_short n (drop n labels) j p g, size, short)
       last p j (inr (zero, g)) = (let z : length labels ≡ p.depth = cc in omega (arith, short))
       last p j (inr (suc k, g)) = absurd cc
 
-      shallow : (i : ℕ) (p : Place) → (slice_get ps i ≡ Some p) ⊎ ((j : ℕ) × (slice_get (stretch n (drop n labels) ++ record { label = Leaf number; depth = length labels } ∷ []) j ≡ Some p)) → p.depth ≤ 4096
+      shallow : (i : ℕ) (p : Place) → (slice_get ps i ≡ Some p) ⊎ ((j : ℕ) × (slice_get (stretch n (drop n labels) ++ record { label = Leaf number; depth = length labels; skip = 0; least = 0 } ∷ []) j ≡ Some p)) → p.depth ≤ 4096
       shallow i p (inl g) = b.short i p g
-      shallow i p (inr g) = last p g.0 (get-append_cases (stretch n (drop n labels)) (record { label = Leaf number; depth = length labels } ∷ []) g.0 p g.1)
+      shallow i p (inr g) = last p g.0 (get-append_cases (stretch n (drop n labels)) (record { label = Leaf number; depth = length labels; skip = 0; least = 0 } ∷ []) g.0 p g.1)
 
   pub trail_more : trail [] new ≡ labels
-  trail_more = rw a.new_is (trail-append [] ps (stretch n (drop n labels) ++ record { label = Leaf number; depth = length labels } ∷ []) ∙ ap (λ z. trail z (stretch n (drop n labels) ++ record { label = Leaf number; depth = length labels } ∷ [])) old ∙ trail-append before (stretch n (drop n labels)) (record { label = Leaf number; depth = length labels } ∷ []) ∙ append-nil (take (length labels) (trail before (stretch n (drop n labels)))) ∙ middle.0)
+  trail_more = rw a.new_is (trail-append [] ps (stretch n (drop n labels) ++ record { label = Leaf number; depth = length labels; skip = 0; least = 0 } ∷ []) ∙ ap (λ z. trail z (stretch n (drop n labels) ++ record { label = Leaf number; depth = length labels; skip = 0; least = 0 } ∷ [])) old ∙ trail-append before (stretch n (drop n labels)) (record { label = Leaf number; depth = length labels; skip = 0; least = 0 } ∷ []) ∙ append-nil (take (length labels) (trail before (stretch n (drop n labels)))) ∙ middle.0)

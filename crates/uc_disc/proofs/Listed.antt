@@ -12,17 +12,17 @@ use Rattle.uc_disc.specs.Building.{AreInOrder, IsSpelled, rules_spelled, stretch
 use Rattle.uc_disc.proofs.Built.{built_more, trail_more}
 
 -- a further place of a stretch
-stretch-snoc : (d : ℕ) (ss : List Label) (s : Label) (e : ℕ) → e ≡ d + length ss → stretch d (ss ++ s ∷ []) ≡ stretch d ss ++ record { label = s; depth = e } ∷ []
-stretch-snoc d [] s e h = ap (λ (z : ℕ). record { label = s; depth = z } ∷ []) (let z : d ≡ e = omega arith in z)
-stretch-snoc d (x ∷ ss) s e h = ap (λ z. record { label = x; depth = d } ∷ z) (stretch-snoc (d + 1) ss s e (omega arith))
+stretch-snoc : (d : ℕ) (ss : List Label) (s : Label) (e : ℕ) → e ≡ d + length ss → stretch d (ss ++ s ∷ []) ≡ stretch d ss ++ record { label = s; depth = e; skip = 0; least = 0 } ∷ []
+stretch-snoc d [] s e h = ap (λ (z : ℕ). record { label = s; depth = z; skip = 0; least = 0 } ∷ []) (let z : d ≡ e = omega arith in z)
+stretch-snoc d (x ∷ ss) s e h = ap (λ z. record { label = x; depth = d; skip = 0; least = 0 } ∷ z) (stretch-snoc (d + 1) ss s e (omega arith))
 
-pub stretch_more : (labels : List Label) (from depth : ℕ) (dl : Label) (old now new : List Place) → from ≤ depth → depth < length labels → now ≡ old ++ stretch from (take (depth - from) (drop from labels)) → new ≡ now ++ record { label = get_or labels depth dl; depth = depth } ∷ [] → new ≡ old ++ stretch from (take (depth + 1 - from) (drop from labels))
+pub stretch_more : (labels : List Label) (from depth : ℕ) (dl : Label) (old now new : List Place) → from ≤ depth → depth < length labels → now ≡ old ++ stretch from (take (depth - from) (drop from labels)) → new ≡ now ++ record { label = get_or labels depth dl; depth = depth; skip = 0; least = 0 } ∷ [] → new ≡ old ++ stretch from (take (depth + 1 - from) (drop from labels))
 stretch_more labels from depth dl old now new h k e f =
     let long : length (drop from labels) ≡ length labels - from = length-drop from labels in
     let size : depth + 1 - from ≡ (depth - from) + 1 = omega arith in
     let next : take (depth + 1 - from) (drop from labels) ≡ take (depth - from) (drop from labels) ++ get_or labels depth dl ∷ [] = ap (λ z. take z (drop from labels)) size ∙ take_more (drop from labels) (depth - from) dl (omega (arith, long)) ∙ ap (λ z. take (depth - from) (drop from labels) ++ z ∷ []) (get_or-drop from labels (depth - from) dl ∙ ap (λ z. get_or labels z dl) (let z : from + (depth - from) ≡ depth = omega arith in z)) in
     let short : length (take (depth - from) (drop from labels)) ≡ depth - from = length-take-le (depth - from) (drop from labels) (omega (arith, long)) in
-    f ∙ ap (λ z. z ++ record { label = get_or labels depth dl; depth = depth } ∷ []) e ∙ append_assoc old (stretch from (take (depth - from) (drop from labels))) (record { label = get_or labels depth dl; depth = depth } ∷ []) ∙ ap (λ z. old ++ z) (sym (stretch-snoc from (take (depth - from) (drop from labels)) (get_or labels depth dl) depth (omega (arith, short)))) ∙ ap (λ z. old ++ stretch from z) (sym next)
+    f ∙ ap (λ z. z ++ record { label = get_or labels depth dl; depth = depth; skip = 0; least = 0 } ∷ []) e ∙ append_assoc old (stretch from (take (depth - from) (drop from labels))) (record { label = get_or labels depth dl; depth = depth; skip = 0; least = 0 } ∷ []) ∙ ap (λ z. old ++ z) (sym (stretch-snoc from (take (depth - from) (drop from labels)) (get_or labels depth dl) depth (omega (arith, short)))) ∙ ap (λ z. old ++ stretch from z) (sym next)
 
 -- a further rule is spelled
 pub in_order_more : (rules : List Rule) (n : ℕ) (list new : List Spelled) (s : Spelled) → AreInOrder rules n list → s.rule ≡ n → IsSpelled rules s → new ≡ list ++ s ∷ [] → AreInOrder rules (n + 1) new

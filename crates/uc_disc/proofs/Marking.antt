@@ -4,8 +4,8 @@ use Rattle.std.specs.Prelude.{slice_get, slice_set}
 use Rattle.std.proofs.lemmas.Option.{slice_get_within, slice_get-get_or, get_or_from_slice_get}
 use Rattle.uc_disc.specs.declared.place.Label.TheVariants.{Leaf}
 use Rattle.uc_disc.specs.declared.place.Place.{Place}
-use Rattle.uc_disc.specs.declared.place.Mark.{Mark}
-use Rattle.uc_disc.specs.Trail.{IsMark}
+use Rattle.uc_disc.specs.Trail.{bare, IsMark}
+use Rattle.uc_disc.proofs.Bare.{mark_alike, set_bare}
 
 -- what is known when the places from one on and before another are seen to be below the first one
 pub record Seen (ps : List Place) (i depth next least : ℕ) : Type 0 where
@@ -29,7 +29,7 @@ module _ (ps : List Place) (i : ℕ) (h : i < length ps) (dp : Place) where
     leaves = λ j q r a b g is. (let same : j ≡ i = omega arith in let g' : slice_get ps i ≡ Some q = subst (λ (z : ℕ). slice_get ps z ≡ Some q) same g in omega (arith, e r (ap (λ (z : Place). z.label) (sym (here q g')) ∙ is)));
   }
 
-  pub seen_more : (next least : ℕ) (m : Mark) → Seen ps i p.depth next least → next < length ps → (dn : Place) → p.depth < (get_or ps next dn).depth → IsMark ps next m → (new : ℕ) → new ≡ min least m.least → Seen ps i p.depth m.skip new
+  pub seen_more : (next least : ℕ) (m : Place) → Seen ps i p.depth next least → next < length ps → (dn : Place) → p.depth < (get_or ps next dn).depth → IsMark ps next m → (new : ℕ) → new ≡ min least m.least → Seen ps i p.depth m.skip new
   seen_more next least m s k dn deeper mark new is = record {
     ahead = omega (arith, s.ahead, mark.ahead);
     within = mark.within;
@@ -49,7 +49,7 @@ module _ (ps : List Place) (i : ℕ) (h : i < length ps) (dp : Place) where
       leaves j q r a b g e (inl c) = omega (arith, s.leaves j q r a c g e)
       leaves j q r a b g e (inr c) = omega (arith, mark.least j q r c b g e)
 
-  pub seen_all : (next least : ℕ) → Seen ps i p.depth next least → ((dn : Place) → next < length ps → (get_or ps next dn).depth ≤ p.depth) → IsMark ps i (record { skip = next; least = least })
+  pub seen_all : (next least : ℕ) → Seen ps i p.depth next least → ((dn : Place) → next < length ps → (get_or ps next dn).depth ≤ p.depth) → IsMark ps i (record { label = p.label; depth = p.depth; skip = next; least = least })
   seen_all next least s stop = record {
     ahead = s.ahead;
     within = s.within;
@@ -74,13 +74,13 @@ set-same [] i x y e = absurd cc
 set-same (z ∷ xs) zero x y e = cc
 set-same (z ∷ xs) (suc i) x y e = set-same xs i x y e
 
-pub marks_more : (ps : List Place) (ms : List Mark) (i : ℕ) (m : Mark) → ((j : ℕ) (n : Mark) → i < j → slice_get ms j ≡ Some n → IsMark ps j n) → IsMark ps i m → (j : ℕ) (n : Mark) → i ≤ j → slice_get (slice_set ms i m) j ≡ Some n → IsMark ps j n
-marks_more ps ms i m known here j n h e = go (let z : (j ≡ i) ⊎ (i < j) = grind arith in z)
+pub marks_more : (ps : List Place) (i : ℕ) (m : Place) → ((p : Place) → slice_get ps i ≡ Some p → bare m ≡ bare p) → ((j : ℕ) (n : Place) → i < j → slice_get ps j ≡ Some n → IsMark ps j n) → IsMark ps i m → (j : ℕ) (n : Place) → i ≤ j → slice_get (slice_set ps i m) j ≡ Some n → IsMark (slice_set ps i m) j n
+marks_more ps i m same known here j n h e = mark_alike ps (slice_set ps i m) j n (sym (set_bare ps i m same)) (go (let z : (j ≡ i) ⊎ (i < j) = grind arith in z))
   where
-    other : i < j → ((j ≡ i) × (n ≡ m)) ⊎ (slice_get ms j ≡ Some n) → IsMark ps j n
+    other : i < j → ((j ≡ i) × (n ≡ m)) ⊎ (slice_get ps j ≡ Some n) → IsMark ps j n
     other l (inl p) = absurd (omega (arith, p.0))
     other l (inr g) = known j n l g
 
     go : (j ≡ i) ⊎ (i < j) → IsMark ps j n
-    go (inl same) = rw (same, set-same ms i n m (subst (λ (z : ℕ). slice_get (slice_set ms i m) z ≡ Some n) same e)) here
-    go (inr l) = other l (get-set ms i j n m e)
+    go (inl same) = rw (same, set-same ps i n m (subst (λ (z : ℕ). slice_get (slice_set ps i m) z ≡ Some n) same e)) here
+    go (inr l) = other l (get-set ps i j n m e)

@@ -9,9 +9,8 @@ use Rattle.uc_term.specs.Flat.{tree_of, IsWhole}
 use Rattle.uc_term.proofs.Gets.{get_pushed}
 use Rattle.uc_term.proofs.Terms.{length-flat, nodes_pos}
 use Rattle.uc_disc.specs.declared.place.Label.{Label}
-use Rattle.uc_disc.specs.declared.place.Label.TheVariants.{Variable, Head as AHead, Leaf}
+use Rattle.uc_disc.specs.declared.place.Label.TheVariants.{Head as AHead, Leaf}
 use Rattle.uc_disc.specs.declared.place.Place.{Place}
-use Rattle.uc_disc.specs.declared.place.Mark.{Mark}
 use Rattle.uc_disc.specs.declared.heads.Head.{Head}
 use Rattle.uc_disc.specs.declared.heads.Part.{Part}
 use Rattle.uc_disc.specs.Trail.{before, AreSupported, IsMark, AreMarks}
@@ -47,7 +46,7 @@ root_first ps s p e = omega (arith, (supported_at [] ps 0 p s e).0)
 pub root_end : (ps : List Place) → IsRoot ps (length ps)
 root_end ps p e = absurd (omega (arith, slice_get_within ps (length ps) p e))
 
-pub root_skip : (ps : List Place) (i : ℕ) (p : Place) (m : Mark) → slice_get ps i ≡ Some p → IsMark ps i m → IsRoot ps i → IsRoot ps m.skip
+pub root_skip : (ps : List Place) (i : ℕ) (p : Place) (m : Place) → slice_get ps i ≡ Some p → IsMark ps i m → IsRoot ps i → IsRoot ps m.skip
 root_skip ps i p m here mark root q e = omega (arith, mark.behind p q here e, root p here)
 
 pub stands_root : (ns : List Node) (ps : List Place) (i : ℕ) (at : List ℕ) → Stands ns [] at → IsRoot ps i → StandsAt ns ps i at
@@ -57,7 +56,7 @@ begins : (xs : List Label) (s : Label) → take 1 xs ≡ s ∷ [] → xs ≡ s �
 begins [] s e = absurd cc
 begins (x ∷ xs) s e = ap (λ z. z ∷ xs) cc
 
-under_branch : (ps : List Place) → AreSupported [] ps → (i f n : ℕ) (p : Place) (m : Mark) → slice_get ps i ≡ Some p → IsMark ps i m → p.depth ≡ 0 → p.label ≡ AHead f n → AreUnder ps f i m.skip
+under_branch : (ps : List Place) → AreSupported [] ps → (i f n : ℕ) (p : Place) (m : Place) → slice_get ps i ≡ Some p → IsMark ps i m → p.depth ≡ 0 → p.label ≡ AHead f n → AreUnder ps f i m.skip
 under_branch ps supported i f n p m here mark root is j q r a b g leaf = go (let z : (j ≡ i) ⊎ (i < j) = grind arith in z)
   where
     other : (r : ℕ) → p.label ≡ Leaf r → ⊥
@@ -78,7 +77,7 @@ no_heads ps end h root = record { rising = λ i j g k l e f. absurd cc; within =
 pub no_head : (ps : List Place) → AreHeads ps [] (length ps)
 no_head ps = no_heads ps (length ps) (omega arith) (root_end ps)
 
-pub more_heads : (ps : List Place) → AreSupported [] ps → (heads : List Head) (i f n : ℕ) (p : Place) (m : Mark) → AreHeads ps heads i → slice_get ps i ≡ Some p → IsMark ps i m → p.label ≡ AHead f n → ((k : ℕ) (h : Head) → slice_get heads k ≡ Some h → h.symbol < f) → AreHeads ps (heads ++ record { symbol = f; start = i } ∷ []) m.skip
+pub more_heads : (ps : List Place) → AreSupported [] ps → (heads : List Head) (i f n : ℕ) (p : Place) (m : Place) → AreHeads ps heads i → slice_get ps i ≡ Some p → IsMark ps i m → p.label ≡ AHead f n → ((k : ℕ) (h : Head) → slice_get heads k ≡ Some h → h.symbol < f) → AreHeads ps (heads ++ record { symbol = f; start = i } ∷ []) m.skip
 more_heads ps supported heads i f n p m old here mark is above = record {
   rising = λ a b g h l e k. rising a b g h l (get_pushed heads x a g e) (get_pushed heads x b h k);
   within = λ k. within k (side k);
@@ -120,21 +119,21 @@ pub heads_end : (ps : List Place) (heads : List Head) (i : ℕ) → AreHeads ps 
 heads_end ps heads i t h = (let same : i ≡ length ps = omega (arith, t.within (length heads), start_past heads (length heads) i (omega arith)) in subst (AreHeads ps heads) same t)
 
 -- from one branch to the next one
-module _ (ps : List Place) (ms : List Mark) (supported : AreSupported [] ps) (marks : AreMarks ps ms) (i : ℕ) (h : i < length ps) (dm : Mark) where
-  mark : IsMark ps i (get_or ms i dm)
-  mark = marks.marked i (get_or ms i dm) (slice_get-get_or ms i dm (omega (arith, marks.long)))
+module _ (ps : List Place) (supported : AreSupported [] ps) (marks : AreMarks ps) (i : ℕ) (h : i < length ps) (d : Place) where
+  here : slice_get ps i ≡ Some (get_or ps i d)
+  here = slice_get-get_or ps i d h
 
-  here : (d : Place) → slice_get ps i ≡ Some (get_or ps i d)
-  here d = slice_get-get_or ps i d h
+  mark : IsMark ps i (get_or ps i d)
+  mark = marks i (get_or ps i d) here
 
-  pub skip_ahead : (i < (get_or ms i dm).skip) × ((get_or ms i dm).skip ≤ length ps)
+  pub skip_ahead : (i < (get_or ps i d).skip) × ((get_or ps i d).skip ≤ length ps)
   skip_ahead = (mark.ahead, mark.within)
 
-  pub next_root : IsRoot ps i → IsRoot ps (get_or ms i dm).skip
-  next_root root = root_skip ps i (get_or ps i (record { label = Variable 0; depth = 0 })) (get_or ms i dm) (here (record { label = Variable 0; depth = 0 })) mark root
+  pub next_root : IsRoot ps i → IsRoot ps (get_or ps i d).skip
+  next_root root = root_skip ps i (get_or ps i d) (get_or ps i d) here mark root
 
-  pub next_heads : (heads slice new : List Head) (f : ℕ) (d : Place) → AreHeads ps heads i → slice ≡ heads → IsNext slice (get_or ps i d).label f → new ≡ heads ++ record { symbol = f; start = i } ∷ [] → AreHeads ps new (get_or ms i dm).skip
-  next_heads heads slice new f d t e n g = rw g (more_heads ps supported heads i f n.arity (get_or ps i d) (get_or ms i dm) t (here d) mark n.is (λ k x k'. n.above k x (subst (λ (z : List Head). slice_get z k ≡ Some x) (sym e) k')))
+  pub next_heads : (heads slice new : List Head) (f : ℕ) → AreHeads ps heads i → slice ≡ heads → IsNext slice (get_or ps i d).label f → new ≡ heads ++ record { symbol = f; start = i } ∷ [] → AreHeads ps new (get_or ps i d).skip
+  next_heads heads slice new f t e n g = rw g (more_heads ps supported heads i f n.arity (get_or ps i d) (get_or ps i d) t here mark n.is (λ k x k'. n.above k x (subst (λ (z : List Head). slice_get z k ≡ Some x) (sym e) k')))
 
 -- another symbol
 pub other_symbol : (f : Sym) (n g : ℕ) → (g ≡ f.0 → ⊥) → (a : ℕ) → App f n ≡ App (record { 0 = g }) a → ⊥

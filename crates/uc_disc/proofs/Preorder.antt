@@ -7,7 +7,6 @@ use Rattle.uc_term.proofs.Terms.{take_of_length-le}
 use Rattle.uc_disc.specs.declared.place.Label.{Label}
 use Rattle.uc_disc.specs.declared.place.Label.TheVariants.{Variable, Head, Leaf}
 use Rattle.uc_disc.specs.declared.place.Place.{Place}
-use Rattle.uc_disc.specs.declared.place.Mark.{Mark}
 use Rattle.uc_disc.specs.Trail.{added, on, trail, before, AreSupported, RefersBack, IsMark}
 use Rattle.uc_disc.specs.Standing.{Stands, Fails, StandsAt, FailsAt}
 use Rattle.uc_disc.proofs.Walks.{take-take-le, get-drop, get-there, stands_front, fails_longer}
@@ -69,7 +68,7 @@ module _ (ps : List Place) (supported : AreSupported [] ps) where
         let one : q ≡ p = (let e : slice_get ps i ≡ Some q = subst (λ (z : ℕ). slice_get ps z ≡ Some q) same g in cc) in
         absurd (other r (ap (λ (z : Place). z.label) (sym one) ∙ is))
 
-    module _ (m : Mark) (mark : IsMark ps i m) where
+    module _ (m : Place) (mark : IsMark ps i m) where
       front_skip : take d (before ps m.skip) ≡ take d (before ps i)
       front_skip =
           kept d (i + 1) (m.skip - (i + 1)) m.skip (omega (arith, mark.ahead)) mark.within (λ k q a b g. omega (arith, mark.below k p q here (omega arith) b g)) ∙ kept_next d i p here (omega arith)

@@ -23,14 +23,14 @@ pub record AreInOrder (rules : List Rule) (n : ℕ) (list : List Spelled) : Type
 -- places for labels, each one deeper than the one before it
 abbrev pub stretch : ℕ → List Label → List Place
 stretch depth [] = []
-stretch depth (s ∷ ss) = record { label = s; depth = depth } ∷ stretch (depth + 1) ss
+stretch depth (s ∷ ss) = record { label = s; depth = depth; skip = 0; least = 0 } ∷ stretch (depth + 1) ss
 
 -- the places of a spelling are added behind those of another one with which it has its first labels in common
 pub record AddsPlaces (before labels : List Label) (rule : ℕ) (old new : List Place) : Type 0 where
   pub common : ℕ
   pub within : (common ≤ length before) × (common ≤ length labels)
   pub same : take common before ≡ take common labels
-  pub new_is : new ≡ old ++ (stretch common (drop common labels) ++ record { label = Leaf rule; depth = length labels } ∷ [])
+  pub new_is : new ≡ old ++ (stretch common (drop common labels) ++ record { label = Leaf rule; depth = length labels; skip = 0; least = 0 } ∷ [])
 
 -- the places stand on trails, and their leaves are those of these rules
 pub record IsBuilt (rules : List Rule) (numbers : List ℕ) (ps : List Place) : Type 0 where

@@ -50,7 +50,7 @@ module _ (Accepted : Found → Type 0) (t : Tree) (rules : List Rule) where
   abbrev pub NoneBefore : List Place → ℕ → ℕ → ℕ → Type 0
   NoneBefore ps i from bound = (j : ℕ) (p : Place) (r : ℕ) → j < i → slice_get ps j ≡ Some p → p.label ≡ Leaf r → from ≤ r → r < bound → GivesNone r
 
-  -- a branch of the root, before which no leaf gives anything from a number on
+  -- a branch of the root, or the end, before which no leaf gives anything from a number on
   pub record IsPassed (ps : List Place) (from i : ℕ) : Type 0 where
     pub root : IsRoot ps i
     pub within : i ≤ length ps

@@ -4,7 +4,6 @@ use Rattle.uc_fact.specs.Live.{Rule}
 use Rattle.uc_disc.specs.declared.place.Label.{Label}
 use Rattle.uc_disc.specs.declared.place.Label.TheVariants.{Variable, Head, Leaf}
 use Rattle.uc_disc.specs.declared.place.Place.{Place}
-use Rattle.uc_disc.specs.declared.place.Mark.{Mark}
 use Rattle.uc_disc.specs.Spelling.{labels_of}
 
 -- what a label adds to a trail
@@ -61,9 +60,13 @@ abbrev pub numbers_below : ℕ → List ℕ
 numbers_below zero = []
 numbers_below (suc n) = numbers_below n ++ n ∷ []
 
+-- the place without its mark
+abbrev pub bare : Place → Place
+bare p = record { label = p.label; depth = p.depth; skip = 0; least = 0 }
+
 -- from a place on, those before the one noted are below it, and that one isn't; no leaf at the place or below has a rule
 -- before the least one noted
-pub record IsMark (ps : List Place) (i : ℕ) (m : Mark) : Type 0 where
+pub record IsMark (ps : List Place) (i : ℕ) (m : Place) : Type 0 where
   pub ahead : i < m.skip
   pub within : m.skip ≤ length ps
   pub below : (j : ℕ) (p q : Place) → slice_get ps i ≡ Some p → i < j → j < m.skip → slice_get ps j ≡ Some q → p.depth < q.depth
@@ -71,22 +74,21 @@ pub record IsMark (ps : List Place) (i : ℕ) (m : Mark) : Type 0 where
   pub least : (j : ℕ) (q : Place) (r : ℕ) → i ≤ j → j < m.skip → slice_get ps j ≡ Some q → q.label ≡ Leaf r → m.least ≤ r
 
 -- each place has its note
-pub record AreMarks (ps : List Place) (ms : List Mark) : Type 0 where
-  pub long : length ms ≡ length ps
-  pub marked : (i : ℕ) (m : Mark) → slice_get ms i ≡ Some m → IsMark ps i m
+abbrev pub AreMarks : List Place → Type 0
+AreMarks ps = (i : ℕ) (p : Place) → slice_get ps i ≡ Some p → IsMark ps i p
 
 -- no place is as deep
 abbrev pub AreBelow : ℕ → List Place → Type 0
 AreBelow deep ps = (i : ℕ) (p : Place) → slice_get ps i ≡ Some p → p.depth < deep
 
 -- what a walk asks of the places
-pub record IsShaped (ps : List Place) (ms : List Mark) (deep : ℕ) : Type 0 where
+pub record IsShaped (ps : List Place) (deep : ℕ) : Type 0 where
   pub supported : AreSupported [] ps
-  pub marks : AreMarks ps ms
+  pub marks : AreMarks ps
   pub below : AreBelow deep ps
 
 -- exactly one leaf for each rule, whose trail spells the rule's side, and no other leaf
-pub record IsTree (rules : List Rule) (ps : List Place) (ms : List Mark) (deep : ℕ) : Type 0 where
-  pub shaped : IsShaped ps ms deep
+pub record IsTree (rules : List Rule) (ps : List Place) (deep : ℕ) : Type 0 where
+  pub shaped : IsShaped ps deep
   pub spelled : AreSpelled rules [] ps
   pub each : IsPermutation (numbers_below (length rules)) (leaves ps)

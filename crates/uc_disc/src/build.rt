@@ -1,16 +1,15 @@
 //! Builds the places of a tree from the spellings of its rules.
 
-ghost use Rattle.std.specs.Prelude.{◌≡◌, ◌≤◌, ◌<◌, ◌+◌, ◌*◌, ◌^◌, [], ℕ, take, length, slice_get, Some, IfOk, All, List};
+ghost use Rattle.std.specs.Prelude.{◌≡◌, ◌≤◌, ◌<◌, ◌+◌, ◌*◌, ◌^◌, [], ℕ, take, length, slice_get, Some, IfOk, All, List, map};
 ghost use Rattle.uc_fact.specs.Live.{Rule, rules_of};
-ghost use Rattle.uc_disc.specs.declared.place.Mark.{Mark as AnyMark};
 ghost use Rattle.uc_disc.specs.declared.place.Place.{Place as AnyPlace};
 ghost use Rattle.uc_disc.specs.declared.place.Label.TheVariants.{Leaf};
 ghost use Rattle.uc_disc.specs.Numbered.{lives};
-ghost use Rattle.uc_disc.specs.Trail.{IsMark, AreMarks, AreBelow};
+ghost use Rattle.uc_disc.specs.Trail.{bare, IsMark, AreMarks, AreBelow};
 ghost use Rattle.uc_disc.specs.Building.{AreInOrder, AddsPlaces, IsBuilt, IsSpelled, rules_spelled};
 
 use crate::facts::{side_of_rule, side_term};
-use crate::place::{Label, Mark, Place, leaf_rule};
+use crate::place::{Label, Place, leaf_rule};
 use crate::spelling::spelling;
 use std::alloc::{AllocError, Global};
 use uc_fact::Equation;
@@ -65,16 +64,20 @@ fn add_places(
         places.push(Place {
             label: labels[depth],
             depth: depth as u32,
+            skip: 0,
+            least: 0,
         })?;
     }
     places.push(Place {
         label: Label::Leaf(rule),
         depth: labels.len() as u32,
+        skip: 0,
+        least: 0,
     })?;
     Ok(())
 }
 
-/// Makes the places of spellings, each of which shares the front that it has in common with the one before it.
+/// Makes the places of spellings, without marks, each of which shares the front that it has in common with the one before it.
 pub fn places_of(alloc: Global, list: &[Spelled]) -> Result<Vec<Place>, AllocError>
     requires short { (i : ℕ) (s : Spelled) → slice_get list.now i ≡ Some s → length s.labels.items ≤ MAX_NODES }
     ensures { IfOk result (λ places. (rules : List Rule) → All (IsSpelled rules) list.now → IsBuilt rules (rules_spelled list.now) places.items) }
@@ -89,38 +92,40 @@ pub fn places_of(alloc: Global, list: &[Spelled]) -> Result<Vec<Place>, AllocErr
     Ok(places)
 }
 
-/// Makes the mark of a place, when the places behind it have theirs.
-fn mark_at(places: &[Place], marks: &[Mark], i: usize) -> Mark
-    requires long { length marks.now ≡ length places.now }
+/// Returns a place with its mark, when the places behind it have theirs.
+fn marked(places: &[Place], i: usize) -> Place
     requires within { i < length places.now }
-    requires known { (j : ℕ) (m : AnyMark) → i < j → slice_get marks.now j ≡ Some m → IsMark places.now j m }
-    ensures { IsMark places.now i result }
+    requires known { (j : ℕ) (p : AnyPlace) → i < j → slice_get places.now j ≡ Some p → IsMark places.now j p }
+    ensures same { (p : AnyPlace) → slice_get places.now i ≡ Some p → bare result ≡ bare p }
+    ensures mark { IsMark places.now i result }
 {
+    let label = places[i].label;
     let depth = places[i].depth;
-    let mut least = leaf_rule(places[i].label);
-    let mut next = i + 1;
-    while next < places.len() && places[next].depth > depth {
-        least = least.min(marks[next].least);
-        next = marks[next].skip;
+    let mut least = leaf_rule(label);
+    let mut skip = i + 1;
+    while skip < places.len() && places[skip].depth > depth {
+        least = least.min(places[skip].least);
+        skip = places[skip].skip;
     }
-    Mark { skip: next, least }
+    Place {
+        label,
+        depth,
+        skip,
+        least,
+    }
 }
 
-/// Makes the marks of all places, from the last place back.
-pub fn marks_of(alloc: Global, places: &[Place]) -> Result<Vec<Mark>, AllocError>
-    ensures { IfOk result (λ marks. AreMarks places.now marks.items) }
+/// Notes the marks of all places, from the last place back.
+pub fn set_marks(places: &mut [Place])
+    ensures same { map bare places.new ≡ map bare places.old }
+    ensures marks { AreMarks places.new }
 {
-    let mut marks = Vec::new(alloc);
-    for _ in 0..places.len() {
-        marks.push(Mark { skip: 0, least: 0 })?;
-    }
     let mut i = places.len();
     while i > 0 {
         i -= 1;
-        let mark = mark_at(places, marks.as_slice(), i);
-        marks[i] = mark;
+        let place = marked(places, i);
+        places[i] = place;
     }
-    Ok(marks)
 }
 
 /// Returns one more than the greatest depth.

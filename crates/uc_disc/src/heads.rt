@@ -6,7 +6,7 @@ ghost use Rattle.uc_disc.specs.declared.heads.Head.{Head as AnyHead};
 ghost use Rattle.uc_disc.specs.Trail.{AreSupported, AreMarks};
 ghost use Rattle.uc_disc.specs.Heads.{IsRoot, AreRisingHeads, AreHeads, IsNext, IsSought, IsUnder, AreParts, start_at as start_of_part};
 
-use crate::place::{Label, Mark, Place};
+use crate::place::{Label, Place};
 use std::alloc::{AllocError, Global};
 use uc_term::Node;
 
@@ -35,30 +35,30 @@ pub struct Parts {
 }
 
 /// Counts the branches of the root.
-fn count_branches(places: &[Place], marks: &[Mark]) -> usize
-    requires marks { AreMarks places.now marks.now }
+fn count_branches(places: &[Place]) -> usize
+    requires marks { AreMarks places.now }
     ensures { result ≤ length places.now }
 {
     let mut count = 0;
     let mut i = 0;
     while i < places.len() {
-        i = marks[i].skip;
+        i = places[i].skip;
         count += 1;
     }
     count
 }
 
 /// Finds the first branch of the root that isn't under a variable.
-fn first_head(places: &[Place], marks: &[Mark]) -> usize
+fn first_head(places: &[Place]) -> usize
     requires supported { AreSupported [] places.now }
-    requires marks { AreMarks places.now marks.now }
+    requires marks { AreMarks places.now }
     ensures within { result ≤ length places.now }
     ensures root { IsRoot places.now result }
 {
     let mut i = 0;
     while i < places.len() {
         match places[i].label {
-            Label::Variable(_) => i = marks[i].skip,
+            Label::Variable(_) => i = places[i].skip,
             Label::Head(_, _) => return i,
             Label::Leaf(_) => return i,
         }
@@ -89,23 +89,23 @@ fn next_symbol(heads: &[Head], label: Label) -> Option<u32>
 
 /// Lists the heads of a tree. There are none where the root has few branches, or those under symbols aren't in the order of
 /// the symbols.
-pub fn heads_of(alloc: Global, places: &[Place], marks: &[Mark]) -> Result<Vec<Head>, AllocError>
+pub fn heads_of(alloc: Global, places: &[Place]) -> Result<Vec<Head>, AllocError>
     requires supported { AreSupported [] places.now }
-    requires marks { AreMarks places.now marks.now }
+    requires marks { AreMarks places.now }
     ensures { IfOk result (λ heads. AreHeads places.now heads.items (length places.now)) }
 {
-    let count = count_branches(places, marks);
+    let count = count_branches(places);
     if count <= FEW {
         return Ok(Vec::new(alloc));
     }
     let mut heads = Vec::with_capacity(alloc, count)?;
-    let mut i = first_head(places, marks);
+    let mut i = first_head(places);
     while i < places.len() {
         match next_symbol(heads.as_slice(), places[i].label) {
             Some(symbol) => heads.push(Head { symbol, start: i })?,
             None => return Ok(Vec::new(alloc)),
         }
-        i = marks[i].skip;
+        i = places[i].skip;
     }
     Ok(heads)
 }

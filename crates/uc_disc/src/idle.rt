@@ -1,5 +1,5 @@
 //! Rules that are read from a side that is embedded in their other side: many terms are instances of that, of a variable even
-//! all, and the step leads to a term that is greater in most orders.
+//! all, and no step from it leads to a smaller term, whatever the order.
 
 ghost use Rattle.std.specs.Prelude.{◌≡◌, ◌<◌, ◌*◌, ◌^◌, ℕ, [], List, false, IsTrue, IfOk, length, slice_index_or};
 ghost use Rattle.uc_fact.specs.Live.{Rule, rules_of};
@@ -14,7 +14,7 @@ use crate::place::{Label, Place};
 use std::alloc::{AllocError, Global};
 use uc_fact::{Equation, is_embedded};
 
-/// Marks the rules that are idle, each by its number.
+/// Marks rules that are idle, each by its number: those of which `is_embedded` tells it.
 pub fn idle_rules(alloc: Global, facts: &[(u32, Equation)]) -> Result<Vec<bool>, AllocError>
     requires few { length facts.now < 2 ^ 31 }
     ensures { IfOk result (λ marks. AreIdleRules (rules_of (lives facts.now)) marks.items) }

@@ -15,16 +15,12 @@ pub enum Label {
     Leaf(u32),
 }
 
-/// A place, with the number of labels on the way to it.
+/// A place, with the number of labels on the way to it, the next place that isn't below it, and the least rule at it and
+/// below.
 #[derive(Clone, Copy)]
 pub struct Place {
     pub label: Label,
     pub depth: u32,
-}
-
-/// What is noted of a place: the next place that isn't below it, and the least rule at it and below.
-#[derive(Clone, Copy)]
-pub struct Mark {
     pub skip: usize,
     pub least: u32,
 }

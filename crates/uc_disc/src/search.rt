@@ -16,7 +16,7 @@ ghost use Rattle.uc_disc.specs.Idle.{AreIdleRules, AreIdle};
 use crate::facts::{other_side_term, side_of_rule, side_term};
 use crate::heads::{Head, Part, Parts, parts_of};
 use crate::idle::is_marked;
-use crate::place::{Mark, Place, leaf_rule};
+use crate::place::{Place, leaf_rule};
 use crate::walk::next_leaf;
 use std::alloc::{AllocError, Global};
 use uc_fact::{Equation, Found, Outlook, Side, Test, passes_by};
@@ -159,7 +159,6 @@ fn best_in<T: Test>(
     facts: &[(u32, Equation)],
     idle: &[bool],
     places: &[Place],
-    marks: &[Mark],
     alloc: Global,
     best: Best,
     from: u32,
@@ -170,7 +169,7 @@ fn best_in<T: Test>(
 ) -> Result<Best, AllocError>
     requires whole { IsWhole term.now }
     requires small { length term.now ≤ MAX_NODES }
-    requires tree { IsTree (rules_of (lives facts.now)) places.now marks.now (length at.old - 1) }
+    requires tree { IsTree (rules_of (lives facts.now)) places.now (length at.old - 1) }
     requires room { 1 < length at.old }
     requires few { length facts.now < 2 ^ 31 }
     requires idle { AreIdleRules (rules_of (lives facts.now)) idle.now }
@@ -184,11 +183,11 @@ fn best_in<T: Test>(
 {
     at[0] = 0;
     let mut best = best;
-    let mut i = next_leaf(places, marks, term, at, part.start, part.stop, best.bound);
+    let mut i = next_leaf(places, term, at, part.start, part.stop, best.bound);
     while i < part.stop {
         let rule = leaf_rule(places[i].label);
         best = better(facts, idle, alloc, best, from, rule, term, test)?;
-        i = next_leaf(places, marks, term, at, i + 1, part.stop, best.bound);
+        i = next_leaf(places, term, at, i + 1, part.stop, best.bound);
     }
     Ok(best)
 }
@@ -200,7 +199,6 @@ fn first_in<T: Test>(
     facts: &[(u32, Equation)],
     idle: &[bool],
     places: &[Place],
-    marks: &[Mark],
     alloc: Global,
     from: u32,
     term: &[Node],
@@ -211,7 +209,7 @@ fn first_in<T: Test>(
 ) -> Result<Option<Answer>, AllocError>
     requires whole { IsWhole term.now }
     requires small { length term.now ≤ MAX_NODES }
-    requires tree { IsTree (rules_of (lives facts.now)) places.now marks.now (length at.old - 1) }
+    requires tree { IsTree (rules_of (lives facts.now)) places.now (length at.old - 1) }
     requires passed { IsPassed (T.accepts test.now) (tree_of term.now) (rules_of (lives facts.now)) places.now from passed }
     requires parts { AreParts term.now places.now parts }
     requires room { 1 < length at.old }
@@ -230,7 +228,7 @@ fn first_in<T: Test>(
         stop: parts.first,
     };
     let best = best_in(
-        facts, idle, places, marks, alloc, none, from, term, test, at, first,
+        facts, idle, places, alloc, none, from, term, test, at, first,
     )?;
     if parts.second.start >= parts.second.stop {
         return Ok(best.answer);
@@ -239,7 +237,6 @@ fn first_in<T: Test>(
         facts,
         idle,
         places,
-        marks,
         alloc,
         best,
         from,
@@ -256,7 +253,6 @@ fn first_shallow<T: Test>(
     facts: &[(u32, Equation)],
     idle: &[bool],
     places: &[Place],
-    marks: &[Mark],
     alloc: Global,
     from: u32,
     term: &[Node],
@@ -266,7 +262,7 @@ fn first_shallow<T: Test>(
 ) -> Result<Option<Answer>, AllocError>
     requires whole { IsWhole term.now }
     requires small { length term.now ≤ MAX_NODES }
-    requires tree { IsTree (rules_of (lives facts.now)) places.now marks.now 63 }
+    requires tree { IsTree (rules_of (lives facts.now)) places.now 63 }
     requires passed { IsPassed (T.accepts test.now) (tree_of term.now) (rules_of (lives facts.now)) places.now from passed }
     requires parts { AreParts term.now places.now parts }
     requires few { length facts.now < 2 ^ 31 }
@@ -277,7 +273,7 @@ fn first_shallow<T: Test>(
 {
     let mut at = [0u16; 64];
     first_in(
-        facts, idle, places, marks, alloc, from, term, test, passed, parts, &mut at,
+        facts, idle, places, alloc, from, term, test, passed, parts, &mut at,
     )
 }
 
@@ -287,7 +283,6 @@ fn first_middle<T: Test>(
     facts: &[(u32, Equation)],
     idle: &[bool],
     places: &[Place],
-    marks: &[Mark],
     alloc: Global,
     from: u32,
     term: &[Node],
@@ -297,7 +292,7 @@ fn first_middle<T: Test>(
 ) -> Result<Option<Answer>, AllocError>
     requires whole { IsWhole term.now }
     requires small { length term.now ≤ MAX_NODES }
-    requires tree { IsTree (rules_of (lives facts.now)) places.now marks.now 511 }
+    requires tree { IsTree (rules_of (lives facts.now)) places.now 511 }
     requires passed { IsPassed (T.accepts test.now) (tree_of term.now) (rules_of (lives facts.now)) places.now from passed }
     requires parts { AreParts term.now places.now parts }
     requires few { length facts.now < 2 ^ 31 }
@@ -308,7 +303,7 @@ fn first_middle<T: Test>(
 {
     let mut at = [0u16; 512];
     first_in(
-        facts, idle, places, marks, alloc, from, term, test, passed, parts, &mut at,
+        facts, idle, places, alloc, from, term, test, passed, parts, &mut at,
     )
 }
 
@@ -318,7 +313,6 @@ fn first_deep<T: Test>(
     facts: &[(u32, Equation)],
     idle: &[bool],
     places: &[Place],
-    marks: &[Mark],
     alloc: Global,
     from: u32,
     term: &[Node],
@@ -326,7 +320,7 @@ fn first_deep<T: Test>(
     passed: usize,
     parts: Parts,
 ) -> Result<Option<Answer>, AllocError>
-    requires tree { IsTree (rules_of (lives facts.now)) places.now marks.now 4097 }
+    requires tree { IsTree (rules_of (lives facts.now)) places.now 4097 }
     requires passed { IsPassed (T.accepts test.now) (tree_of term.now) (rules_of (lives facts.now)) places.now from passed }
     requires parts { AreParts term.now places.now parts }
     requires whole { IsWhole term.now }
@@ -339,7 +333,7 @@ fn first_deep<T: Test>(
 {
     let mut at = [0u16; 4098];
     first_in(
-        facts, idle, places, marks, alloc, from, term, test, passed, parts, &mut at,
+        facts, idle, places, alloc, from, term, test, passed, parts, &mut at,
     )
 }
 
@@ -366,7 +360,6 @@ fn passed_by<T: Test>(
 pub fn first_from<T: Test>(
     facts: &[(u32, Equation)],
     places: &[Place],
-    marks: &[Mark],
     heads: &[Head],
     deep: usize,
     idle: &[bool],
@@ -376,7 +369,7 @@ pub fn first_from<T: Test>(
     term: &[Node],
     test: &T,
 ) -> Result<Option<Answer>, AllocError>
-    requires tree { IsTree (rules_of (lives facts.now)) places.now marks.now deep }
+    requires tree { IsTree (rules_of (lives facts.now)) places.now deep }
     requires heads { AreHeads places.now heads.now (length places.now) }
     requires idle { AreIdleRules (rules_of (lives facts.now)) idle.now }
     requires idle_end { AreIdle (rules_of (lives facts.now)) places.now idle_end }
@@ -394,16 +387,10 @@ pub fn first_from<T: Test>(
         return Ok(None);
     }
     if deep < 64 {
-        first_shallow(
-            facts, idle, places, marks, alloc, from, term, test, passed, parts,
-        )
+        first_shallow(facts, idle, places, alloc, from, term, test, passed, parts)
     } else if deep < 512 {
-        first_middle(
-            facts, idle, places, marks, alloc, from, term, test, passed, parts,
-        )
+        first_middle(facts, idle, places, alloc, from, term, test, passed, parts)
     } else {
-        first_deep(
-            facts, idle, places, marks, alloc, from, term, test, passed, parts,
-        )
+        first_deep(facts, idle, places, alloc, from, term, test, passed, parts)
     }
 }

@@ -4,11 +4,11 @@ ghost use Rattle.std.specs.Prelude.{◌≡◌, ◌<◌, ◌≤◌, ◌^◌, ℕ,
 ghost use Rattle.uc_fact.specs.Live.{AreRising};
 ghost use Rattle.uc_disc.specs.Numbered.{lives};
 
-use crate::build::{depth_of, marks_of, places_of, spell_all};
+use crate::build::{depth_of, places_of, set_marks, spell_all};
 use crate::facts::copy_facts;
 use crate::heads::{Head, heads_of};
 use crate::idle::{idle_end, idle_rules};
-use crate::place::{Mark, Place};
+use crate::place::Place;
 use crate::search::{Any, first_from};
 use crate::seats::{place_of, seats_of};
 use std::alloc::{AllocError, Global};
@@ -24,10 +24,9 @@ pub struct Tree {
     /// Where to look for the fact of a number.
     seats: Vec<u32>,
     places: Vec<Place>,
-    marks: Vec<Mark>,
     heads: Vec<Head>,
     deep: usize,
-    /// Which rules are read from a side that is embedded in their other side.
+    /// For each rule by its number, whether `is_embedded` tells that its side is embedded in its other side.
     idle: Vec<bool>,
     /// Before this place all leaves are those of such rules.
     idle_end: usize,
@@ -50,7 +49,7 @@ impl Model for Tree {
 
     ghost view = { λ t. t.facts.items };
 
-    ghost invariant = { λ t. AreRising (lives t.facts.items) × (length t.facts.items < 2 ^ 31) × IsTree (rules_of (lives t.facts.items)) t.places.items t.marks.items t.deep × (t.deep ≤ 4097) × AreHeads t.places.items t.heads.items (length t.places.items) × AreIdleRules (rules_of (lives t.facts.items)) t.idle.items × AreIdle (rules_of (lives t.facts.items)) t.places.items t.idle_end };
+    ghost invariant = { λ t. AreRising (lives t.facts.items) × (length t.facts.items < 2 ^ 31) × IsTree (rules_of (lives t.facts.items)) t.places.items t.deep × (t.deep ≤ 4097) × AreHeads t.places.items t.heads.items (length t.places.items) × AreIdleRules (rules_of (lives t.facts.items)) t.idle.items × AreIdle (rules_of (lives t.facts.items)) t.places.items t.idle_end };
 }
 
 impl Tree {
@@ -71,9 +70,9 @@ impl Tree {
     {
         let mut list = spell_all(alloc, facts.as_slice())?;
         list.sort()?;
-        let places = places_of(alloc, list.as_slice())?;
-        let marks = marks_of(alloc, places.as_slice())?;
-        let heads = heads_of(alloc, places.as_slice(), marks.as_slice())?;
+        let mut places = places_of(alloc, list.as_slice())?;
+        set_marks(places.as_mut_slice());
+        let heads = heads_of(alloc, places.as_slice())?;
         let deep = depth_of(places.as_slice());
         let idle = idle_rules(alloc, facts.as_slice())?;
         let idle_end = idle_end(idle.as_slice(), places.as_slice());
@@ -82,7 +81,6 @@ impl Tree {
             facts,
             seats,
             places,
-            marks,
             heads,
             deep,
             idle,
@@ -111,7 +109,6 @@ impl Index for Tree {
         while let Some(answer) = first_from(
             self.facts.as_slice(),
             self.places.as_slice(),
-            self.marks.as_slice(),
             self.heads.as_slice(),
             self.deep,
             self.idle.as_slice(),
@@ -136,7 +133,6 @@ impl Index for Tree {
         match first_from(
             self.facts.as_slice(),
             self.places.as_slice(),
-            self.marks.as_slice(),
             self.heads.as_slice(),
             self.deep,
             self.idle.as_slice(),

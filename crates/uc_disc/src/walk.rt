@@ -7,7 +7,7 @@ ghost use Rattle.uc_disc.specs.Trail.{RefersBack};
 ghost use Rattle.uc_disc.specs.Standing.{part, IsFollowed, StandsAt, FailsAt, IsLeafAt};
 ghost use Rattle.uc_disc.specs.declared.place.Label.TheVariants.{Leaf};
 
-use crate::place::{Label, Mark, Place};
+use crate::place::{Label, Place};
 use uc_term::{MAX_NODES, Node, end_of, same_nodes};
 
 /// Whether the node is this symbol with so many arguments.
@@ -82,14 +82,13 @@ fn follow(term: &[Node], at: &mut [u16], depth: usize, label: Label) -> bool
 #[inline]
 pub fn next_leaf(
     places: &[Place],
-    marks: &[Mark],
     term: &[Node],
     at: &mut [u16],
     start: usize,
     stop: usize,
     bound: u32,
 ) -> usize
-    requires tree { IsShaped places.now marks.now (length at.old - 1) }
+    requires tree { IsShaped places.now (length at.old - 1) }
     requires whole { IsWhole term.now }
     requires small { length term.now ≤ MAX_NODES }
     requires within { (start ≤ length places.now) × (stop ≤ length places.now) }
@@ -102,8 +101,8 @@ pub fn next_leaf(
 {
     let mut i = start;
     while i < stop {
-        if marks[i].least >= bound {
-            i = marks[i].skip;
+        if places[i].least >= bound {
+            i = places[i].skip;
         } else {
             match places[i].label {
                 Label::Leaf(_) => return i,
@@ -111,7 +110,7 @@ pub fn next_leaf(
                     if follow(term, at, places[i].depth as usize, label) {
                         i += 1;
                     } else {
-                        i = marks[i].skip;
+                        i = places[i].skip;
                     }
                 }
             }

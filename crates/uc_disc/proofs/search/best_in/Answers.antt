@@ -13,7 +13,7 @@ use Rattle.uc_disc.proofs.Retrieved.{first_found, leaf_here, reached, rule_there
 use Rattle.uc_disc.proofs.search.best_in.Goals as goal
 
 abbrev d : Place
-d = record { label = Variable 0; depth = 0 }
+d = record { label = Variable 0; depth = 0; skip = 0; least = 0 }
 
 set_first : (xs : List ℕ) → slice_index (set xs 0 0) 0 ≡ 0
 set_first [] = refl
