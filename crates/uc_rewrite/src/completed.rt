@@ -1,6 +1,6 @@
 //! Instances in which the variables that have no term are the least constant.
 
-ghost use Rattle.std.specs.Prelude.{◌≡◌, ◌≤◌, length, IfOk};
+ghost use Rattle.std.specs.Prelude.{◌≡◌, ◌≤◌, length, IfOk, OnOk};
 ghost use Rattle.uc_term.specs.Tree.{apply};
 ghost use Rattle.uc_term.specs.Flat.{flat, tree_of, IsWhole};
 ghost use Rattle.uc_rewrite.specs.Completed.{completed};
@@ -24,15 +24,32 @@ pub fn completed_instance(
     ensures small { IfOk result (λ list. length list.items ≤ MAX_INSTANCE) }
 {
     let mut list = Vec::new(alloc);
+    fill_completed(&mut list, pattern, subst, least)?;
+    Ok(list)
+}
+
+/// Makes a lent list, whatever it was, the nodes of that instance.
+pub fn fill_completed(
+    list: &mut Vec<Node>,
+    pattern: &[Node],
+    subst: &Subst,
+    least: Sym,
+) -> Result<(), AllocError>
+    requires whole { IsWhole pattern.now }
+    requires small { length pattern.now ≤ MAX_NODES }
+    ensures nodes { OnOk result (list.new.items ≡ flat (apply (completed least subst.now) (tree_of pattern.now))) }
+    ensures small { OnOk result (length list.new.items ≤ MAX_INSTANCE) }
+{
+    list.clear();
     list.reserve(pattern.len() + ROOM)?;
     for node in pattern {
         match *node {
             Node::Var(x) => match subst.get(x) {
-                Some(term) => list.extend_from_slice(term.as_nodes())?,
+                Some(nodes) => list.extend_from_slice(nodes)?,
                 None => list.push(Node::App(least, 0))?,
             },
             Node::App(_, _) => list.push(*node)?,
         }
     }
-    Ok(list)
+    Ok(())
 }

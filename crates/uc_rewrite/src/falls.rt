@@ -8,7 +8,7 @@ ghost use Rattle.uc_rewrite.specs.Comparing.{VariablesAre};
 ghost use Rattle.uc_rewrite.specs.Completed.{AreSides, LeadsDown};
 
 use crate::comparison::{Comparison, Falling};
-use crate::completed::completed_instance;
+use crate::completed::fill_completed;
 use std::alloc::{AllocError, Global};
 use uc_fact::{Found, Index, Outlook, Side, Test};
 use uc_term::{MAX_NODES, Node, Term};
@@ -51,11 +51,12 @@ impl<'a, C: Comparison, I: Index> Test for Falls<'a, C, I> {
         found: &Found,
         from: &Term,
         to: &Term,
+        space: &mut Vec<Node>,
     ) -> Result<bool, AllocError> {
         let least = self.rules.comparison.least();
-        let smaller = completed_instance(alloc, to.as_nodes(), &found.subst, least)?;
+        fill_completed(space, to.as_nodes(), &found.subst, least)?;
         let comparison = self.rules.comparison;
-        Ok(comparison.is_greater(self.term, smaller.as_slice()))
+        Ok(comparison.is_greater(self.term, space.as_slice()))
     }
 }
 

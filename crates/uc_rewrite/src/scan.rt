@@ -53,8 +53,16 @@ impl<'a> Index for Scan<'a> {
         term: &[Node],
         test: &T,
     ) -> Result<Option<Found>, AllocError> {
+        let mut space = Vec::new(alloc);
         for (number, fact) in self.facts.iter().enumerate() {
-            if let Some(found) = first_of_sides(alloc, fact, number as u32, term, test)? {
+            if let Some(found) = first_of_sides(
+                alloc,
+                fact,
+                number as u32,
+                term,
+                test,
+                &mut space,
+            )? {
                 return Ok(Some(found));
             }
         }
@@ -120,13 +128,15 @@ fn add_match(
     }
 }
 
-/// The first of a fact's sides, left before right, of which the term is an instance and that passes the test.
+/// The first of a fact's sides, left before right, of which the term is an instance and that passes the test. The test is lent
+/// the space.
 fn first_of_sides<T: Test>(
     alloc: Global,
     fact: &Equation,
     number: u32,
     term: &[Node],
     test: &T,
+    space: &mut Vec<Node>,
 ) -> Result<Option<Found>, AllocError>
     requires whole { IsWhole term.now }
     requires small { length term.now ≤ MAX_NODES }
@@ -134,9 +144,9 @@ fn first_of_sides<T: Test>(
     ensures value { IfOk result (FirstThat (T.accepts test.now) (tree_of term.now) (rules_of (live_fact number fact.now ∷ []))) }
     ensures memory { OnErr result (FindsNothing (tree_of term.now) (rules_of (live_fact number fact.now ∷ [])) → ⊥) }
 {
-    match first_of_side(alloc, fact, number, Side::Left, term, test)? {
+    match first_of_side(alloc, fact, number, Side::Left, term, test, space)? {
         Some(found) => Ok(Some(found)),
-        None => first_of_side(alloc, fact, number, Side::Right, term, test),
+        None => first_of_side(alloc, fact, number, Side::Right, term, test, space),
     }
 }
 
@@ -148,6 +158,7 @@ fn first_of_side<T: Test>(
     side: Side,
     term: &[Node],
     test: &T,
+    space: &mut Vec<Node>,
 ) -> Result<Option<Found>, AllocError>
     requires whole { IsWhole term.now }
     requires small { length term.now ≤ MAX_NODES }
@@ -172,7 +183,7 @@ fn first_of_side<T: Test>(
                 side,
                 subst,
             };
-            if passes_by(alloc, test, outlook, &found, from, to)? {
+            if passes_by(alloc, test, outlook, &found, from, to, space)? {
                 Ok(Some(found))
             } else {
                 Ok(None)

@@ -371,10 +371,10 @@ fn note_value(
     let Node::Var(variable) = node else {
         return Ok(behind.saturating_add(1));
     };
-    let Some(term) = subst.get(variable) else {
+    let Some(value) = subst.get(variable) else {
         return Ok(behind.saturating_add(1));
     };
-    let behind = behind.saturating_add(term.nodes() as usize);
+    let behind = behind.saturating_add(value.len());
     notes.push(Note {
         behind,
         number,
@@ -384,17 +384,18 @@ fn note_value(
 }
 
 /// Finds where a term ends that stands at a place, if it does. The nodes are compared.
-fn end_of_same(list: &[Node], place: usize, term: &Term) -> Option<usize>
+fn end_of_same(list: &[Node], place: usize, term: &[Node]) -> Option<usize>
     requires within { place < length list.now }
     requires small { length list.now ≤ MAX_NODES }
-    ensures { IfSome result (λ end. (end ≡ place + nodes term.now) × (take (end - place) (drop place list.now) ≡ flat term.now)) }
+    requires whole { IsWhole term.now }
+    requires short { length term.now ≤ MAX_NODES }
+    ensures { IfSome result (λ end. (end ≡ place + nodes (tree_of term.now)) × (take (end - place) (drop place list.now) ≡ flat (tree_of term.now))) }
 {
-    let nodes = term.as_nodes();
-    let end = place + nodes.len();
+    let end = place + term.len();
     if end > list.len() {
         return None;
     }
-    if same_nodes(&list[place..end], nodes) {
+    if same_nodes(&list[place..end], term) {
         Some(end)
     } else {
         None

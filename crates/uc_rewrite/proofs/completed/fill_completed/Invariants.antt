@@ -2,7 +2,7 @@ use Rattle.std.proofs.Common.{◌≡◌, ◌≤◌, ◌*◌, take, length}
 use Rattle.std.specs.List.{flat_map}
 use Rattle.uc_term.proofs.Instances.{node_image}
 use Rattle.uc_rewrite.specs.Completed.{completed}
-use Rattle.uc_rewrite.proofs.completed.completed_instance.Given as goal
+use Rattle.uc_rewrite.proofs.completed.fill_completed.Given as goal
 
 abbrev pub invariant-loop-node : goal.invariant-loop-node
 invariant-loop-node l = record {
