@@ -1,5 +1,5 @@
 -- Places of names in lists.
-use Rattle.std.proofs.Common.{◌≡◌, ℕ, zero, suc, ◌+◌, ◌<◌, ◌≤◌, ◌==◌, ◌||◌, Bool, true, false, List, [], ◌∷◌, ◌++◌, length, take, get_or, if◌then◌else◌, refl, sym, ap, ap₂, ◌∙◌, arith, append_assoc, append-nil, length-append, subst, ◌⊎◌, inl, inr}
+use Rattle.std.proofs.Common.{◌≡◌, ℕ, zero, suc, ◌+◌, ◌<◌, ◌≤◌, ◌==◌, ◌||◌, Bool, true, false, List, [], ◌∷◌, ◌++◌, length, take, get_or, if◌then◌else◌, refl, sym, ap, ap₂, ◌∙◌, arith, append_assoc, append-nil, length-append, subst}
 use Rattle.std.proofs.lemmas.Bool.{eqb-true, eq-eqb}
 use Rattle.std.proofs.lemmas.List.{take_more}
 use Rattle.std.specs.List.{flat_map}
@@ -16,10 +16,6 @@ use Rattle.uc_term.proofs.Instances.{node_image, instance_list}
 use Rattle.uc_term.specs.Code.{tree_of-flat}
 use Rattle.uc_term.proofs.Terms.{take_of_length-le, nodes_whole, length-flat, whole_list}
 use Rattle.uc_pair.specs.Numbering.{placed_by, IsNameAt, IsNumberedNode}
-
-either_test : (b : Bool) → (b ≡ true) ⊎ (b ≡ false)
-either_test true = inl refl
-either_test false = inr refl
 
 pub place_here : (y : ℕ) (ys : List ℕ) (x : ℕ) → (x == y) ≡ true → place_of (y ∷ ys) x ≡ 0
 place_here y ys x e = rw e refl

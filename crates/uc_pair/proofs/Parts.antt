@@ -54,9 +54,6 @@ module _ (ns : List Node) (t : Tree) (part : Part) (w : IsWhole ns) (is : tree_o
   pub part_end : part.end ≡ part.place + nodes (tree_of (drop part.place ns))
   part_end = h.end_is ∙ ap (λ u. part.place + nodes (subterm u part.place)) (sym is) ∙ ap (λ u. part.place + nodes u) (sym (subterm_of-drop ns part.place w part_within))
 
-  pub part_before_end : part.place ≤ part.end
-  part_before_end = omega (arith, h.end_is)
-
   pub part_in_list : part.end ≤ length ns
   part_in_list = (split ns part.place part.end (whole_one ns w) part_within part_end).within.1
 

@@ -166,11 +166,3 @@ instance_gone σ t (Some u) n i = absurd (n u refl)
 pub instance_small : (σ : ℕ → Tree) (t : Tree) (o : Option Tree) (u : Tree) → o ≡ Some u → IsInstance σ t o → IsSmall (apply σ t)
 instance_small σ t None u e i = absurd cc
 instance_small σ t (Some w) u e i = i.1
-
-pub put_gone : (t : Tree) (place : ℕ) (v : Tree) (o : Option Placed) → ((p : Placed) → o ≡ Some p → ⊥) → IsPut t place v o → IsLarge (put t place v)
-put_gone t place v None n i = i
-put_gone t place v (Some p) n i = absurd (n p refl)
-
-pub put_there : (t : Tree) (place : ℕ) (v : Tree) (o : Option Placed) (p : Placed) → o ≡ Some p → IsPut t place v o → p.term ≡ put t place v
-put_there t place v None p e i = absurd cc
-put_there t place v (Some q) p e i = (let same : p ≡ q = cc in ap (λ r. r.term) same) ∙ i.0
