@@ -127,7 +127,7 @@ fn add_image(list: &mut Vec<Node>, node: Node, subst: &Subst) -> Result<bool, Al
 {
     match node {
         Node::Var(x) => match subst.get(x) {
-            Some(term) => add_nodes(list, term.as_nodes()),
+            Some(nodes) => add_nodes(list, nodes),
             None => add_node(list, node),
         },
         Node::App(_, _) => add_node(list, node),
