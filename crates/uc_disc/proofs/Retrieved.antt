@@ -23,7 +23,6 @@ use Rattle.uc_disc.specs.Spelling.{labels_of}
 use Rattle.uc_disc.specs.Trail.{on, trail, before, Spells, AreSpelled, leaf, leaves, numbers_below}
 use Rattle.uc_disc.specs.Standing.{Stands, Fails, StandsAt, FailsAt, IsLeafAt}
 use Rattle.uc_disc.specs.Retrieving.{GivesNone, Gives, IsFirstFrom, IsBest, IsBestBefore, IsBetter, IsPassed}
-use Rattle.std.proofs.Common.{MatchOption}
 use Rattle.uc_term.specs.declared.equation.Equation.{Equation}
 use Rattle.uc_term.specs.declared.equation.Side.{Side}
 use Rattle.uc_term.specs.Equations.{side_of, other_side_of}
@@ -202,13 +201,11 @@ module _ (Accepted : Found → Type 0) (t : Tree) (facts : List (ℕ × Equation
   tried_some pairs m a = record { rule = rule_of side (live_of fact); pairs = pairs; is = there; is_match = m; accepted = a; found_is = refl }
 
   -- what matching says
-  pub matched_some : (p q : Tree) (o : Option (List (ℕ × Tree))) (pairs : List (ℕ × Tree)) → MatchOption o (HasNoMatch p t) (IsMatch p t) → o ≡ Some pairs → p ≡ q → q ≡ side_of side fact.1 → IsMatch (side_of side fact.1) t pairs
-  matched_some p q None pairs m e f g = absurd cc
-  matched_some p q (Some ps) pairs m e f g = subst (λ z. IsMatch z t pairs) (f ∙ g) (subst (λ z. IsMatch p t z) (let same : ps ≡ pairs = cc in same) m)
+  pub matched_some : (p q : Tree) (pairs : List (ℕ × Tree)) → IsMatch p t pairs → p ≡ q → q ≡ side_of side fact.1 → IsMatch (side_of side fact.1) t pairs
+  matched_some p q pairs m f g = subst (λ z. IsMatch z t pairs) (f ∙ g) m
 
-  pub matched_none : (p q : Tree) (o : Option (List (ℕ × Tree))) → MatchOption o (HasNoMatch p t) (IsMatch p t) → o ≡ None → p ≡ q → q ≡ side_of side fact.1 → GivesNone Accepted t (rules_of (lives facts)) number
-  matched_none p q None m e f g = tried_none (λ pairs n a. (subst (λ z. HasNoMatch z t) (f ∙ g) m) (image pairs) n.gives)
-  matched_none p q (Some ps) m e f g = absurd cc
+  pub matched_none : (p q : Tree) → HasNoMatch p t → p ≡ q → q ≡ side_of side fact.1 → GivesNone Accepted t (rules_of (lives facts)) number
+  matched_none p q m f g = tried_none (λ pairs n a. (subst (λ z. HasNoMatch z t) (f ∙ g) m) (image pairs) n.gives)
 
   pub refused_none : (pairs : List (ℕ × Tree)) → IsMatch (side_of side fact.1) t pairs → (Accepted (record { fact = fact.0; side = side; subst = pairs }) → ⊥) → GivesNone Accepted t (rules_of (lives facts)) number
   refused_none pairs m other = tried_none (λ ps n a. other (subst (λ q. Accepted (record { fact = fact.0; side = side; subst = q })) (one_match (side_of side fact.1) t ps pairs n m) a))

@@ -19,9 +19,10 @@ use crate::idle::is_marked;
 use crate::place::{Place, leaf_rule};
 use crate::walk::next_leaf;
 use std::alloc::{AllocError, Global};
+use std::mem;
 use uc_fact::{Equation, Found, Outlook, Side, Test, passes_by};
-use uc_term::{MAX_NODES, Node, Term};
-use uc_unify::matches;
+use uc_term::{MAX_NODES, Node, Subst, Term};
+use uc_unify::matches_in;
 
 /// A rule with what it gives.
 #[derive(Drop)]
@@ -35,6 +36,33 @@ pub struct Answer {
 pub struct Best {
     pub answer: Option<Answer>,
     pub bound: u32,
+}
+
+/// What a search lends to each rule that it tries: what the rule gives is made there, and the test may use the space. What
+/// stands in it is arbitrary.
+#[derive(Drop)]
+struct Lent {
+    found: Found,
+    space: Vec<Node>,
+}
+
+impl Lent {
+    /// What a search begins with. It takes no memory.
+    fn new(alloc: Global) -> Lent {
+        Lent {
+            found: nothing_found(alloc),
+            space: Vec::new(alloc),
+        }
+    }
+}
+
+/// Something found that stands for nothing. It takes no memory.
+fn nothing_found(alloc: Global) -> Found {
+    Found {
+        fact: 0,
+        side: Side::Left,
+        subst: Subst::new(alloc),
+    }
 }
 
 /// A test that all pass.
@@ -55,6 +83,7 @@ impl Test for Any {
         found: &Found,
         from: &Term,
         to: &Term,
+        space: &mut Vec<Node>,
     ) -> Result<bool, AllocError> {
         Ok(true)
     }
@@ -73,7 +102,7 @@ fn is_refused<T: Test>(idle: &[bool], rule: u32, test: &T) -> bool
     }
 }
 
-/// Makes what a rule of which the term is an instance gives, where it passes the test.
+/// Makes what a rule of which the term is an instance gives, where it passes the test. Only then it leaves what is lent.
 fn try_rule<T: Test>(
     facts: &[(u32, Equation)],
     idle: &[bool],
@@ -81,6 +110,8 @@ fn try_rule<T: Test>(
     rule: u32,
     term: &[Node],
     test: &T,
+    found: &mut Found,
+    space: &mut Vec<Node>,
 ) -> Result<Option<Found>, AllocError>
     requires within { rule < 2 * length facts.now }
     requires whole { IsWhole term.now }
@@ -101,20 +132,15 @@ fn try_rule<T: Test>(
     if let Outlook::Fails = outlook {
         return Ok(None);
     }
-    match matches(alloc, from.as_nodes(), term)? {
-        Some(subst) => {
-            let found = Found {
-                fact: fact.0,
-                side,
-                subst,
-            };
-            if passes_by(alloc, test, outlook, &found, from, to)? {
-                Ok(Some(found))
-            } else {
-                Ok(None)
-            }
-        }
-        None => Ok(None),
+    found.fact = fact.0;
+    found.side = side;
+    if !matches_in(&mut found.subst, from.as_nodes(), term)? {
+        return Ok(None);
+    }
+    if passes_by(alloc, test, outlook, found, from, to, space)? {
+        Ok(Some(mem::replace(found, nothing_found(alloc))))
+    } else {
+        Ok(None)
     }
 }
 
@@ -130,6 +156,7 @@ fn better<T: Test>(
     rule: u32,
     term: &[Node],
     test: &T,
+    lent: &mut Lent,
 ) -> Result<Best, AllocError>
     requires within { rule < 2 * length facts.now }
     requires whole { IsWhole term.now }
@@ -143,7 +170,16 @@ fn better<T: Test>(
     if rule < from || best.bound <= rule {
         return Ok(best);
     }
-    match try_rule(facts, idle, alloc, rule, term, test)? {
+    match try_rule(
+        facts,
+        idle,
+        alloc,
+        rule,
+        term,
+        test,
+        &mut lent.found,
+        &mut lent.space,
+    )? {
         Some(found) => Ok(Best {
             answer: Some(Answer { rule, found }),
             bound: rule,
@@ -165,6 +201,7 @@ fn best_in<T: Test>(
     term: &[Node],
     test: &T,
     at: &mut [u16],
+    lent: &mut Lent,
     part: Part,
 ) -> Result<Best, AllocError>
     requires whole { IsWhole term.now }
@@ -186,7 +223,7 @@ fn best_in<T: Test>(
     let mut i = next_leaf(places, term, at, part.start, part.stop, best.bound);
     while i < part.stop {
         let rule = leaf_rule(places[i].label);
-        best = better(facts, idle, alloc, best, from, rule, term, test)?;
+        best = better(facts, idle, alloc, best, from, rule, term, test, lent)?;
         i = next_leaf(places, term, at, i + 1, part.stop, best.bound);
     }
     Ok(best)
@@ -227,8 +264,9 @@ fn first_in<T: Test>(
         start: passed,
         stop: parts.first,
     };
+    let mut lent = Lent::new(alloc);
     let best = best_in(
-        facts, idle, places, alloc, none, from, term, test, at, first,
+        facts, idle, places, alloc, none, from, term, test, at, &mut lent, first,
     )?;
     if parts.second.start >= parts.second.stop {
         return Ok(best.answer);
@@ -243,6 +281,7 @@ fn first_in<T: Test>(
         term,
         test,
         at,
+        &mut lent,
         parts.second,
     )?;
     Ok(last.answer)

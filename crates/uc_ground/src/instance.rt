@@ -8,7 +8,7 @@ ghost use Rattle.uc_ground.specs.Sides.{AreSides};
 
 use std::alloc::{AllocError, Global};
 use uc_fact::{Found, Index, Outlook, Side, Test, heads_differ};
-use uc_term::Term;
+use uc_term::{Node, Term};
 use uc_unify::matches_both;
 
 /// The least fact of which two terms are, either way round, the two sides of one instance. None exactly where there is none.
@@ -66,6 +66,7 @@ impl<'a, I: Index> Test for OneInstance<'a, I> {
         found: &Found,
         _from: &Term,
         _to: &Term,
+        _space: &mut Vec<Node>,
     ) -> Result<bool, AllocError> {
         let Some((from, to)) = sides(self.index, found.fact, found.side) else {
             return Ok(false);
