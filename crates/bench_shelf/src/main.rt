@@ -15,7 +15,7 @@ use std::sync::Wait;
 use std::{env, io};
 use uc_fact::{Found, Index, Outlook, Side, Test};
 use uc_shelf::{Front, Shelf, View};
-use uc_term::Term;
+use uc_term::{Node, Term};
 
 // The number that each word says, 0 where it says none.
 fn numbers(rt: &(impl Env + AllocGlobal)) -> io::Result<[u64; 4]> {
@@ -50,6 +50,7 @@ impl Test for Nothing {
         found: &Found,
         _from: &Term,
         _to: &Term,
+        _space: &mut Vec<Node>,
     ) -> Result<bool, std::alloc::AllocError> {
         Ok(false)
     }
@@ -73,6 +74,7 @@ impl Test for Anything {
         found: &Found,
         _from: &Term,
         _to: &Term,
+        _space: &mut Vec<Node>,
     ) -> Result<bool, std::alloc::AllocError> {
         Ok(true)
     }

@@ -10,7 +10,7 @@ use std::sync::Wait;
 use std::test::Fail;
 use uc_fact::{Found, Index, Outlook, Side, Test};
 use uc_shelf::{Entry, Front, Shelf};
-use uc_term::{Sym, Term, TermFault};
+use uc_term::{Node, Sym, Term, TermFault};
 
 const F: Sym = Sym(0);
 
@@ -90,6 +90,7 @@ impl Test for IsLeft {
         found: &Found,
         _from: &Term,
         _to: &Term,
+        _space: &mut Vec<Node>,
     ) -> Result<bool, AllocError> {
         Ok(found.side == Side::Left)
     }

@@ -22,9 +22,9 @@ fn nested(g: Global) -> Result<Term, TermFault> {
 }
 
 // The substitution of a term for `X`.
-fn for_x(g: Global, term: Term) -> Result<Subst, AllocError> {
+fn for_x(g: Global, term: &Term) -> Result<Subst, AllocError> {
     let mut subst = Subst::new(g);
-    subst.add(0, term)?;
+    subst.add(0, term.as_nodes())?;
     Ok(subst)
 }
 
@@ -41,7 +41,7 @@ fn tower(g: Global, levels: usize) -> Result<Term, TermFault> {
 fn instances(rt: HostRuntime) -> Result<(), Fail> {
     let g = rt.alloc();
     let constant = Term::app(g, A, &[])?;
-    let term = nested(g)?.apply(g, &for_x(g, constant)?)?;
+    let term = nested(g)?.apply(g, &for_x(g, &constant)?)?;
     let wanted = [Node::App(F, 2), Y, Node::App(F, 2), Node::App(A, 0), Y];
     assert!(rt; term.as_nodes() == wanted.as_slice());
     Ok(())
@@ -49,7 +49,7 @@ fn instances(rt: HostRuntime) -> Result<(), Fail> {
 
 // A tower of so many levels in the place of each variable of another one.
 fn tower_of_towers(g: Global, outer: usize, inner: usize) -> Result<Term, TermFault> {
-    tower(g, outer)?.apply(g, &for_x(g, tower(g, inner)?)?)
+    tower(g, outer)?.apply(g, &for_x(g, &tower(g, inner)?)?)
 }
 
 // 2^5 leaves of 2^7 - 1 nodes each, with the 2^5 - 1 above them: one less than 2^12, and then nearly twice as many.

@@ -10,7 +10,7 @@ use std::test::Fail;
 use uc_fact::{Chain, Equation, Fact, Found, Index, Origin, Outlook, Side, Stop, Test};
 use uc_rewrite::Scan;
 use uc_shelf::{Entry, Front, Shelf, View};
-use uc_term::{Seq, Subst, Term, TermFault};
+use uc_term::{Node, Seq, Subst, Term, TermFault};
 
 // A number below another one, by chance.
 fn below(state: &mut u32, n: u32) -> u32
@@ -140,6 +140,7 @@ impl Test for Leaves {
         found: &Found,
         _from: &Term,
         _to: &Term,
+        _space: &mut Vec<Node>,
     ) -> Result<bool, AllocError> {
         Ok(found.fact % 3 == self.rest)
     }
@@ -147,7 +148,7 @@ impl Test for Leaves {
 
 fn same_value(a: &Subst, b: &Subst, x: u32) -> bool {
     match (a.get(x), b.get(x)) {
-        (Some(s), Some(t)) => s.same(t),
+        (Some(s), Some(t)) => s == t,
         (None, None) => true,
         _ => false,
     }

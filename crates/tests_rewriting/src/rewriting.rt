@@ -220,7 +220,7 @@ fn has_b(g: Global, found: &Found) -> Result<bool, TermFault> {
         Side::Right => found.subst.get(1),
     };
     match bound {
-        Some(bound) => is_term(g, bound, b"b"),
+        Some(bound) => Ok(term(g, b"b")?.as_nodes() == bound),
         None => Ok(false),
     }
 }

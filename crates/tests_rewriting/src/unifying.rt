@@ -1,6 +1,6 @@
 //! Matching and unification.
 
-use crate::terms::{G, M, Pair, WIDE, equation, is_term, term};
+use crate::terms::{G, M, Pair, WIDE, equation, term};
 use std::alloc::Global;
 use std::test::Fail;
 use uc_term::{Equation, Subst, Term, TermFault};
@@ -9,7 +9,7 @@ use uc_unify::{Unified, matches, matches_both, unify};
 // Whether the variable has the term that the letters spell.
 fn has_image(g: Global, subst: &Subst, x: u32, letters: &[u8]) -> Result<bool, TermFault> {
     match subst.get(x) {
-        Some(image) => is_term(g, image, letters),
+        Some(image) => Ok(term(g, letters)?.as_nodes() == image),
         None => Ok(false),
     }
 }

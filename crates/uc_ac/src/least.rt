@@ -104,6 +104,7 @@ impl<'a, I: Index> Test for LawTest<'a, I> {
         found: &Found,
         _from: &Term,
         _to: &Term,
+        _space: &mut Vec<Node>,
     ) -> Result<bool, AllocError> {
         Ok(is_fact_that(self.index, self.law, self.symbol, found.fact))
     }

@@ -100,11 +100,12 @@ impl<'a, T: Test> Test for Living<'a, T> {
         found: &Found,
         from: &Term,
         to: &Term,
+        space: &mut Vec<Node>,
     ) -> Result<bool, AllocError> {
         if self.front.is_dead(found.fact) {
             Ok(false)
         } else {
-            self.test.passes(alloc, found, from, to)
+            self.test.passes(alloc, found, from, to, space)
         }
     }
 }
