@@ -22,8 +22,8 @@ mutual
     none_are : AreEmbedded none none
     more_are : {s t : Tree} {ss ts : Trees} → Embedded s t → AreEmbedded ss ts → AreEmbedded (more s ss) (more t ts)
 
--- a table, in rows of 32, that marks only places of two lists of nodes where the term of the first one is embedded in that of the
--- second one
+-- a table, in rows of 32, that marks only pairs of places of two lists of nodes where the term of the first one is embedded in that
+-- of the second one
 pub record AreMarked (ss ts : List Node) (table : List Bool) : Type 0 where
   pub long : length table ≡ 1024
   pub marked : (p q : ℕ) → p < length ss → q < length ts → IsTrue (slice_index_or table (p * 32 + q) false) → Embedded (at ss p) (at ts q)

@@ -1,5 +1,5 @@
-//! Terms that come of another one by leaving symbols out. Such a term is smaller in every order for which subterms are smaller and
-//! contexts are kept, so that no order need be asked about it. (Baader and Nipkow, Term Rewriting and All That, section 5.4.)
+//! Terms that come of another one by leaving symbols out. Such a term is the same or smaller in every order for which subterms are
+//! smaller and contexts are kept, so that no order need be asked about it. (Baader and Nipkow, Term Rewriting and All That, section 5.4.)
 
 ghost use Rattle.std.specs.Prelude.{◌≡◌, ◌+◌, ◌*◌, ◌<◌, ◌≤◌, ◌↔◌, IsTrue, length, drop, slice_get, Some};
 ghost use Rattle.uc_term.specs.Tree.{var};
@@ -9,9 +9,10 @@ ghost use Rattle.uc_unify.proofs.Fitting.{Fits};
 ghost use Rattle.uc_term.specs.declared.node.Node.TheVariants.{App};
 ghost use Rattle.uc_fact.specs.Embedding.{Embedded, EmbeddedInOne, AreEmbedded, AreMarked};
 
+use crate::instance::is_head;
 use uc_term::{Node, Sym, Term, end_of};
 
-/// The most nodes of terms that are looked at.
+/// The most nodes of each of two terms for which the table is filled.
 const MOST: usize = 32;
 
 /// Tells that a term is embedded in another one, where it is a variable or both have at most 32 nodes; of others nothing is
@@ -143,17 +144,6 @@ fn has_embedded_arguments(
         are_embedded(s, t, table, p + 1, q + 1, n)
     } else {
         false
-    }
-}
-
-/// Whether the node is this symbol with this number of arguments.
-#[inline]
-fn is_head(node: Node, f: Sym, n: u32) -> bool
-    ensures { IsTrue result ↔ (node ≡ Node.App f n) }
-{
-    match node {
-        Node::App(g, m) => g == f && m == n,
-        Node::Var(_) => false,
     }
 }
 

@@ -22,7 +22,7 @@ pub enum Outlook {
     Unclear,
 }
 
-/// A test of what is found for a term. It is told the side of the fact from which the term is an instance, and the other side,
+/// A test of what is found for a term. It is told the side of the fact of which the term is an instance, and the other side,
 /// so that it needn't look for them.
 pub trait Test {
     ghost use Rattle.std.specs.Prelude.{◌≡◌, ◌↔◌, IsTrue, IfOk};

@@ -159,7 +159,7 @@ fn first_against<'a>(pattern: &[Node], term: &'a [Node], x: u32) -> Option<&'a [
 
 /// Whether the node is this symbol with this number of arguments.
 #[inline]
-fn is_head(node: Node, f: Sym, n: u32) -> bool
+pub(crate) fn is_head(node: Node, f: Sym, n: u32) -> bool
     ensures { IsTrue result ↔ (node ≡ Node.App f n) }
 {
     match node {

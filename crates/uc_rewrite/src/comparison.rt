@@ -7,8 +7,8 @@ use uc_fact::Side;
 use uc_order::{Cmp, Order};
 use uc_term::{MAX_INSTANCE, Node, Sym, Term, VarOrder};
 
-/// What the two sides of a fact tell of their instances: that of the one is always greater, it never is, or this depends on
-/// the instance.
+/// What the two sides of a fact tell of their instances: that of the one is always greater, that it never is, or neither is
+/// told.
 #[derive(Clone, Copy, PartialEq, Eq)]
 pub enum Falling {
     Always,

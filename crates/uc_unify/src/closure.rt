@@ -35,8 +35,9 @@ pub fn closure(
     heads.clear();
     heads.extend_from_slice(parents.as_slice())?;
     pairs.clear();
-    // The head of a class is the place of its pair's second term. Of the two terms that is the first one here, since places are
-    // sized from the last to the first: where a term is sized, those that it holds are.
+    // Where two symbols meet, the head of the pair's second place stands for the class, and of a symbol and a variable the symbol's.
+    // So symbols of the first term stand for both here, and the values of its variables mostly lie behind it: places are sized from
+    // the last to the first, so that one pass is mostly enough.
     pairs.push((second, 0))?;
     while let Some((p, q)) = pairs.pop() {
         if !unite(nodes, ends, parents, heads, pairs, p, q)? {
