@@ -73,7 +73,7 @@ pub record IsMark (ps : List Place) (i : ℕ) (m : Place) : Type 0 where
   pub behind : (p q : Place) → slice_get ps i ≡ Some p → slice_get ps m.skip ≡ Some q → q.depth ≤ p.depth
   pub least : (j : ℕ) (q : Place) (r : ℕ) → i ≤ j → j < m.skip → slice_get ps j ≡ Some q → q.label ≡ Leaf r → m.least ≤ r
 
--- each place has its note
+-- each place has its mark
 abbrev pub AreMarks : List Place → Type 0
 AreMarks ps = (i : ℕ) (p : Place) → slice_get ps i ≡ Some p → IsMark ps i p
 

@@ -15,8 +15,8 @@ pub enum Label {
     Leaf(u32),
 }
 
-/// A place, with the number of labels on the way to it, the next place that isn't below it, and the least rule at it and
-/// below.
+/// A place, with the number of labels on the way to it, and its mark: the next place that isn't below it, and a number below which no
+/// rule at it or below is.
 #[derive(Clone, Copy)]
 pub struct Place {
     pub label: Label,

@@ -56,7 +56,7 @@ impl Lent {
     }
 }
 
-/// Something found that stands for nothing. It takes no memory.
+/// What is lent before a rule has given anything. It takes no memory.
 fn nothing_found(alloc: Global) -> Found {
     Found {
         fact: 0,
@@ -102,7 +102,7 @@ fn is_refused<T: Test>(idle: &[bool], rule: u32, test: &T) -> bool
     }
 }
 
-/// Makes what a rule of which the term is an instance gives, where it passes the test. Only then it leaves what is lent.
+/// Makes what a rule of which the term is an instance gives, where it passes the test. Only then is it taken out of what is lent.
 fn try_rule<T: Test>(
     facts: &[(u32, Equation)],
     idle: &[bool],

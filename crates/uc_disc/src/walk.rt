@@ -2,8 +2,7 @@
 
 ghost use Rattle.std.specs.Prelude.{◌≡◌, ◌↔◌, IsTrue, ◌+◌, ◌<◌, ◌≤◌, ◌-◌, ◌^◌, ℕ, length};
 ghost use Rattle.uc_term.specs.Flat.{IsWhole};
-ghost use Rattle.uc_disc.specs.Trail.{IsShaped};
-ghost use Rattle.uc_disc.specs.Trail.{RefersBack};
+ghost use Rattle.uc_disc.specs.Trail.{IsShaped, RefersBack};
 ghost use Rattle.uc_disc.specs.Standing.{part, IsFollowed, StandsAt, FailsAt, IsLeafAt};
 ghost use Rattle.uc_disc.specs.declared.place.Label.TheVariants.{Leaf};
 

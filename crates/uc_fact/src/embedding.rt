@@ -1,5 +1,6 @@
 //! Terms that come of another one by leaving symbols out. Such a term is the same or smaller in every order for which subterms are
-//! smaller and contexts are kept, so that no order need be asked about it. (Baader and Nipkow, Term Rewriting and All That, section 5.4.)
+//! smaller and contexts are kept, so that no order need be asked about it. (Baader and Nipkow, Term Rewriting and All That,
+//! section 5.4.)
 
 ghost use Rattle.std.specs.Prelude.{◌≡◌, ◌+◌, ◌*◌, ◌<◌, ◌≤◌, ◌↔◌, IsTrue, length, drop, slice_get, Some};
 ghost use Rattle.uc_term.specs.Tree.{var};

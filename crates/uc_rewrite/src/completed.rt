@@ -28,7 +28,7 @@ pub fn completed_instance(
     Ok(list)
 }
 
-/// Makes a lent list, whatever it was, the nodes of that instance.
+/// Fills a lent list, whatever it was, with the nodes that `completed_instance` gives.
 pub fn fill_completed(
     list: &mut Vec<Node>,
     pattern: &[Node],

@@ -16,7 +16,7 @@ use Rattle.uc_term.proofs.Parts.{split}
 use Rattle.uc_term.proofs.Pairs.{found_kept, found_past, found_here, found_pushed, known, agrees_image}
 use Rattle.uc_unify.specs.Unifiers.{IsMostGeneral, HasNoUnifier}
 use Rattle.uc_unify.specs.Extension.{IsBound}
-use Rattle.uc_unify.specs.Walking.{Meets, AreSolved, SolvedFrom, HasSolvedForm}
+use Rattle.uc_unify.specs.Walking.{Meets, AreReduced, ReducedFrom, IsReducedTo}
 
 abbrev Pairs : Type 0
 Pairs = List (ℕ × Tree)
@@ -34,7 +34,7 @@ module _ (σ : ℕ → Tree) (ps : Pairs) (x : ℕ) (u : Tree) where
       go (inr h) = ap σ (sym h.0) ∙ (e ∙ ap (apply σ) h.1)
 
 -- the terms may change their sides
-turned : (s t : Tree) (ss ts : Trees) (now : Pairs) → AreSolved s t ss ts now → AreSolved t s ts ss now
+turned : (s t : Tree) (ss ts : Trees) (now : Pairs) → AreReduced s t ss ts now → AreReduced t s ts ss now
 turned s t ss ts now g = record {
   counts = sym g.counts;
   only = λ σ m e. sym (g.only σ m (sym e));
@@ -42,15 +42,15 @@ turned s t ss ts now g = record {
 }
 
 module _ (s t : Tree) where
-  solved_start : AreSolved s t (more s none) (more t none) []
-  solved_start = record {
+  reduced_start : AreReduced s t (more s none) (more t none) []
+  reduced_start = record {
     counts = refl;
     only = λ σ m e. cc;
     each = λ σ e. ((λ x u f. absurd cc), ap (λ v. more v none) e);
   }
 
-  solved_heads : (f : Sym) (us bs cs ds : Trees) (now : Pairs) → count us ≡ count cs → AreSolved s t (more (app f us) bs) (more (app f cs) ds) now → AreSolved s t (join us bs) (join cs ds) now
-  solved_heads f us bs cs ds now c g = record {
+  reduced_heads : (f : Sym) (us bs cs ds : Trees) (now : Pairs) → count us ≡ count cs → AreReduced s t (more (app f us) bs) (more (app f cs) ds) now → AreReduced s t (join us bs) (join cs ds) now
+  reduced_heads f us bs cs ds now c g = record {
     counts = omega (arith, count-join us bs, count-join cs ds, g.counts);
     only = λ σ m e. g.only σ m (parts σ e);
     each = λ σ e. (let r = g.each σ e in (r.0, whole σ r.1));
@@ -67,15 +67,15 @@ module _ (s t : Tree) where
           let rest : apply_all σ bs ≡ apply_all σ ds = cc in
           apply_all-join σ us bs ∙ ap₂ join front rest ∙ sym (apply_all-join σ cs ds)
 
-  solved_clash : (f g : Sym) (us bs cs ds : Trees) (now : Pairs) → (f ≡ g → count us ≡ count cs → ⊥) → AreSolved s t (more (app f us) bs) (more (app g cs) ds) now → HasNoUnifier s t
-  solved_clash f g us bs cs ds now n a σ e =
+  reduced_clash : (f g : Sym) (us bs cs ds : Trees) (now : Pairs) → (f ≡ g → count us ≡ count cs → ⊥) → AreReduced s t (more (app f us) bs) (more (app g cs) ds) now → HasNoUnifier s t
+  reduced_clash f g us bs cs ds now n a σ e =
       let r = (a.each σ e).1 in
       let head : f ≡ g = cc in
       let args : apply_all σ us ≡ apply_all σ cs = cc in
       n head (sym (count-apply_all σ us) ∙ ap count args ∙ count-apply_all σ cs)
 
-  solved_same : (x : ℕ) (bs ds : Trees) (now : Pairs) → AreSolved s t (more (var x) bs) (more (var x) ds) now → AreSolved s t bs ds now
-  solved_same x bs ds now g = record {
+  reduced_same : (x : ℕ) (bs ds : Trees) (now : Pairs) → AreReduced s t (more (var x) bs) (more (var x) ds) now → AreReduced s t bs ds now
+  reduced_same x bs ds now g = record {
     counts = omega (arith, g.counts);
     only = λ σ m e. g.only σ m (ap (more (σ x)) e);
     each = λ σ e. (let r = g.each σ e in (r.0, tail σ r.1));
@@ -84,8 +84,8 @@ module _ (s t : Tree) where
       tail : (σ : ℕ → Tree) → apply_all σ (more (var x) bs) ≡ apply_all σ (more (var x) ds) → apply_all σ bs ≡ apply_all σ ds
       tail σ e = cc
 
-  solved_known : (x : ℕ) (bs : Trees) (u : Tree) (ds : Trees) (now : Pairs) → found now x ≡ Some u → AreSolved s t (more (var x) bs) (more u ds) now → AreSolved s t bs ds now
-  solved_known x bs u ds now f g = record {
+  reduced_known : (x : ℕ) (bs : Trees) (u : Tree) (ds : Trees) (now : Pairs) → found now x ≡ Some u → AreReduced s t (more (var x) bs) (more u ds) now → AreReduced s t bs ds now
+  reduced_known x bs u ds now f g = record {
     counts = omega (arith, g.counts);
     only = λ σ m e. g.only σ m (ap₂ more (m x u f) e);
     each = λ σ e. (let r = g.each σ e in (r.0, tail σ r.1));
@@ -94,8 +94,8 @@ module _ (s t : Tree) where
       tail : (σ : ℕ → Tree) → apply_all σ (more (var x) bs) ≡ apply_all σ (more u ds) → apply_all σ bs ≡ apply_all σ ds
       tail σ e = cc
 
-  solved_new : (x : ℕ) (bs : Trees) (u : Tree) (ds : Trees) (now : Pairs) → found now x ≡ None → AreSolved s t (more (var x) bs) (more u ds) now → AreSolved s t bs ds (now ++ (x, u) ∷ [])
-  solved_new x bs u ds now f g = record {
+  reduced_new : (x : ℕ) (bs : Trees) (u : Tree) (ds : Trees) (now : Pairs) → found now x ≡ None → AreReduced s t (more (var x) bs) (more u ds) now → AreReduced s t bs ds (now ++ (x, u) ∷ [])
+  reduced_new x bs u ds now f g = record {
     counts = omega (arith, g.counts);
     only = λ σ m e. (let r = meets_pushed σ now x u f m in g.only σ r.0 (ap₂ more r.1 e));
     each = λ σ e. (let r = g.each σ e in (meets_push σ now x u r.0 (head σ r.1), tail σ r.1));
@@ -107,20 +107,20 @@ module _ (s t : Tree) where
       tail : (σ : ℕ → Tree) → apply_all σ (more (var x) bs) ≡ apply_all σ (more u ds) → apply_all σ bs ≡ apply_all σ ds
       tail σ e = cc
 
-  solved_bound : (x : ℕ) (bs : Trees) (u : Tree) (ds : Trees) (now new : Pairs) → IsBound x u now new true → AreSolved s t (more (var x) bs) (more u ds) now → AreSolved s t bs ds new
-  solved_bound x bs u ds now new (inl b) g = subst (AreSolved s t bs ds) (sym b.1) (solved_known x bs u ds now b.0 g)
-  solved_bound x bs u ds now new (inr b) g = subst (AreSolved s t bs ds) (sym b.1) (solved_new x bs u ds now b.0 g)
+  reduced_bound : (x : ℕ) (bs : Trees) (u : Tree) (ds : Trees) (now new : Pairs) → IsBound x u now new true → AreReduced s t (more (var x) bs) (more u ds) now → AreReduced s t bs ds new
+  reduced_bound x bs u ds now new (inl b) g = subst (AreReduced s t bs ds) (sym b.1) (reduced_known x bs u ds now b.0 g)
+  reduced_bound x bs u ds now new (inr b) g = subst (AreReduced s t bs ds) (sym b.1) (reduced_new x bs u ds now b.0 g)
 
 -- the same at places of the two flat lists
 module _ (ss ts : List Node) (ws : IsWhole ss) (wt : IsWhole ts) where
-  pub at_start : SolvedFrom ss ts 0 0 []
-  at_start = rw (trees_of-whole ss ws, trees_of-whole ts wt) (solved_start (tree_of ss) (tree_of ts))
+  pub at_start : ReducedFrom ss ts 0 0 []
+  at_start = rw (trees_of-whole ss ws, trees_of-whole ts wt) (reduced_start (tree_of ss) (tree_of ts))
 
   none_left : (us : Trees) → 0 ≡ count us → us ≡ none
   none_left none e = refl
   none_left (more u us) e = absurd (omega arith)
 
-  pub at_end : (i j : ℕ) (now : Pairs) → length ss ≤ i → SolvedFrom ss ts i j now → HasSolvedForm (tree_of ss) (tree_of ts) now
+  pub at_end : (i j : ℕ) (now : Pairs) → length ss ≤ i → ReducedFrom ss ts i j now → IsReducedTo (tree_of ss) (tree_of ts) now
   at_end i j now h g =
       let left : trees_of (drop i ss) ≡ none = trees_of-end ss i h in
       let right : trees_of (drop j ts) ≡ none = none_left (trees_of (drop j ts)) (sym (ap count left) ∙ g.counts) in
@@ -129,7 +129,7 @@ module _ (ss ts : List Node) (ws : IsWhole ss) (wt : IsWhole ts) where
         each = λ σ e. (g.each σ e).0;
       }
 
-  module _ (i j : ℕ) (now : Pairs) (d : Node) (h : i < length ss) (g : SolvedFrom ss ts i j now) where
+  module _ (i j : ℕ) (now : Pairs) (d : Node) (h : i < length ss) (g : ReducedFrom ss ts i j now) where
     some_left : 0 < count (trees_of (drop i ss))
     some_left =
         let p = split ss i (i + nodes (tree_of (drop i ss))) (whole_one ss ws) h refl in
@@ -138,40 +138,40 @@ module _ (ss ts : List Node) (ws : IsWhole ss) (wt : IsWhole ts) where
     pub within : j < length ts
     within = place_within ts j (count (trees_of (drop i ss))) (sym g.counts) some_left
 
-    pub at_same : (x : ℕ) → get_or ss i d ≡ Var x → get_or ts j d ≡ Var x → SolvedFrom ss ts (i + 1) (j + 1) now
-    at_same x e k = solved_same (tree_of ss) (tree_of ts) x (trees_of (drop (i + 1) ss)) (trees_of (drop (j + 1) ts)) now (rw (var_at ss i x d h e, var_at ts j x d within k) at g)
+    pub at_same : (x : ℕ) → get_or ss i d ≡ Var x → get_or ts j d ≡ Var x → ReducedFrom ss ts (i + 1) (j + 1) now
+    at_same x e k = reduced_same (tree_of ss) (tree_of ts) x (trees_of (drop (i + 1) ss)) (trees_of (drop (j + 1) ts)) now (rw (var_at ss i x d h e, var_at ts j x d within k) at g)
 
-    pub at_var : (x : ℕ) → get_or ss i d ≡ Var x → (to : ℕ) → to ≡ j + nodes (tree_of (drop j ts)) → (new : Pairs) → IsBound x (tree_of (take (to - j) (drop j ts))) now new true → SolvedFrom ss ts (i + 1) to new
+    pub at_var : (x : ℕ) → get_or ss i d ≡ Var x → (to : ℕ) → to ≡ j + nodes (tree_of (drop j ts)) → (new : Pairs) → IsBound x (tree_of (take (to - j) (drop j ts))) now new true → ReducedFrom ss ts (i + 1) to new
     at_var x e to to_is new b =
         let p = split ts j to (whole_one ts wt) within to_is in
-        solved_bound (tree_of ss) (tree_of ts) x (trees_of (drop (i + 1) ss)) (tree_of (take (to - j) (drop j ts))) (trees_of (drop to ts)) now new b (rw (var_at ss i x d h e, p.trees) at g)
+        reduced_bound (tree_of ss) (tree_of ts) x (trees_of (drop (i + 1) ss)) (tree_of (take (to - j) (drop j ts))) (trees_of (drop to ts)) now new b (rw (var_at ss i x d h e, p.trees) at g)
 
-    pub at_other_var : (x : ℕ) → get_or ts j d ≡ Var x → (to : ℕ) → to ≡ i + nodes (tree_of (drop i ss)) → (new : Pairs) → IsBound x (tree_of (take (to - i) (drop i ss))) now new true → SolvedFrom ss ts to (j + 1) new
+    pub at_other_var : (x : ℕ) → get_or ts j d ≡ Var x → (to : ℕ) → to ≡ i + nodes (tree_of (drop i ss)) → (new : Pairs) → IsBound x (tree_of (take (to - i) (drop i ss))) now new true → ReducedFrom ss ts to (j + 1) new
     at_other_var x e to to_is new b =
         let p = split ss i to (whole_one ss ws) h to_is in
         let S = tree_of ss in
         let T = tree_of ts in
         let part = tree_of (take (to - i) (drop i ss)) in
         turned T S (trees_of (drop (j + 1) ts)) (trees_of (drop to ss)) new
-        (solved_bound T S x (trees_of (drop (j + 1) ts)) part (trees_of (drop to ss)) now new b
+        (reduced_bound T S x (trees_of (drop (j + 1) ts)) part (trees_of (drop to ss)) now new b
         (turned S T (more part (trees_of (drop to ss))) (more (var x) (trees_of (drop (j + 1) ts))) now (rw (p.trees, var_at ts j x d within e) at g)))
 
-    pub at_head : (f : Sym) (n : ℕ) → get_or ss i d ≡ App f n → get_or ts j d ≡ App f n → SolvedFrom ss ts (i + 1) (j + 1) now
+    pub at_head : (f : Sym) (n : ℕ) → get_or ss i d ≡ App f n → get_or ts j d ≡ App f n → ReducedFrom ss ts (i + 1) (j + 1) now
     at_head f n e k =
         let a = opened_at ss i f n d (whole_one ss ws) h e in
         let b = opened_at ts j f n d (whole_one ts wt) within k in
-        rw (a.0.behind, b.0.behind) (solved_heads (tree_of ss) (tree_of ts) f a.0.args a.0.rest b.0.args b.0.rest now (a.0.counts ∙ sym b.0.counts) (rw (a.1, b.1) at g))
+        rw (a.0.behind, b.0.behind) (reduced_heads (tree_of ss) (tree_of ts) f a.0.args a.0.rest b.0.args b.0.rest now (a.0.counts ∙ sym b.0.counts) (rw (a.1, b.1) at g))
 
     pub at_clash : (f : Sym) (n : ℕ) → get_or ss i d ≡ App f n → ((x : ℕ) → get_or ts j d ≡ Var x → ⊥) → (get_or ts j d ≡ App f n → ⊥) → HasNoUnifier (tree_of ss) (tree_of ts)
     at_clash f n e no_var k =
         let a = opened_at ss i f n d (whole_one ss ws) h e in
         go (get_or ts j d) refl a.0.args a.0.rest (a.0.counts) (rw a.1 at g)
       where
-        go : (o : Node) → get_or ts j d ≡ o → (us bs : Trees) → count us ≡ n → AreSolved (tree_of ss) (tree_of ts) (more (app f us) bs) (trees_of (drop j ts)) now → HasNoUnifier (tree_of ss) (tree_of ts)
+        go : (o : Node) → get_or ts j d ≡ o → (us bs : Trees) → count us ≡ n → AreReduced (tree_of ss) (tree_of ts) (more (app f us) bs) (trees_of (drop j ts)) now → HasNoUnifier (tree_of ss) (tree_of ts)
         go (Var y) q us bs c m = absurd (no_var y q)
         go (App f' l) q us bs c m =
             let b = opened_at ts j f' l d (whole_one ts wt) within q in
-            solved_clash (tree_of ss) (tree_of ts) f f' us bs b.0.args b.0.rest now (λ same long. k (q ∙ ap₂ App (sym same) (sym b.0.counts ∙ sym long ∙ c))) (rw b.1 at m)
+            reduced_clash (tree_of ss) (tree_of ts) f f' us bs b.0.args b.0.rest now (λ same long. k (q ∙ ap₂ App (sym same) (sym b.0.counts ∙ sym long ∙ c))) (rw b.1 at m)
 
 -- a variable that occurs in a term is one of its nodes
 mutual
@@ -192,7 +192,7 @@ found_at (p ∷ ps) x t e = go (p.0 == x) refl (found_at ps x t) e
     go true h later e = (0, p, refl, cc)
     go false h later e = let r = later e in (suc r.0, r.1, r.2, r.3)
 
-module _ (s t : Tree) (ps : Pairs) (idem : IsIdempotent ps) (solved : HasSolvedForm s t ps) where
+module _ (s t : Tree) (ps : Pairs) (idem : IsIdempotent ps) (reduced : IsReducedTo s t ps) where
   unmoved : (x : ℕ) (u : Tree) → found ps x ≡ Some u → apply (image ps) u ≡ u
   unmoved x u f = same_if (image ps) var u free ∙ apply-var u
     where
@@ -209,8 +209,8 @@ module _ (s t : Tree) (ps : Pairs) (idem : IsIdempotent ps) (solved : HasSolvedF
   -- a solved form that is idempotent is a most general unifier
   pub most_general : IsMostGeneral s t (image ps)
   most_general = record {
-    unifies = solved.only (image ps) (λ x u f. agrees_image ps x u f ∙ sym (unmoved x u f));
-    general = λ τ e x. general τ (solved.each τ e) x (known (found ps x));
+    unifies = reduced.only (image ps) (λ x u f. agrees_image ps x u f ∙ sym (unmoved x u f));
+    general = λ τ e x. general τ (reduced.each τ e) x (known (found ps x));
   }
     where
       general : (τ : ℕ → Tree) → Meets τ ps → (x : ℕ) → ((u : Tree) × (found ps x ≡ Some u)) ⊎ (found ps x ≡ None) → apply τ (image ps x) ≡ τ x

@@ -13,6 +13,7 @@ pub record IsMatch (pattern term : Tree) (pairs : List (ℕ × Tree)) : Type 0 w
 abbrev pub HasNoMatch : Tree → Tree → Type 0
 HasNoMatch pattern term = (σ : ℕ → Tree) → apply σ pattern ≡ term → ⊥
 
+-- whether there is a match, which the pairs are then
 abbrev pub IsMatched : Tree → Tree → List (ℕ × Tree) → Bool → Type 0
 IsMatched pattern term pairs true = IsMatch pattern term pairs
 IsMatched pattern term pairs false = HasNoMatch pattern term

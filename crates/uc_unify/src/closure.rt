@@ -35,9 +35,9 @@ pub fn closure(
     heads.clear();
     heads.extend_from_slice(parents.as_slice())?;
     pairs.clear();
-    // Where two symbols meet, the head of the pair's second place stands for the class, and of a symbol and a variable the symbol's.
-    // So symbols of the first term stand for both here, and the values of its variables mostly lie behind it: places are sized from
-    // the last to the first, so that one pass is mostly enough.
+    // Where two symbols meet, the head of the pair's second place stands for the class, and of a symbol and a variable the
+    // symbol's. So symbols of the first term stand for both here, and the values of its variables mostly lie behind it: places are
+    // sized from the last to the first, so that one pass is mostly enough.
     pairs.push((second, 0))?;
     while let Some((p, q)) = pairs.pop() {
         if !unite(nodes, ends, parents, heads, pairs, p, q)? {

@@ -25,7 +25,7 @@ pub fn matches(alloc: Global, pattern: &[Node], term: &[Node]) -> Result<Option<
     }
 }
 
-/// The same in a lent substitution, whatever it was: whether there is one, which it then is.
+/// The same in a lent substitution, whatever it was: whether there is one, which it then is; else it is of no further use.
 pub fn matches_in(subst: &mut Subst, pattern: &[Node], term: &[Node]) -> Result<bool, AllocError>
     requires whole_pattern { IsWhole pattern.now }
     requires whole_term { IsWhole term.now }
@@ -92,7 +92,7 @@ fn extend(subst: &mut Subst, pattern: &[Node], term: &[Node]) -> Result<bool, Al
     Ok(true)
 }
 
-/// Whether the variable's term is, or can be made, this one.
+/// Whether the variable's term is this one. Where it has none, it is given this one.
 pub fn bind(subst: &mut Subst, x: u32, part: &[Node]) -> Result<bool, AllocError>
     requires whole { IsWhole part.now }
     requires small { length part.now ≤ MAX_NODES }

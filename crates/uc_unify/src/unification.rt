@@ -1,10 +1,10 @@
 //! Unification: a most general substitution that makes two terms equal.
 //!
-//! Mostly one walk over both terms finds it (`walking`). Else the places of the two flat lists that must have one instance are
-//! brought into one class; the arguments of joined terms follow. Then the classes are sized from the leaves on; where that stops, a class holds a term of itself. No term is
-//! built before its size is known, so nothing grows exponentially. Where each term ends and each variable first stands is
-//! found in one walk, and a place's class by union and find. (Huet's unification closure; Baader and Snyder, Unification
-//! Theory, section 2.3.)
+//! Mostly the walk of `walking` finds it. Else the places of the two flat lists that must have one instance are brought into one
+//! class; the arguments of joined terms follow. Then the classes are sized from the leaves on; where that stops, a class holds a
+//! term of itself. No term is built before its size is known, so nothing grows exponentially. Where each term ends and each
+//! variable first stands is found in one pass, and a place's class by union and find. (Huet's unification closure; Baader and
+//! Snyder, Unification Theory, section 2.3.)
 
 ghost use Rattle.std.specs.Prelude.{◌≡◌, ℕ, ◌+◌, ◌<◌, ◌≤◌, ◌++◌, length, slice_get, slice_index, Some, IfOk, OnOk};
 ghost use Rattle.uc_term.specs.declared.node.Node.TheVariants.{Var};
@@ -23,6 +23,7 @@ use crate::solution::solved;
 use crate::walking::{Walked, walk};
 use crate::workspace::Workspace;
 use std::alloc::{AllocError, Global};
+use std::mem;
 use uc_term::{MAX_NODES, Node, Subst, instance_size};
 
 /// What two terms come to.
@@ -62,12 +63,11 @@ pub fn unify_in(
     requires small_t { length t.now ≤ MAX_NODES }
     ensures { IfOk result (IsUnified (tree_of s.now) (tree_of t.now)) }
 {
-    let mut subst = Subst::new(alloc);
-    match walk(s, t, &mut subst)? {
+    match walk(s, t, &mut space.walked)? {
         Walked::Apart => Ok(Unified::Apart),
-        Walked::Solved => {
-            if subst.is_idempotent() {
-                Ok(sized(s, subst))
+        Walked::Reduced => {
+            if space.walked.is_idempotent() {
+                Ok(taken(alloc, s, &mut space.walked))
             } else {
                 unify_by_classes(alloc, space, s, t)
             }
@@ -76,17 +76,16 @@ pub fn unify_in(
     }
 }
 
-/// What two terms come to whose most general unifier this is.
-fn sized(s: &[Node], subst: Subst) -> Unified
+/// What two terms come to whose most general unifier is lent. It is taken out of there where it is the answer.
+fn taken(alloc: Global, s: &[Node], subst: &mut Subst) -> Unified
     requires whole_s { IsWhole s.now }
     requires small_s { length s.now ≤ MAX_NODES }
-    ensures { (t : Tree) → IsMostGeneral (tree_of s.now) t (image subst) → IsUnified (tree_of s.now) t result }
+    ensures { (t : Tree) → IsMostGeneral (tree_of s.now) t (image subst.old) → IsUnified (tree_of s.now) t result }
 {
-    if instance_size(s, &subst) > MAX_NODES {
-        Unified::TooLarge
-    } else {
-        Unified::Unifier(subst)
+    if instance_size(s, subst) > MAX_NODES {
+        return Unified::TooLarge;
     }
+    Unified::Unifier(mem::replace(subst, Subst::new(alloc)))
 }
 
 /// What two terms come to, by the classes of their places.
@@ -111,6 +110,7 @@ fn unify_by_classes(
         pairs,
         sizes,
         pending,
+        ..
     } = space;
     join(s, t, both)?;
     let nodes = both.as_slice();

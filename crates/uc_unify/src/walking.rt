@@ -1,12 +1,12 @@
 //! Unifiers that one walk over both terms finds: each variable takes the term that stands against it. Where no variable that
-//! has one occurs in what another one has, this is a most general unifier already. (A solved form: Baader and Nipkow, Term
+//! has one occurs in any of these terms, they are a most general unifier. (Such pairs are a solved form: Baader and Nipkow, Term
 //! Rewriting and All That, section 4.6.)
 
 ghost use Rattle.std.specs.Prelude.{◌≡◌, ◌<◌, ◌≤◌, ℕ, List, length, slice_index_or, IfOk};
 ghost use Rattle.uc_term.specs.declared.node.Node.TheVariants.{Var, App};
 ghost use Rattle.uc_term.specs.Tree.{Tree};
 ghost use Rattle.uc_term.specs.Flat.{IsWhole, tree_of};
-ghost use Rattle.uc_unify.specs.Walking.{SolvedFrom, IsStep, IsWalked};
+ghost use Rattle.uc_unify.specs.Walking.{ReducedFrom, IsStep, IsWalked};
 
 use crate::firsts::is_var;
 use crate::matching::{bind, is_head};
@@ -19,19 +19,19 @@ pub enum Walked {
     /// They have no unifier.
     Apart,
     /// Their unifiers are the substitutions that give each variable with a pair the instance of its term.
-    Solved,
+    Reduced,
     /// The walk doesn't tell.
     Unclear,
 }
 
 /// What a step of a walk comes to: the walk ends, or goes on at these places.
 #[derive(Clone, Copy)]
-pub enum Step {
+enum Step {
     Stop(Walked),
     To(usize, usize),
 }
 
-/// Walks over two terms, and gives each variable the term that stands against it in a lent substitution, whatever that was.
+/// Walks over two terms, and fills a lent substitution, whatever it was, with the term that stands against each variable.
 pub fn walk(s: &[Node], t: &[Node], subst: &mut Subst) -> Result<Walked, AllocError>
     requires whole_s { IsWhole s.now }
     requires whole_t { IsWhole t.now }
@@ -51,17 +51,17 @@ pub fn walk(s: &[Node], t: &[Node], subst: &mut Subst) -> Result<Walked, AllocEr
             Step::Stop(walked) => return Ok(walked),
         }
     }
-    Ok(Walked::Solved)
+    Ok(Walked::Reduced)
 }
 
-/// Looks at what stands at two places.
+/// One step of the walk.
 fn go_on(s: &[Node], t: &[Node], p: usize, q: usize, subst: &mut Subst) -> Result<Step, AllocError>
     requires whole_s { IsWhole s.now }
     requires whole_t { IsWhole t.now }
     requires small_s { length s.now ≤ MAX_NODES }
     requires small_t { length t.now ≤ MAX_NODES }
     requires within { p < length s.now }
-    requires solved { SolvedFrom s.now t.now p q subst.old }
+    requires reduced { ReducedFrom s.now t.now p q subst.old }
     ensures { IfOk result (IsStep s.now t.now p subst.new) }
 {
     match s[p] {
@@ -84,7 +84,7 @@ fn go_on_at_var(
     requires small_s { length s.now ≤ MAX_NODES }
     requires small_t { length t.now ≤ MAX_NODES }
     requires within { p < length s.now }
-    requires solved { SolvedFrom s.now t.now p q subst.old }
+    requires reduced { ReducedFrom s.now t.now p q subst.old }
     requires var { slice_index_or s.now p (Var 0) ≡ Var x }
     ensures { IfOk result (IsStep s.now t.now p subst.new) }
 {
@@ -114,7 +114,7 @@ fn go_on_at_app(
     requires small_s { length s.now ≤ MAX_NODES }
     requires small_t { length t.now ≤ MAX_NODES }
     requires within { p < length s.now }
-    requires solved { SolvedFrom s.now t.now p q subst.old }
+    requires reduced { ReducedFrom s.now t.now p q subst.old }
     requires app { slice_index_or s.now p (Var 0) ≡ App f n }
     ensures { IfOk result (IsStep s.now t.now p subst.new) }
 {
@@ -138,7 +138,7 @@ fn go_on_at_other_var(
     requires small_s { length s.now ≤ MAX_NODES }
     requires small_t { length t.now ≤ MAX_NODES }
     requires within { p < length s.now }
-    requires solved { SolvedFrom s.now t.now p q subst.old }
+    requires reduced { ReducedFrom s.now t.now p q subst.old }
     requires var { slice_index_or t.now q (Var 0) ≡ Var y }
     ensures { IfOk result (IsStep s.now t.now p subst.new) }
 {
@@ -160,7 +160,7 @@ fn go_on_at_apps(s: &[Node], t: &[Node], p: usize, q: usize, f: Sym, n: u32, g: 
     requires within { p < length s.now }
     requires app { slice_index_or s.now p (Var 0) ≡ App f n }
     requires other { slice_index_or t.now q (Var 0) ≡ App g m }
-    ensures { (pairs : List (ℕ × Tree)) → SolvedFrom s.now t.now p q pairs → IsStep s.now t.now p pairs result }
+    ensures { (pairs : List (ℕ × Tree)) → ReducedFrom s.now t.now p q pairs → IsStep s.now t.now p pairs result }
 {
     if is_head(Node::App(g, m), f, n) {
         Step::To(p + 1, q + 1)

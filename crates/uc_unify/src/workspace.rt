@@ -2,12 +2,14 @@
 
 use std::alloc::Global;
 use std::marker::Model;
-use uc_term::Node;
+use uc_term::{Node, Subst};
 
 /// Memory for unifications, lent to one after the other so that they take none of their own. What stands in it between calls
 /// is arbitrary and says nothing, so all workspaces have one value.
 #[derive(Drop)]
 pub struct Workspace {
+    /// The pairs of a walk over both terms.
+    pub(crate) walked: Subst,
     /// The nodes of both terms.
     pub(crate) both: Vec<Node>,
     /// The place behind the term at each place.
@@ -36,6 +38,7 @@ impl Workspace {
     /// A workspace that holds no memory yet. It grows with the terms that it is lent for, and keeps what it has grown to.
     pub fn new(alloc: Global) -> Workspace {
         Workspace {
+            walked: Subst::new(alloc),
             both: Vec::new(alloc),
             ends: Vec::new(alloc),
             noted: Vec::new(alloc),

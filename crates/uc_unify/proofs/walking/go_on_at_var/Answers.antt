@@ -9,7 +9,7 @@ pub end_of-end-requires-clause-whole : goal.end_of-end-requires-clause-whole
 end_of-end-requires-clause-whole c = whole_one c.args.t.now c.requires.whole_t
 
 pub bind-requires-clause-whole : goal.bind-requires-clause-whole
-bind-requires-clause-whole c = (split c.args.t.now c.args.q c.end_of-end.result (whole_one c.args.t.now c.requires.whole_t) (within c.args.s.now c.args.t.now c.requires.whole_s c.requires.whole_t c.args.p c.args.q c.args.subst.now (Var 0) c.requires.within c.requires.solved) c.end_of-end.ensures.end).whole
+bind-requires-clause-whole c = (split c.args.t.now c.args.q c.end_of-end.result (whole_one c.args.t.now c.requires.whole_t) (within c.args.s.now c.args.t.now c.requires.whole_s c.requires.whole_t c.args.p c.args.q c.args.subst.now (Var 0) c.requires.within c.requires.reduced) c.end_of-end.ensures.end).whole
 
 pub returns-then-branch : goal.returns-then-branch
-returns-then-branch c = (at_var c.args.s.now c.args.t.now c.requires.whole_s c.requires.whole_t c.args.p c.args.q c.args.subst.now (Var 0) c.requires.within c.requires.solved c.args.x c.requires.var c.end_of-end.result c.end_of-end.ensures.end c.bind.new.subst (rw c.if-branch.true at c.in_ok-bind.ensures), omega arith, omega (arith, c.requires.within))
+returns-then-branch c = (at_var c.args.s.now c.args.t.now c.requires.whole_s c.requires.whole_t c.args.p c.args.q c.args.subst.now (Var 0) c.requires.within c.requires.reduced c.args.x c.requires.var c.end_of-end.result c.end_of-end.ensures.end c.bind.new.subst (rw c.if-branch.true at c.in_ok-bind.ensures), omega arith, omega (arith, c.requires.within))
