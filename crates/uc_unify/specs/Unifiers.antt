@@ -4,6 +4,8 @@ use Rattle.uc_term.specs.Tree.{Tree, apply, nodes}
 use Rattle.uc_term.specs.Subst.{image}
 use Rattle.uc_unify.specs.declared.unification.Unified.{Unified}
 use Rattle.uc_unify.specs.declared.unification.Unified.TheVariants.{Unifier, Apart, TooLarge}
+use Rattle.uc_unify.specs.declared.unification.UnifiedIn.{UnifiedIn}
+use Rattle.uc_unify.specs.declared.unification.UnifiedIn.TheVariants as InLent
 
 -- σ unifies the two, and every unifier is itself after σ
 pub record IsMostGeneral (s t : Tree) (σ : ℕ → Tree) : Type 0 where
@@ -30,3 +32,9 @@ abbrev pub IsUnified : Tree → Tree → Unified → Type 0
 IsUnified s t (Unifier pairs) = IsUnifier s t pairs
 IsUnified s t Apart = HasNoUnifier s t
 IsUnified s t TooLarge = IsTooLarge s t
+
+-- the same where the substitution is lent
+abbrev pub IsUnifiedIn : Tree → Tree → List (ℕ × Tree) → UnifiedIn → Type 0
+IsUnifiedIn s t pairs InLent.Unifier = IsUnifier s t pairs
+IsUnifiedIn s t pairs InLent.Apart = HasNoUnifier s t
+IsUnifiedIn s t pairs InLent.TooLarge = IsTooLarge s t

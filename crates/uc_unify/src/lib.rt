@@ -16,5 +16,5 @@ mod workspace;
 
 pub use matching::{matches, matches_both, matches_in};
 pub use replacement::replaces_at;
-pub use unification::{Unified, unify, unify_in};
+pub use unification::{Unified, UnifiedIn, unify, unify_in};
 pub use workspace::Workspace;

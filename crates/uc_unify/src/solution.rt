@@ -1,41 +1,40 @@
 //! The terms that closed classes stand for, written out.
 
-ghost use Rattle.std.specs.Prelude.{◌≡◌, ℕ, ◌+◌, ◌<◌, ◌≤◌, length, drop, IfOk, OnOk};
+ghost use Rattle.std.specs.Prelude.{◌≡◌, ℕ, ◌+◌, ◌<◌, ◌≤◌, length, drop, OnOk};
 ghost use Rattle.uc_term.specs.Tree.{Tree, count};
 ghost use Rattle.uc_term.specs.Flat.{flat, trees_of, AreWhole};
 ghost use Rattle.uc_unify.specs.Closure.{AreClasses, AreEnds};
 ghost use Rattle.uc_unify.specs.Solutions.{IsOpened, IsWritten, IsWritable, Solves};
 
 use crate::closure::MAX_BOTH;
-use std::alloc::{AllocError, Global};
+use std::alloc::AllocError;
 use uc_term::Node;
 
-/// The nodes of a place's term. Which places are still to be written is noted in a lent list.
-pub fn solved(
-    alloc: Global,
+/// Fills a lent list with the nodes of a place's term. Which places are still to be written is noted in another one.
+pub fn write_term(
     nodes: &[Node],
     ends: &[usize],
     classes: &[usize],
+    list: &mut Vec<Node>,
     pending: &mut Vec<(usize, u32)>,
     start: usize,
-) -> Result<Vec<Node>, AllocError>
+) -> Result<(), AllocError>
     requires whole { AreWhole nodes.now }
     requires ends { AreEnds nodes.now ends.now }
     requires few { length nodes.now ≤ MAX_BOTH }
     requires classes { AreClasses nodes.now classes.now }
     requires within { start < length nodes.now }
     requires writable { IsWritable nodes.now classes.now start }
-    ensures { IfOk result (λ list. (t : Tree) → Solves nodes.now classes.now start t → list.items ≡ flat t) }
+    ensures { OnOk result ((t : Tree) → Solves nodes.now classes.now start t → list.new.items ≡ flat t) }
 {
-    let class = classes[start];
-    let mut list = Vec::with_capacity(alloc, ends[class] - class)?;
+    list.clear();
     // places with the number of terms that are to be written from each on, the next one last
     pending.clear();
     pending.push((start, 1))?;
     while let Some((place, terms)) = pending.pop() {
-        write_node(nodes, ends, classes, &mut list, pending, place, terms)?;
+        write_node(nodes, ends, classes, list, pending, place, terms)?;
     }
-    Ok(list)
+    Ok(())
 }
 
 /// Writes the first node of the first of so many terms from a place on, and leaves the others and its arguments open.

@@ -11,7 +11,7 @@ ghost use Rattle.uc_term.specs.declared.node.Node.TheVariants.{Var};
 ghost use Rattle.uc_term.specs.Tree.{Tree, nodes};
 ghost use Rattle.uc_term.specs.Subst.{image};
 ghost use Rattle.uc_term.specs.Flat.{IsWhole, AreWhole, tree_of};
-ghost use Rattle.uc_unify.specs.Unifiers.{IsMostGeneral, IsUnified};
+ghost use Rattle.uc_unify.specs.Unifiers.{IsMostGeneral, IsUnified, IsUnifiedIn};
 ghost use Rattle.uc_unify.specs.Closure.{at, next, class, AreClasses, AreEnds, IsClosed};
 ghost use Rattle.uc_unify.specs.Solutions.{IsWritable, IsSolution, AddsSolution};
 
@@ -19,11 +19,10 @@ use crate::closure::{MAX_BOTH, closure};
 use crate::ends::ends_of;
 use crate::firsts::is_var;
 use crate::sizes::sizes_of;
-use crate::solution::solved;
+use crate::solution::write_term;
 use crate::walking::{Walked, walk};
 use crate::workspace::Workspace;
 use std::alloc::{AllocError, Global};
-use std::mem;
 use uc_term::{MAX_NODES, Node, Subst, instance_size};
 
 /// What two terms come to.
@@ -31,6 +30,17 @@ use uc_term::{MAX_NODES, Node, Subst, instance_size};
 pub enum Unified {
     /// A most general unifier.
     Unifier(Subst),
+    /// There is no unifier.
+    Apart,
+    /// There is one, and the common instance has more than 4,096 nodes.
+    TooLarge,
+}
+
+/// What two terms come to whose unifier is lent.
+#[derive(Clone, Copy)]
+pub enum UnifiedIn {
+    /// What was lent is a most general unifier.
+    Unifier,
     /// There is no unifier.
     Apart,
     /// There is one, and the common instance has more than 4,096 nodes.
@@ -47,59 +57,65 @@ pub fn unify(alloc: Global, s: &[Node], t: &[Node]) -> Result<Unified, AllocErro
     ensures { IfOk result (IsUnified (tree_of s.now) (tree_of t.now)) }
 {
     let mut space = Workspace::new(alloc);
-    unify_in(alloc, &mut space, s, t)
+    let mut subst = Subst::new(alloc);
+    match unify_in(&mut space, &mut subst, s, t)? {
+        UnifiedIn::Unifier => Ok(Unified::Unifier(subst)),
+        UnifiedIn::Apart => Ok(Unified::Apart),
+        UnifiedIn::TooLarge => Ok(Unified::TooLarge),
+    }
 }
 
-/// The same as `unify`, in lent memory: new memory is taken for the unifier alone, and where the workspace is too small.
+/// The same as `unify` in lent memory, whatever stood in it: the substitution is the unifier then, and else of no further use.
+/// New memory is taken only where what is lent is too small.
 pub fn unify_in(
-    alloc: Global,
     space: &mut Workspace,
+    subst: &mut Subst,
     s: &[Node],
     t: &[Node],
-) -> Result<Unified, AllocError>
+) -> Result<UnifiedIn, AllocError>
     requires whole_s { IsWhole s.now }
     requires whole_t { IsWhole t.now }
     requires small_s { length s.now ≤ MAX_NODES }
     requires small_t { length t.now ≤ MAX_NODES }
-    ensures { IfOk result (IsUnified (tree_of s.now) (tree_of t.now)) }
+    ensures { IfOk result (IsUnifiedIn (tree_of s.now) (tree_of t.now) subst.new) }
 {
-    match walk(s, t, &mut space.walked)? {
-        Walked::Apart => Ok(Unified::Apart),
+    match walk(s, t, subst)? {
+        Walked::Apart => Ok(UnifiedIn::Apart),
         Walked::Reduced => {
-            if space.walked.is_idempotent() {
-                Ok(taken(alloc, s, &mut space.walked))
+            if subst.is_idempotent() {
+                Ok(judged(s, subst))
             } else {
-                unify_by_classes(alloc, space, s, t)
+                unify_by_classes(space, subst, s, t)
             }
         }
-        Walked::Unclear => unify_by_classes(alloc, space, s, t),
+        Walked::Unclear => unify_by_classes(space, subst, s, t),
     }
 }
 
-/// What two terms come to whose most general unifier is lent. It is taken out of there where it is the answer.
-fn taken(alloc: Global, s: &[Node], subst: &mut Subst) -> Unified
+/// What two terms come to of which this is a most general unifier.
+fn judged(s: &[Node], subst: &Subst) -> UnifiedIn
     requires whole_s { IsWhole s.now }
     requires small_s { length s.now ≤ MAX_NODES }
-    ensures { (t : Tree) → IsMostGeneral (tree_of s.now) t (image subst.old) → IsUnified (tree_of s.now) t result }
+    ensures { (t : Tree) → IsMostGeneral (tree_of s.now) t (image subst.now) → IsUnifiedIn (tree_of s.now) t subst.now result }
 {
     if instance_size(s, subst) > MAX_NODES {
-        return Unified::TooLarge;
+        return UnifiedIn::TooLarge;
     }
-    Unified::Unifier(mem::replace(subst, Subst::new(alloc)))
+    UnifiedIn::Unifier
 }
 
 /// What two terms come to, by the classes of their places.
 fn unify_by_classes(
-    alloc: Global,
     space: &mut Workspace,
+    subst: &mut Subst,
     s: &[Node],
     t: &[Node],
-) -> Result<Unified, AllocError>
+) -> Result<UnifiedIn, AllocError>
     requires whole_s { IsWhole s.now }
     requires whole_t { IsWhole t.now }
     requires small_s { length s.now ≤ MAX_NODES }
     requires small_t { length t.now ≤ MAX_NODES }
-    ensures { IfOk result (IsUnified (tree_of s.now) (tree_of t.now)) }
+    ensures { IfOk result (IsUnifiedIn (tree_of s.now) (tree_of t.now) subst.new) }
 {
     let Workspace {
         both,
@@ -109,8 +125,8 @@ fn unify_by_classes(
         heads,
         pairs,
         sizes,
+        written,
         pending,
-        ..
     } = space;
     join(s, t, both)?;
     let nodes = both.as_slice();
@@ -119,9 +135,9 @@ fn unify_by_classes(
     let second = s.len();
     if closure(nodes, ends, second, noted, parents, heads, pairs)? {
         let classes = heads.as_slice();
-        return read_off(alloc, nodes, ends, second, classes, sizes, pending);
+        return read_off(nodes, ends, second, classes, sizes, written, pending, subst);
     }
-    Ok(Unified::Apart)
+    Ok(UnifiedIn::Apart)
 }
 
 /// Fills a lent list with the nodes of both terms.
@@ -139,14 +155,15 @@ fn join(s: &[Node], t: &[Node], both: &mut Vec<Node>) -> Result<(), AllocError>
 
 /// What two terms come to whose classes are closed: the first one at place 0, and the second one behind it.
 fn read_off(
-    alloc: Global,
     nodes: &[Node],
     ends: &[usize],
     second: usize,
     classes: &[usize],
     sizes: &mut Vec<u32>,
+    written: &mut Vec<Node>,
     pending: &mut Vec<(usize, u32)>,
-) -> Result<Unified, AllocError>
+    subst: &mut Subst,
+) -> Result<UnifiedIn, AllocError>
     requires whole { AreWhole nodes.now }
     requires ends { AreEnds nodes.now ends.now }
     requires few { length nodes.now ≤ MAX_BOTH }
@@ -154,50 +171,52 @@ fn read_off(
     requires last { next nodes.now second ≡ length nodes.now }
     requires within { second < length nodes.now }
     requires closed { IsClosed nodes.now second classes.now }
-    ensures { IfOk result (IsUnified (at nodes.now 0) (at nodes.now second)) }
+    ensures { IfOk result (IsUnifiedIn (at nodes.now 0) (at nodes.now second) subst.new) }
 {
     if !sizes_of(nodes, ends, classes, sizes)? {
-        return Ok(Unified::Apart);
+        return Ok(UnifiedIn::Apart);
     }
     if sizes[classes[0]] > MAX_NODES as u32 {
-        return Ok(Unified::TooLarge);
+        return Ok(UnifiedIn::TooLarge);
     }
-    Ok(Unified::Unifier(solution(alloc, nodes, ends, classes, pending)?))
+    solution(nodes, ends, classes, written, pending, subst)?;
+    Ok(UnifiedIn::Unifier)
 }
 
-/// The substitution that gives each variable the term of its place.
+/// Makes a lent substitution the one that gives each variable the term of its place.
 fn solution(
-    alloc: Global,
     nodes: &[Node],
     ends: &[usize],
     classes: &[usize],
+    written: &mut Vec<Node>,
     pending: &mut Vec<(usize, u32)>,
-) -> Result<Subst, AllocError>
+    subst: &mut Subst,
+) -> Result<(), AllocError>
     requires whole { AreWhole nodes.now }
     requires ends { AreEnds nodes.now ends.now }
     requires few { length nodes.now ≤ MAX_BOTH }
     requires classes { AreClasses nodes.now classes.now }
     requires writable { (p : ℕ) → p < length nodes.now → IsWritable nodes.now classes.now p }
-    ensures { IfOk result (λ subst. IsSolution nodes.now classes.now (image subst)) }
+    ensures { OnOk result (IsSolution nodes.now classes.now (image subst.new)) }
 {
-    let mut subst = Subst::new(alloc);
+    subst.clear();
     for place in 0..nodes.len() {
         match nodes[place] {
-            Node::Var(x) => add_variable(
-                alloc, nodes, ends, classes, pending, &mut subst, place, x,
-            )?,
+            Node::Var(x) => {
+                add_variable(nodes, ends, classes, written, pending, subst, place, x)?
+            }
             Node::App(_, _) => {}
         }
     }
-    Ok(subst)
+    Ok(())
 }
 
 /// Gives the variable at a place the place's term, where that is another one and it has none yet.
 fn add_variable(
-    alloc: Global,
     nodes: &[Node],
     ends: &[usize],
     classes: &[usize],
+    written: &mut Vec<Node>,
     pending: &mut Vec<(usize, u32)>,
     subst: &mut Subst,
     place: usize,
@@ -215,8 +234,8 @@ fn add_variable(
         return Ok(());
     }
     if subst.get(x).is_none() {
-        let list = solved(alloc, nodes, ends, classes, pending, place)?;
-        subst.add(x, list.as_slice())?;
+        write_term(nodes, ends, classes, written, pending, place)?;
+        subst.add(x, written.as_slice())?;
     }
     Ok(())
 }

@@ -2,14 +2,12 @@
 
 use std::alloc::Global;
 use std::marker::Model;
-use uc_term::{Node, Subst};
+use uc_term::Node;
 
 /// Memory for unifications, lent to one after the other so that they take none of their own. What stands in it between calls
 /// is arbitrary and says nothing, so all workspaces have one value.
 #[derive(Drop)]
 pub struct Workspace {
-    /// The pairs of a walk over both terms.
-    pub(crate) walked: Subst,
     /// The nodes of both terms.
     pub(crate) both: Vec<Node>,
     /// The place behind the term at each place.
@@ -24,6 +22,8 @@ pub struct Workspace {
     pub(crate) pairs: Vec<(usize, usize)>,
     /// The size of each place that stands for a class.
     pub(crate) sizes: Vec<u32>,
+    /// A variable's term, while it is written.
+    pub(crate) written: Vec<Node>,
     /// The places from which terms are to be written, with the number of these.
     pub(crate) pending: Vec<(usize, u32)>,
 }
@@ -38,7 +38,6 @@ impl Workspace {
     /// A workspace that holds no memory yet. It grows with the terms that it is lent for, and keeps what it has grown to.
     pub fn new(alloc: Global) -> Workspace {
         Workspace {
-            walked: Subst::new(alloc),
             both: Vec::new(alloc),
             ends: Vec::new(alloc),
             noted: Vec::new(alloc),
@@ -46,6 +45,7 @@ impl Workspace {
             heads: Vec::new(alloc),
             pairs: Vec::new(alloc),
             sizes: Vec::new(alloc),
+            written: Vec::new(alloc),
             pending: Vec::new(alloc),
         }
     }

@@ -35,4 +35,4 @@ pub returns : goal.returns
 returns c =
     let h = come_to c.args.nodes.now c.args.classes.now c.sizes_of.new.sizes.items _ true c.if-not-branch.false c.in_ok-sizes_of.ensures in
     let e = root c.args.nodes.now c.args.classes.now c.sizes_of.new.sizes.items c.args.second c.requires.within c.requires.closed h.sized c.index.result.now c.index.ensures in
-    unifier c.args.nodes.now c.requires.whole c.args.second c.args.classes.now c.requires.closed c.sizes_of.new.sizes.items h.sized c.requires.first c.requires.last c.requires.within h.all_are (let t = c.if-index.false in omega arith) c.in_ok-solution.field-0 c.in_ok-solution.ensures
+    unifier c.args.nodes.now c.requires.whole c.args.second c.args.classes.now c.requires.closed c.sizes_of.new.sizes.items h.sized c.requires.first c.requires.last c.requires.within h.all_are (let t = c.if-index.false in omega arith) c.solution.new.subst c.in_ok-solution.ensures

@@ -1,9 +1,9 @@
 use Rattle.std.proofs.Common.{◌++◌, ◌∷◌, [], ◌∙◌, ap, arith}
 use Rattle.uc_unify.proofs.Writing.{writing_starts, writing_more, writing_ends, top, room}
-use Rattle.uc_unify.proofs.solution.solved.Goals as goal
+use Rattle.uc_unify.proofs.solution.write_term.Goals as goal
 
 pub loop-place-init : goal.loop-place-init
-loop-place-init c = λ t s. rw c.in_ok-list.ensures.items (writing_starts c.args.nodes.now c.args.classes.now c.requires.whole c.args.start t c.push.new.self.items (c.in_ok-push.ensures.items ∙ ap (λ l. l ++ (c.args.start, 1) ∷ []) c.clear.ensures.items) c.requires.within s)
+loop-place-init c = λ t s. rw c.clear.ensures.items (writing_starts c.args.nodes.now c.args.classes.now c.requires.whole c.args.start t c.push.new.self.items (c.in_ok-push.ensures.items ∙ ap (λ l. l ++ (c.args.start, 1) ∷ []) c.clear-2.ensures.items) c.requires.within s)
 
 pub write_node-requires-clause-fits : goal.write_node-requires-clause-fits
 write_node-requires-clause-fits c = (top c.args.nodes.now c.args.classes.now c.requires.writable.term c.loop-place.list.items c.loop-place.pending.items c.pop.new.self.items c.in-Some.place c.in-Some.terms c.in-Some.ensures.items (c.loop-place.invariant c.requires.writable.term c.requires.writable.solves)).fits
