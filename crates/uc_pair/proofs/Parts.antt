@@ -9,8 +9,9 @@ use Rattle.uc_term.specs.Code.{tree_of-flat}
 use Rattle.uc_term.specs.Variables.{IsApp}
 use Rattle.uc_term.proofs.Terms.{whole-flat, nodes_whole, whole_one}
 use Rattle.uc_term.proofs.Ahead.{drop-at, at_place, subterm_of-drop}
-use Rattle.uc_unify.specs.Unifiers.{IsUnified}
+use Rattle.uc_unify.specs.Unifiers.{IsUnified, IsUnifiedIn}
 use Rattle.uc_unify.specs.declared.unification.Unified.{Unified}
+use Rattle.uc_unify.specs.declared.unification.UnifiedIn.{UnifiedIn}
 use Rattle.uc_term.proofs.Parts.{split}
 use Rattle.uc_pair.specs.declared.fitting.Part.{Part}
 use Rattle.uc_pair.specs.Fitting.{NeverMeet, HasNoFit, IsPart, IsFitAt}
@@ -38,6 +39,10 @@ no_fit ns ms p to w h e n = inr (subst (λ t. NeverMeet t (tree_of ms)) (part_tr
 
 pub unified_is : (s t s' t' : Tree) (u v : Unified) → s ≡ s' → t ≡ t' → u ≡ v → IsUnified s t u → IsUnified s' t' v
 unified_is s t s' t' u v a b e h = subst (IsUnified s' t') e (subst (λ y. IsUnified s' y u) b (subst (λ x. IsUnified x t u) a h))
+
+-- the same where the unifier is lent
+pub lent_is : (s t s' t' : Tree) (pairs : List (ℕ × Tree)) (u v : UnifiedIn) → s ≡ s' → t ≡ t' → u ≡ v → IsUnifiedIn s t pairs u → IsUnifiedIn s' t' pairs v
+lent_is s t s' t' pairs u v a b e h = subst (IsUnifiedIn s' t' pairs) e (subst (λ y. IsUnifiedIn s' y pairs u) b (subst (λ x. IsUnifiedIn x t pairs u) a h))
 
 -- the part at a place of a term
 pub part_of : (ns : List Node) (t : Tree) (p to : ℕ) → IsWhole ns → tree_of ns ≡ t → p < length ns → to ≡ p + nodes (tree_of (drop p ns)) → tree_of (take (to - p) (drop p ns)) ≡ subterm t p

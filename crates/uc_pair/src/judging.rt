@@ -12,17 +12,16 @@ use crate::Size;
 use crate::fitting::Part;
 use crate::instances::{RenamedApart, fill_instance, fill_put, is_too_large};
 use crate::reading::{Read, is_at_most, is_repeated};
-use crate::space::Judging;
+use crate::space::{Built, Judging};
 use crate::term_ref::TermRef;
-use std::alloc::{AllocError, Global};
+use std::alloc::AllocError;
 use uc_order::Order;
 use uc_term::{Subst, instance_size, same_nodes};
-use uc_unify::{Unified, unify_in};
+use uc_unify::{UnifiedIn, unify_in};
 
 /// The size of the overlap of two rules, each of which leads down somewhere, at a part of the outer one's side at which a symbol
 /// stands. None where there is no overlap, or it is left out.
 pub(crate) fn size_at<O: Order>(
-    alloc: Global,
     space: &mut Judging,
     terms: &RenamedApart,
     outer: &Read,
@@ -41,22 +40,27 @@ pub(crate) fn size_at<O: Order>(
     if is_repeated(outer, inner, there.place) {
         return Ok(None);
     }
+    let Judging {
+        unifying,
+        unifier,
+        built,
+    } = space;
     match unify_in(
-        alloc,
-        &mut space.unifying,
+        unifying,
+        unifier,
         terms.outer_from.part(there),
         terms.inner_from.as_nodes(),
     )? {
-        Unified::Apart => Ok(None),
+        UnifiedIn::Apart => Ok(None),
         // the peak is at least as large, and the rules themselves lead down
-        Unified::TooLarge => Ok(Some(Size::Large)),
-        Unified::Unifier(subst) => judged(space, terms, outer, inner, there, &subst, order),
+        UnifiedIn::TooLarge => Ok(Some(Size::Large)),
+        UnifiedIn::Unifier => judged(built, terms, outer, inner, there, unifier, order),
     }
 }
 
 /// The size of the pair of an overlap by this unifier. None where one of the rules goes up or stays from the peak.
 fn judged<O: Order>(
-    space: &mut Judging,
+    built: &mut Built,
     terms: &RenamedApart,
     outer: &Read,
     inner: &Read,
@@ -71,7 +75,7 @@ fn judged<O: Order>(
     ensures { IfOk result (IsJudgedBy (O.meaning order.now).greater terms.now there.place (image subst.now)) }
 {
     if goes_up(
-        space,
+        built,
         outer,
         &terms.outer_from,
         &terms.outer_to,
@@ -81,7 +85,7 @@ fn judged<O: Order>(
         return Ok(None);
     }
     if goes_up(
-        space,
+        built,
         inner,
         &terms.inner_from,
         &terms.inner_to,
@@ -90,13 +94,13 @@ fn judged<O: Order>(
     )? {
         return Ok(None);
     }
-    Ok(Some(size_by(space, terms, there, subst)?))
+    Ok(Some(size_by(built, terms, there, subst)?))
 }
 
 /// Whether the instance of a rule's renamed side is at most that of its other side, where both are small. No instance is built
 /// where the rule leads down everywhere.
 fn goes_up<O: Order>(
-    space: &mut Judging,
+    built: &mut Built,
     rule: &Read,
     from: &TermRef,
     to: &TermRef,
@@ -110,18 +114,18 @@ fn goes_up<O: Order>(
     if rule.always_down {
         return Ok(false);
     }
-    if !fill_instance(&mut space.from, from, subst)? {
+    if !fill_instance(&mut built.from, from, subst)? {
         return Ok(false);
     }
-    if !fill_instance(&mut space.to, to, subst)? {
+    if !fill_instance(&mut built.to, to, subst)? {
         return Ok(false);
     }
-    Ok(is_at_most(space.from.as_slice(), space.to.as_slice(), order))
+    Ok(is_at_most(built.from.as_slice(), built.to.as_slice(), order))
 }
 
 /// The size of the pair that a unifier makes. It is counted, and the two sides are built only where they have as many nodes.
 fn size_by(
-    space: &mut Judging,
+    built: &mut Built,
     terms: &RenamedApart,
     there: Part,
     subst: &Subst,
@@ -136,7 +140,7 @@ fn size_by(
         return Ok(Size::Large);
     };
     if left == right {
-        same_or(space, terms, there, subst, left + right)
+        same_or(built, terms, there, subst, left + right)
     } else {
         Ok(Size::Weight(left + right))
     }
@@ -172,7 +176,7 @@ fn right_size(terms: &RenamedApart, there: Part, subst: &Subst) -> Option<u32>
 
 /// Whether the pair's two small sides are equal; else their weight.
 fn same_or(
-    space: &mut Judging,
+    built: &mut Built,
     terms: &RenamedApart,
     there: Part,
     subst: &Subst,
@@ -181,11 +185,11 @@ fn same_or(
     requires part { IsPart terms.now.outer_from there }
     ensures { IfOk result (IsSameOr (apply (image subst.now) terms.now.outer_to) (apply (image subst.now) (put terms.now.outer_from there.place terms.now.inner_to)) weight) }
 {
-    if !fill_instance(&mut space.from, &terms.outer_to, subst)? {
+    if !fill_instance(&mut built.from, &terms.outer_to, subst)? {
         return Ok(Size::Weight(weight));
     }
     if !fill_put(
-        &mut space.to,
+        &mut built.to,
         &terms.outer_from,
         there,
         &terms.inner_to,
@@ -193,7 +197,7 @@ fn same_or(
     )? {
         return Ok(Size::Weight(weight));
     }
-    if same_nodes(space.from.as_slice(), space.to.as_slice()) {
+    if same_nodes(built.from.as_slice(), built.to.as_slice()) {
         Ok(Size::Same)
     } else {
         Ok(Size::Weight(weight))

@@ -68,15 +68,14 @@ pub fn overlaps_by<O: Order>(
 {
     let mut list = Vec::new(alloc);
     let left = Read::told(outer, Side::Left, a, a_way, order);
-    add_outer(alloc, space, &mut list, &left, inner, b, b_way, order)?;
+    add_outer(space, &mut list, &left, inner, b, b_way, order)?;
     let right = Read::told(outer, Side::Right, a, a_way, order);
-    add_outer(alloc, space, &mut list, &right, inner, b, b_way, order)?;
+    add_outer(space, &mut list, &right, inner, b, b_way, order)?;
     Ok(Seq::from_vec(list))
 }
 
 /// Adds the overlaps of a rule with an inner fact.
 fn add_outer<O: Order>(
-    alloc: Global,
     space: &mut Space,
     list: &mut Vec<Formed>,
     outer: &Read,
@@ -93,14 +92,13 @@ fn add_outer<O: Order>(
         return Ok(());
     }
     let left = Read::told(inner, Side::Left, b, way, order);
-    add_inner(alloc, space, list, outer, &left, order)?;
+    add_inner(space, list, outer, &left, order)?;
     let right = Read::told(inner, Side::Right, b, way, order);
-    add_inner(alloc, space, list, outer, &right, order)
+    add_inner(space, list, outer, &right, order)
 }
 
 /// Adds the overlaps of two rules, of which the outer one leads down somewhere.
 fn add_inner<O: Order>(
-    alloc: Global,
     space: &mut Space,
     list: &mut Vec<Formed>,
     outer: &Read,
@@ -121,15 +119,7 @@ fn add_inner<O: Order>(
     let terms = rename_apart(&mut space.renaming, outer, inner)?;
     let mut next = Some(first);
     while let Some(there) = next {
-        let size = size_at(
-            alloc,
-            &mut space.judging,
-            &terms,
-            outer,
-            inner,
-            there,
-            order,
-        )?;
+        let size = size_at(&mut space.judging, &terms, outer, inner, there, order)?;
         add(list, outer, inner, there.place, size)?;
         next = next_fit(outer.from, inner.from, there.place + 1);
     }

@@ -2,7 +2,7 @@
 
 use std::alloc::Global;
 use std::marker::Model;
-use uc_term::Node;
+use uc_term::{Node, Subst};
 use uc_unify::Workspace;
 
 /// The memory in which overlaps are judged, lent from one call to the next. What stands in it between calls is arbitrary.
@@ -29,7 +29,15 @@ pub(crate) struct Renaming {
 pub(crate) struct Judging {
     /// What a unification works in.
     pub(crate) unifying: Workspace,
-    /// The instances of the two sides of a rule, or the two sides of a pair.
+    /// The unifier.
+    pub(crate) unifier: Subst,
+    /// What is built by it.
+    pub(crate) built: Built,
+}
+
+/// Where the instances of the two sides of a rule are built, or the two sides of a pair.
+#[derive(Drop)]
+pub(crate) struct Built {
     pub(crate) from: Vec<Node>,
     pub(crate) to: Vec<Node>,
 }
@@ -47,8 +55,11 @@ impl Space {
             renaming: Renaming::new(alloc),
             judging: Judging {
                 unifying: Workspace::new(alloc),
-                from: Vec::new(alloc),
-                to: Vec::new(alloc),
+                unifier: Subst::new(alloc),
+                built: Built {
+                    from: Vec::new(alloc),
+                    to: Vec::new(alloc),
+                },
             },
         }
     }
